@@ -1,3 +1,4 @@
+pub mod Common
 pub mod Orders
 pub mod QueueAndOthers
 pub mod Timers

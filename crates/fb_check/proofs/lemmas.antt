@@ -1,3 +1,4 @@
+pub mod Common
 pub mod networks
 pub mod types
 pub mod AcceptedInputs

@@ -1,3 +1,4 @@
+pub mod Common
 pub mod documents
 pub mod pairs
 pub mod patterns

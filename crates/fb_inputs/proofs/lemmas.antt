@@ -1,3 +1,4 @@
+pub mod Common
 pub mod deployments
 pub mod positions
 pub mod stimuli

@@ -1,3 +1,4 @@
+pub mod Common
 pub mod words
 pub mod lines
 pub mod results

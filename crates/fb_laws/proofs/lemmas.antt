@@ -1,3 +1,4 @@
+pub mod Common
 pub mod existence
 pub mod lists
 pub mod machine

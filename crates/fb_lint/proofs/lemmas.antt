@@ -1,3 +1,4 @@
+pub mod Common
 pub mod WarningLists
 pub mod Edges
 pub mod ReachedStates

@@ -1,3 +1,4 @@
+pub mod Common
 pub mod blocks
 pub mod emitting
 pub mod opening

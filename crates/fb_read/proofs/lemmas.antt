@@ -1,3 +1,4 @@
+pub mod Common
 pub mod declarations
 pub mod expressions
 pub mod lookahead

@@ -1,3 +1,4 @@
+pub mod Common
 pub mod rounds
 pub mod runs
 pub mod text

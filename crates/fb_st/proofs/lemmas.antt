@@ -1,3 +1,4 @@
+pub mod Common
 pub mod Arguments
 pub mod Divided
 pub mod Knowing

@@ -1,3 +1,4 @@
+pub mod Common
 pub mod inputs
 pub mod lists
 pub mod networks

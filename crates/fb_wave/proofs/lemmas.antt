@@ -1,3 +1,4 @@
+pub mod Common
 pub mod Handing
 pub mod Known
 pub mod Heading

@@ -1,3 +1,4 @@
+pub mod Common
 pub mod bounds
 pub mod lines
 pub mod messages

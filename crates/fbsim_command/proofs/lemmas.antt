@@ -1,3 +1,4 @@
+pub mod Common
 pub mod calls
 pub mod files
 pub mod notes

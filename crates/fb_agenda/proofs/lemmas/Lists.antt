@@ -1,24 +1,14 @@
 -- Lists of events under their keys: what is found in two of them, which comes first, and how they change.
-use Rattle.std.proofs.Common.{◌≡◌, ℕ, zero, suc, ◌<◌, ◌≤◌, Bool, true, false, cond, List, [], ◌∷◌, ◌++◌, length, get_or, set, refl, sym, ap, subst, ◌∙◌, Option, Some, None, Result, Ok, Err, Bor, arith}
-use Rattle.std.specs.Prelude.{IsSome, IfSome, IfNone, OnOk, OnErr, is_some, option_to_list}
-use Rattle.std.specs.Bool.{OnFalse, OnTrue}
-use Rattle.std.specs.List.{remove}
-use Rattle.std.specs.List.Sorted.{IsBinarySearchResult, IsSearchInRange, IsStrictlySortedBy}
+use Rattle.fb_agenda.proofs.lemmas.Common.{◌≡◌, ℕ, zero, suc, ◌<◌, ◌≤◌, Bool, true, false, cond, List, [], ◌∷◌, ◌++◌, length, get_or, refl, sym, ap, subst, ◌∙◌, Option, Some, None, Result, Ok, Err, arith, IsSome, IfSome, IfNone, OnOk, OnErr, is_some, OnTrue, lookup, insert_entry, is_eq, is_lt, Less, Equal, Greater, Precedes, key_cmp, or_else, same_key, Key, remove, IsStrictlySortedBy, AreRising, IsFirst, BeginsAt, IsPopped, Sets, IsPast, Moment, Event}
+use Rattle.fb_types.proofs.Common.{set, Bor, OnFalse, Ordering}
+use Rattle.std.specs.Prelude.{option_to_list}
+use Rattle.std.specs.List.Sorted.{IsBinarySearchResult, IsSearchInRange}
 use Rattle.std.specs.Result.{result_ok}
-use Rattle.std.specs.Map.{keys_of, lookup}
-use Rattle.std.specs.BTreeMap.{insert_entry}
-use Rattle.std.specs.Ordering.{is_eq, is_gt, is_lt}
-use Rattle.std.specs.declared.cmp.Ordering.{Ordering}
-use Rattle.std.specs.declared.cmp.Ordering.TheVariants.{Less, Equal, Greater}
+use Rattle.std.specs.Map.{keys_of}
+use Rattle.std.specs.Ordering.{is_gt}
 use Rattle.std.proofs.lemmas.Map.Keys.{sorted_tail}
-use Rattle.fb_types.specs.Keys.{Precedes, key_cmp, or_else, same_key}
-use Rattle.fb_types.specs.declared.key.Key.{Key}
 use Rattle.fb_types.proofs.lemmas.events.KeyLaws.{before_least, earlier_precedes, key_cmp_total, same_key_is, same_key_itself}
-use Rattle.fb_agenda.specs.Agendas.{AreRising, IsFirst}
-use Rattle.fb_agenda.specs.Lists.{AreSplit, BeginsAt, IsIndexOf, IsPopped, Leads, Sets}
-use Rattle.fb_agenda.specs.Moments.{IsPast}
-use Rattle.fb_agenda.specs.declared.moment.Moment.{Moment}
-use Rattle.fb_types.specs.declared.run.Event.{Event}
+use Rattle.fb_agenda.specs.Lists.{AreSplit, IsIndexOf, Leads}
 use Rattle.fb_types.proofs.lemmas.lists.Lookups.{or_else_none}
 use Rattle.fb_agenda.proofs.lemmas.Moments.{either_tick, precedes_resource}
 use Rattle.fb_agenda.proofs.lemmas.Orders.{AllAfter, AllBefore, Rise, absent, after_at, all_later, before_both, either_some, first_is, first_some, follows, found_after, not_none, precedes, precedes_tick, put_over, rise_after, searchable, without_first}

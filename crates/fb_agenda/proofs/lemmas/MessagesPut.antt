@@ -1,20 +1,11 @@
 -- Messages that are put among the events of an agenda.
-use Rattle.std.proofs.Common.{◌≡◌, ℕ, suc, ◌+◌, ◌<◌, Bool, true, false, cond, List, [], ◌∷◌, ◌++◌, length, get_or, take, drop, map, refl, sym, ap, subst, ◌∙◌, Option, Some, None, Result, Ok, Err, arith}
-use Rattle.std.specs.Prelude.{IsSome, OnOk, OnErr, is_some}
-use Rattle.std.specs.Map.{lookup}
+use Rattle.fb_agenda.proofs.lemmas.Common.{◌≡◌, ℕ, suc, ◌<◌, Bool, true, false, cond, List, [], ◌∷◌, ◌++◌, length, get_or, take, map, refl, sym, ap, subst, ◌∙◌, Option, Some, None, Result, Ok, Err, arith, IsSome, OnOk, OnErr, is_some, lookup, map-append, or_else, same_key, Key, Contents, AreApart, waiting, HasKeys, KeepsOthers, LacksKeys, arrival_at, arrivals_at, Event, Sets}
+use Rattle.fb_types.proofs.Common.{◌+◌, drop, take-append-drop, All-head, All-tail, found, Message}
 use Rattle.std.proofs.Math.Seq.{take-suc}
-use Rattle.std.proofs.lemmas.List.{map-append, take-append-drop}
-use Rattle.std.proofs.lemmas.List.Elements.{All-head, All-tail}
-use Rattle.fb_types.specs.Keys.{found, or_else, same_key}
-use Rattle.fb_types.specs.declared.key.Key.{Key}
-use Rattle.fb_types.specs.declared.run.Message.{Message}
 use Rattle.fb_types.proofs.lemmas.events.KeyLaws.{same_key_is, same_key_itself}
 use Rattle.fb_types.proofs.lemmas.lists.Lookups.{found-append, none_since, or_else_nones, or_else_parts}
 use Rattle.fb_types.proofs.lemmas.lists.TakeLaws.{found-put}
-use Rattle.fb_agenda.specs.Agendas.{Contents, AreApart, waiting}
-use Rattle.fb_agenda.specs.Arrivals.{AreNew, HasKeys, KeepsOthers, LacksKeys, arrival_at, arrivals_at}
-use Rattle.fb_types.specs.declared.run.Event.{Event}
-use Rattle.fb_agenda.specs.Lists.{Sets}
+use Rattle.fb_agenda.specs.Arrivals.{AreNew}
 use Rattle.fb_agenda.proofs.lemmas.QueueAndOthers.{queue_class}
 use Rattle.fb_agenda.proofs.lemmas.Orders.{either_some, first_some, not_none}
 

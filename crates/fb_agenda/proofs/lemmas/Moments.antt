@@ -1,20 +1,10 @@
 -- The tick and the resource of keys, and where events wait by these.
-use Rattle.std.proofs.Common.{◌≡◌, ltb, ℕ, zero, suc, ◌<◌, ◌≤◌, Bool, true, false, cond, List, refl, sym, ap, subst, ◌∙◌, Option, Some, None, arith}
-use Rattle.std.specs.Prelude.{IfSome, IfNone}
-use Rattle.std.specs.Bool.{OnFalse, OnTrue}
-use Rattle.std.specs.Map.{lookup}
-use Rattle.std.specs.Ordering.{nat_cmp, ordering_then}
-use Rattle.std.specs.declared.cmp.Ordering.TheVariants.{Less}
-use Rattle.std.proofs.lemmas.Bool.{OnFalse_from, OnTrue_from, lt-ltb, ltb-false, ltb-true}
-use Rattle.fb_types.specs.Keys.{Precedes, same_key}
-use Rattle.fb_types.specs.declared.key.Key.{Key}
-use Rattle.fb_types.specs.declared.run.Event.{Event}
+use Rattle.fb_agenda.proofs.lemmas.Common.{◌≡◌, ℕ, zero, suc, ◌<◌, ◌≤◌, Bool, true, false, cond, List, refl, sym, ap, subst, ◌∙◌, Option, Some, None, arith, IfSome, IfNone, OnTrue, lookup, Less, Precedes, same_key, Key, Event, IsFirst, Sets, IsPast, Moment}
+use Rattle.fb_types.proofs.Common.{ltb, OnFalse, nat_cmp, ordering_then, lt-ltb, ltb-false, ltb-true}
+use Rattle.std.proofs.lemmas.Bool.{OnFalse_from, OnTrue_from}
 use Rattle.fb_types.proofs.lemmas.events.KeyLaws.{earlier_precedes, key_cmp_total, same_key_is}
 use Rattle.fb_types.proofs.lemmas.lists.Lookups.{cmp_equal}
-use Rattle.fb_agenda.specs.Agendas.{IsFirst}
-use Rattle.fb_agenda.specs.Lists.{Sets}
-use Rattle.fb_agenda.specs.Moments.{IsNoLater, IsPast, IsQuiet, IsSooner}
-use Rattle.fb_agenda.specs.declared.moment.Moment.{Moment}
+use Rattle.fb_agenda.specs.Moments.{IsNoLater, IsQuiet, IsSooner}
 use Rattle.fb_agenda.proofs.lemmas.Orders.{not_below, not_itself}
 
 -- ---- The order of keys by tick and resource

@@ -1,13 +1,6 @@
 -- An agenda on which no event waits up to a moment.
-use Rattle.std.proofs.Common.{◌≡◌, Bool, true, false, List, [], refl, sym, ap, subst, ◌∙◌, None, arith}
-use Rattle.std.specs.Bool.{OnTrue}
-use Rattle.std.specs.Map.{lookup}
-use Rattle.fb_types.specs.Keys.{Precedes, or_else, same_key}
-use Rattle.fb_types.specs.declared.key.Key.{Key}
-use Rattle.fb_types.specs.declared.run.Event.{Event}
-use Rattle.fb_agenda.specs.Agendas.{Contents, IsClear, waiting}
-use Rattle.fb_agenda.specs.Moments.{IsPast}
-use Rattle.fb_agenda.specs.declared.moment.Moment.{Moment}
+use Rattle.fb_agenda.proofs.lemmas.Common.{◌≡◌, Bool, true, false, List, [], refl, sym, ap, subst, ◌∙◌, None, arith, OnTrue, lookup, Precedes, or_else, same_key, Key, Event, Contents, waiting, IsPast, Moment}
+use Rattle.fb_agenda.specs.Agendas.{IsClear}
 use Rattle.fb_agenda.proofs.lemmas.Orders.{precedes_tick}
 use Rattle.fb_agenda.proofs.lemmas.Moments.{either_tick, precedes_resource}
 

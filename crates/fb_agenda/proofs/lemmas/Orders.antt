@@ -1,20 +1,12 @@
 -- Lists of events whose keys rise.
-use Rattle.std.proofs.Common.{◌≡◌, ℕ, zero, suc, ◌<◌, ◌≤◌, Bool, true, false, cond, List, [], ◌∷◌, ◌++◌, length, get_or, set, refl, sym, ap, subst, ◌∙◌, Option, Some, None, arith}
-use Rattle.std.specs.Prelude.{IsSome, is_some}
-use Rattle.std.specs.List.{AllByRecursion, insert}
-use Rattle.std.specs.List.Sorted.{IsStrictlySortedBy}
-use Rattle.std.specs.Map.{keys_of, lookup}
-use Rattle.std.specs.BTreeMap.{insert_entry}
-use Rattle.std.specs.Ordering.{match_ordering, ordering_index, ordering_reverse, is_eq, is_lt, is_some_and, nat_cmp, partial_ordering_then}
+use Rattle.fb_agenda.proofs.lemmas.Common.{◌≡◌, ℕ, zero, suc, ◌<◌, ◌≤◌, Bool, true, false, cond, List, [], ◌∷◌, ◌++◌, length, get_or, refl, sym, ap, subst, ◌∙◌, Option, Some, None, arith, IsSome, is_some, lookup, insert_entry, is_eq, is_lt, Less, Equal, Greater, Precedes, key_cmp, same_key, or_else, Key, AllByRecursion, IsStrictlySortedBy, Event, AreRising, IsFirst}
+use Rattle.fb_types.proofs.Common.{set, nat_cmp, Ordering}
+use Rattle.std.specs.List.{insert}
+use Rattle.std.specs.Map.{keys_of}
+use Rattle.std.specs.Ordering.{match_ordering, ordering_index, ordering_reverse, is_some_and, partial_ordering_then}
 use Rattle.std.specs.Cmp.{Some-then}
-use Rattle.std.specs.declared.cmp.Ordering.{Ordering}
-use Rattle.std.specs.declared.cmp.Ordering.TheVariants.{Less, Equal, Greater}
 use Rattle.std.proofs.lemmas.Cmp.{alike_right, eq_by_cmp_equiv, tied_back}
-use Rattle.fb_types.specs.Keys.{Precedes, key_cmp, same_key, or_else}
-use Rattle.fb_types.specs.declared.key.Key.{Key}
-use Rattle.fb_types.specs.declared.run.Event.{Event}
 use Rattle.fb_types.proofs.lemmas.events.KeyLaws.{earlier_precedes, key_cmp_total, same_key_from, same_key_is, same_key_itself}
-use Rattle.fb_agenda.specs.Agendas.{AreRising, IsFirst}
 
 pub follows : (j k : Key) → Precedes j k → key_cmp k j ≡ Greater
 follows j k before = key_cmp_total.antisymm k j ∙ ap ordering_reverse before

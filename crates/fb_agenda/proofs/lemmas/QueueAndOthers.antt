@@ -1,18 +1,10 @@
 -- The events of an agenda: the queue of the running tick and all others.
-use Rattle.std.proofs.Common.{◌≡◌, ◌≢◌, Bool, true, false, cond, ◌<◌, ◌≤◌, zero, suc, min, List, [], ◌++◌, arith, refl, sym, ap, subst, ◌∙◌, Option, Some, None, Result, Ok, Err, ◌⊎◌, inl, inr}
-use Rattle.std.specs.Prelude.{IsSome, IfSome, IfNone, OnOk, OnErr, is_some, ℕ}
-use Rattle.std.specs.Bool.{OnFalse, OnTrue}
-use Rattle.std.specs.List.Sorted.{IsStrictlySortedBy}
-use Rattle.std.specs.Map.{lookup}
-use Rattle.std.specs.Ordering.{is_lt}
-use Rattle.fb_types.specs.Keys.{Precedes, key_cmp, or_else, same_key}
-use Rattle.fb_types.specs.declared.key.Key.{Key}
+use Rattle.fb_agenda.proofs.lemmas.Common.{◌≡◌, Bool, true, false, cond, ◌<◌, ◌≤◌, zero, suc, List, [], ◌++◌, arith, refl, sym, ap, subst, ◌∙◌, Option, Some, None, Result, Ok, Err, IsSome, IfSome, IfNone, OnOk, OnErr, is_some, ℕ, OnTrue, lookup, is_lt, Precedes, key_cmp, or_else, same_key, Key, IsStrictlySortedBy, AreApart, AreRising, Contents, IsFirst, IsPut, IsQueue, waiting, Pending, BeginsAt, IsPopped, Sets, Event}
+use Rattle.fb_types.proofs.Common.{◌≢◌, min, ◌⊎◌, inl, inr, OnFalse}
 use Rattle.fb_types.proofs.lemmas.events.KeyLaws.{earlier_precedes, same_key_is}
 use Rattle.fb_types.proofs.lemmas.lists.Lookups.{or_else_none}
-use Rattle.fb_agenda.specs.Agendas.{AreApart, AreRising, Contents, IsFirst, IsLeast, IsNext, IsPut, IsQueue, waiting}
-use Rattle.fb_agenda.specs.Laters.{Pending}
-use Rattle.fb_agenda.specs.Lists.{AreSplit, BeginsAt, IsPopped, Sets}
-use Rattle.fb_types.specs.declared.run.Event.{Event}
+use Rattle.fb_agenda.specs.Agendas.{IsLeast, IsNext}
+use Rattle.fb_agenda.specs.Lists.{AreSplit}
 use Rattle.fb_agenda.specs.LeastEvents.{taken}
 use Rattle.fb_agenda.specs.declared.least.Least.{Least}
 use Rattle.fb_agenda.proofs.lemmas.Lists.{few_is_first, leads_less, leads_not_less, lookup_both, many_is_first, none_below}

@@ -1,22 +1,12 @@
 -- The queue of the running tick, as local events with the targets that it has.
-use Rattle.std.proofs.Common.{◌≡◌, ℕ, zero, suc, ◌<◌, Bool, true, false, cond, eqb, List, [], ◌∷◌, ◌++◌, length, get_or, refl, sym, ap, subst, ◌∙◌, Option, Some, None, Result, Ok, Err, arith}
-use Rattle.std.specs.Prelude.{IsSome, OnErr, OnOk, OnSome, map, option_map}
-use Rattle.std.specs.Bool.{OnTrue}
-use Rattle.std.proofs.lemmas.Bool.{eqb-true}
-use Rattle.std.specs.BTreeMap.{insert_entry}
-use Rattle.std.specs.List.{AllByRecursion, remove}
-use Rattle.std.specs.List.Sorted.{IsStrictlySortedBy}
-use Rattle.std.specs.Map.{keys_of, lookup}
-use Rattle.std.specs.Ordering.{nat_cmp, ordering_then}
-use Rattle.std.proofs.lemmas.List.{get_or-map, get_or_default, length-map, map-append, nil_from_length}
-use Rattle.fb_types.specs.Keys.{Precedes, key_cmp, local_key, same_key}
-use Rattle.fb_types.specs.declared.key.Key.{Key}
-use Rattle.fb_types.specs.declared.run.Event.{Event}
+use Rattle.fb_agenda.proofs.lemmas.Common.{◌≡◌, ℕ, zero, suc, ◌<◌, Bool, true, false, cond, List, [], ◌∷◌, ◌++◌, length, get_or, refl, sym, ap, subst, ◌∙◌, Option, Some, None, Result, Ok, Err, arith, IsSome, OnErr, OnOk, map, OnTrue, insert_entry, lookup, map-append, nil_from_length, Precedes, key_cmp, local_key, same_key, Key, Target, AllByRecursion, remove, IsStrictlySortedBy, Event, AreApart, AreRising, Contents, IsFirst, IsQueue, keyed, local_events, waiting, IsPopped, Sets}
+use Rattle.fb_types.proofs.Common.{eqb, option_map, eqb-true, nat_cmp, ordering_then, get_or-map, get_or_default, length-map}
+use Rattle.std.specs.Prelude.{OnSome}
+use Rattle.std.specs.Map.{keys_of}
 use Rattle.fb_types.specs.declared.run.Event.TheVariants.{Local}
-use Rattle.fb_types.specs.declared.run.Target.{Target}
 use Rattle.fb_types.proofs.lemmas.lists.Lookups.{cmp_equal}
-use Rattle.fb_agenda.specs.Agendas.{AreApart, AreRising, Contents, IsAt, IsFirst, IsQueue, MayFollow, event_of, keyed, local_events, waiting}
-use Rattle.fb_agenda.specs.Lists.{IsIndexOf, IsPopped, Sets}
+use Rattle.fb_agenda.specs.Agendas.{IsAt, MayFollow, event_of}
+use Rattle.fb_agenda.specs.Lists.{IsIndexOf}
 use Rattle.fb_agenda.specs.Moments.{IsMomentOf}
 use Rattle.fb_agenda.proofs.lemmas.QueueAndOthers.{queue_apart, queue_class, queue_less, queue_more, queue_waits}
 use Rattle.fb_agenda.proofs.lemmas.Moments.{number_less}

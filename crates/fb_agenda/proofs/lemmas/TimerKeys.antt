@@ -1,21 +1,10 @@
 -- Timers, as events under their keys.
-use Rattle.std.proofs.Common.{◌≡◌, ℕ, zero, suc, ◌<◌, ◌≤◌, Bool, true, false, cond, List, [], ◌∷◌, ◌++◌, length, get_or, set, refl, sym, ap, subst, ◌∙◌, Option, Some, None, arith}
-use Rattle.std.specs.Prelude.{IsSome, option_map, option_to_list}
-use Rattle.std.specs.List.{insert, remove}
-use Rattle.std.specs.Map.{lookup}
-use Rattle.std.specs.BTreeMap.{insert_entry}
-use Rattle.std.specs.Ordering.{is_eq, ordering_index}
-use Rattle.std.specs.declared.cmp.Ordering.TheVariants.{Less, Equal, Greater}
-use Rattle.std.proofs.lemmas.List.{get_or-map, length-map, map-append}
-use Rattle.fb_types.specs.Keys.{Precedes, key_cmp, same_key, timer_key}
-use Rattle.fb_types.specs.declared.key.Key.{Key}
-use Rattle.fb_types.specs.declared.run.Event.{Event}
-use Rattle.fb_types.specs.declared.run.Event.TheVariants.{Timer}
+use Rattle.fb_agenda.proofs.lemmas.Common.{◌≡◌, ℕ, zero, suc, ◌<◌, ◌≤◌, Bool, true, false, cond, List, [], ◌∷◌, ◌++◌, length, get_or, refl, sym, ap, subst, ◌∙◌, Option, Some, None, arith, IsSome, lookup, insert_entry, is_eq, Less, Equal, Greater, map-append, Precedes, key_cmp, same_key, timer_key, Key, Timer, remove, Event, AreRising, IsFirst, Sets, timer_event, timer_events, Timed}
+use Rattle.fb_types.proofs.Common.{set, option_map, get_or-map, length-map}
+use Rattle.std.specs.Prelude.{option_to_list}
+use Rattle.std.specs.List.{insert}
+use Rattle.std.specs.Ordering.{ordering_index}
 use Rattle.fb_types.proofs.lemmas.events.KeyLaws.{same_key_is}
-use Rattle.fb_agenda.specs.Agendas.{AreRising, IsFirst}
-use Rattle.fb_agenda.specs.Lists.{Sets}
-use Rattle.fb_agenda.specs.Timing.{timer_event, timer_events}
-use Rattle.fb_agenda.specs.declared.timer_row.Timed.{Timed}
 use Rattle.fb_agenda.proofs.lemmas.Orders.{first_is, AllBefore, all_before, put_between, put_last, put_over, searchable}
 use Rattle.fb_agenda.proofs.lemmas.Lists.{absent_before, absent_between, index_here, removed_rises, removed_sets}
 

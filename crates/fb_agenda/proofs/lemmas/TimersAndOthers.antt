@@ -1,17 +1,11 @@
 -- The events outside the queue: timers, and all others.
-use Rattle.std.proofs.Common.{◌||◌, ◌≡◌, ◌≢◌, Bool, true, false, cond, List, ◌++◌, refl, sym, subst, ◌∙◌, Option, Some, None, Result, Ok, Err, ◌⊎◌, inl, inr, ap}
-use Rattle.std.specs.Prelude.{OnOk, OnErr}
-use Rattle.std.specs.Map.{lookup}
-use Rattle.fb_types.specs.Keys.{same_key}
-use Rattle.fb_types.specs.declared.key.Key.{Key}
-use Rattle.fb_types.specs.declared.run.Event.{Event}
+use Rattle.fb_agenda.proofs.lemmas.Common.{◌≡◌, Bool, true, false, cond, List, ◌++◌, refl, sym, subst, ◌∙◌, Option, Some, None, Result, Ok, Err, ap, OnOk, OnErr, lookup, same_key, Key, Event, AreRising, IsPopped, Sets, Moment}
+use Rattle.fb_types.proofs.Common.{◌||◌, ◌≢◌, ◌⊎◌, inl, inr}
 use Rattle.fb_types.proofs.lemmas.events.KeyLaws.{same_key_is}
 use Rattle.fb_types.proofs.lemmas.lists.Lookups.{or_else_nones}
-use Rattle.fb_agenda.specs.Agendas.{AreRising}
 use Rattle.fb_agenda.specs.Laters.{AreKept}
-use Rattle.fb_agenda.specs.Lists.{IsPopped, Leads, Sets}
+use Rattle.fb_agenda.specs.Lists.{Leads}
 use Rattle.fb_agenda.specs.Moments.{IsNoLater, IsQuiet}
-use Rattle.fb_agenda.specs.declared.moment.Moment.{Moment}
 use Rattle.fb_agenda.proofs.lemmas.Lists.{few_popped_split, few_sets, few_split, lookup_both, many_popped_split, many_sets, many_split, popped_few, popped_many}
 use Rattle.fb_agenda.proofs.lemmas.Moments.{quiet_gone, quiet_less, quiet_popped, quiet_put}
 

@@ -1,25 +1,11 @@
 -- One more element of a loop that fills a set or a map by names.
-use Rattle.std.proofs.Common.{◌≡◌, ℕ, zero, suc, ◌<◌, ◌+◌, Bool, true, false, ◌&&◌, ◌||◌, cond, List, [], ◌∷◌, ◌++◌, length, map, take, get_or, Option, Some, None, Ordering, Bor, refl, sym, ◌∙◌, ap, subst, arith}
-use Rattle.std.specs.Prelude.{option_map, option_and_then, is_some, position, slice_get}
-use Rattle.std.specs.List.{list_any}
-use Rattle.std.specs.Ordering.{is_eq, ordering_then}
+use Rattle.fb_types.proofs.Common.{◌≡◌, ℕ, zero, suc, ◌<◌, ◌+◌, Bool, true, false, ◌&&◌, ◌||◌, cond, List, [], ◌∷◌, ◌++◌, length, map, take, get_or, Option, Some, None, Bor, refl, sym, ◌∙◌, ap, subst, arith, option_map, option_and_then, is_some, position, slice_get, list_any, is_eq, ordering_then, lookup, true≢false, length-map, length-take-le, map-append, take_more, slice_get-map, Name, same_name, same_port, among, ports_of_event_block, ArePortsOfKinds, kind_index, port_in, EventKind, EventPort, Connection, Ports}
+use Rattle.std.proofs.Common.{Ordering}
 use Rattle.std.specs.declared.cmp.Ordering.TheVariants as order
-use Rattle.std.specs.Map.{lookup}
 use Rattle.std.specs.BTreeMap as tree
 use Rattle.std.specs.BTreeSet as set
-use Rattle.std.proofs.lemmas.Bool.{true≢false}
-use Rattle.std.proofs.lemmas.List.{length-map, length-take-le, map-append, take_more}
 use Rattle.std.proofs.lemmas.List.Folds.{list_any_more}
-use Rattle.std.proofs.lemmas.Option.{slice_get-map}
-use Rattle.fb_types.specs.Names.{Name, same_name, same_port}
 use Rattle.fb_types.specs.NameOrder as names
-use Rattle.fb_types.specs.Blocks.{among, ports_of_event_block}
-use Rattle.fb_types.specs.EventPorts.{ArePortsOfKinds, kind_index}
-use Rattle.fb_types.specs.Flat.{port_in}
-use Rattle.fb_types.specs.declared.event_kind.EventKind.{EventKind}
-use Rattle.fb_types.specs.declared.library.EventPort.{EventPort}
-use Rattle.fb_types.specs.declared.library.Connection.{Connection}
-use Rattle.fb_types.specs.declared.library.Ports.{Ports}
 use Rattle.fb_types.proofs.lemmas.lists.ByIndex.{slice_get-append_here, slice_get-append_left}
 use Rattle.fb_types.proofs.lemmas.lists.LoopSteps.{more_of_part}
 use Rattle.fb_types.proofs.lemmas.lists.Positions.{is_some-position, position-append_old, position-push_new, position_is}

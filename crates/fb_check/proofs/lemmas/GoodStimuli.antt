@@ -1,36 +1,16 @@
 -- What the directory says of a stimulus is whether it is good.
-use Rattle.std.proofs.Common.{◌≡◌, ℕ, Bool, true, false, not, ◌&&◌, cond, List, [], ◌∷◌, map, Option, Some, None, Contains, Bor, refl, sym, ◌∙◌, ap, subst, inl, inr}
-use Rattle.std.specs.Prelude.{◌↔◌, IsTrue, MatchOption, option_map, option_and_then, is_some, position, slice_get}
-use Rattle.std.specs.Bool.{Decides}
-use Rattle.std.specs.BTreeMap.{BTreeMap}
-use Rattle.std.specs.List.{list_all}
-use Rattle.std.proofs.lemmas.Bool.{true≢false, and_parts}
-use Rattle.fb_types.specs.Names.{Name, same_name}
-use Rattle.fb_types.specs.Values.{fits}
-use Rattle.fb_types.specs.Blocks.{Kind, named, ports_of, event_names, variable_names, is_event_input, inputs_with}
-use Rattle.fb_types.specs.Flat.{source_of}
-use Rattle.fb_types.specs.Repeated.{Twice, NameTwice, instance_names}
-use Rattle.fb_types.specs.Unknown.{NameUnknown}
-use Rattle.fb_types.specs.Accepted.{kind_of_stimulus, set_names, is_held, IsGood, BadStimulus}
-use Rattle.fb_types.specs.declared.library.Library.{Library}
-use Rattle.fb_types.specs.declared.library.EventPort.{EventPort}
-use Rattle.fb_types.specs.declared.library.Variable.{Variable}
-use Rattle.fb_types.specs.declared.library.Ports.{Ports}
-use Rattle.fb_types.specs.declared.deploy.Plan.{Plan}
-use Rattle.fb_types.specs.declared.deploy.Stimulus.{Stimulus}
-use Rattle.fb_types.specs.declared.deploy.Setting.{Setting}
+use Rattle.fb_check.proofs.lemmas.Common.{◌≡◌, ℕ, Bool, true, false, not, ◌&&◌, cond, List, [], ◌∷◌, map, Option, Some, None, Contains, Bor, refl, sym, ◌∙◌, ap, subst, inl, inr, ◌↔◌, IsTrue, option_map, option_and_then, is_some, position, slice_get, Decides, list_all, true≢false, and_parts, Name, same_name, fits, Kind, named, ports_of, event_names, variable_names, Twice, NameTwice, instance_names, NameUnknown, Library, EventPort, Variable, Ports, Plan, Stimulus, Setting, IsIndex, index_in, StimulusLocation, IsBadAt, IsFound, TypeInputs}
+use Rattle.fb_types.proofs.Common.{MatchOption, BTreeMap, is_event_input, inputs_with, source_of, IsGood, BadStimulus}
+use Rattle.fb_types.specs.Accepted.{kind_of_stimulus, set_names, is_held}
 use Rattle.fb_types.proofs.lemmas.lists.Positions.{is_some-position, named-position, position_is}
 use Rattle.fb_types.proofs.lemmas.lists.Elements.{Contains-nil, Contains-cons_cases, Contains-here, Contains-there, Contains-map, map-Contains}
 use Rattle.fb_types.proofs.lemmas.names.NameLaws.{same_from_same_name}
-use Rattle.fb_check_names.specs.Indexes.{IsIndex, index_in}
 use Rattle.fb_types.proofs.lemmas.lists.ByIndex.{element_of_index}
 use Rattle.fb_check.specs.declared.location.StimulusFault.{StimulusFault}
 use Rattle.fb_check.specs.declared.location.StimulusFault.TheVariants as fault
-use Rattle.fb_check.specs.declared.location.StimulusLocation.{StimulusLocation}
-use Rattle.fb_check.specs.Stimuli.{Fits, HasNoEvent, IsBad, IsBadAt, IsUnfit}
-use Rattle.fb_check.specs.Directory.{first_of, input_in, input_of, lists, leads_to, ports_at, ports_at_index, is_settable, can_set, CanTake, IsInputs, IsFound, IsDirectory}
+use Rattle.fb_check.specs.Stimuli.{Fits, HasNoEvent, IsBad, IsUnfit}
+use Rattle.fb_check.specs.Directory.{first_of, input_in, input_of, lists, leads_to, ports_at, ports_at_index, is_settable, can_set, CanTake, IsInputs, IsDirectory}
 use Rattle.fb_check.specs.declared.directory_making.Input.{Input}
-use Rattle.fb_check.specs.declared.directory_making.TypeInputs.{TypeInputs}
 use Rattle.fb_check.specs.declared.directory.Directory.{Directory}
 use Rattle.fb_types.proofs.lemmas.lists.Options.{none_from_is_some}
 use Rattle.fb_types.proofs.lemmas.lists.ListTests.{passes_from}

@@ -1,9 +1,5 @@
 -- Whether the stimuli so far have one that is refused.
-use Rattle.std.proofs.Common.{◌≡◌, ℕ, ◌<◌, ◌≤◌, ◌+◌, List, [], ◌∷◌, ◌++◌, length, take, get_or, Contains, sym, ◌∙◌, ap, subst, inl, inr}
-use Rattle.std.proofs.lemmas.List.{take_more, take_all}
-use Rattle.std.proofs.lemmas.List.Elements.{Contains-push_cases}
-use Rattle.fb_types.specs.declared.library.Library.{Library}
-use Rattle.fb_types.specs.declared.deploy.Stimulus.{Stimulus}
+use Rattle.fb_types.proofs.Common.{◌≡◌, ℕ, ◌<◌, ◌≤◌, ◌+◌, List, [], ◌∷◌, ◌++◌, length, take, get_or, Contains, sym, ◌∙◌, ap, subst, inl, inr, take_more, take_all, Contains-push_cases, Library, Stimulus}
 use Rattle.fb_types.proofs.lemmas.lists.Elements.{Contains-nil}
 use Rattle.fb_check.specs.Directory.{CanTake}
 

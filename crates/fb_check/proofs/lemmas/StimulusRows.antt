@@ -1,42 +1,18 @@
 -- Stimuli by number, one after another.
-use Rattle.std.proofs.Common.{◌≡◌, ℕ, ◌<◌, ◌≤◌, ◌+◌, Bool, true, false, not, ◌&&◌, List, [], ◌∷◌, ◌++◌, length, get_or, map, take, Contains, Option, Some, None, Result, Ok, Err, refl, sym, ◌∙◌, ap, subst, ⊎_elim, length-append, arith}
-use Rattle.std.specs.Prelude.{All, if◌then◌else◌, is_some, option_and_then, option_map, position, slice_get, unwrap_or}
-use Rattle.std.specs.List.{list_all}
-use Rattle.std.proofs.lemmas.Bool.{cases_lt}
-use Rattle.std.proofs.lemmas.List.{map-append}
-use Rattle.std.proofs.lemmas.List.Elements.{All-append, All-cons, All-nil, Contains-append_left, Contains-append_right}
-use Rattle.std.proofs.lemmas.Option.{slice_get-map, slice_get_read, slice_get_within, same_Some}
-use Rattle.fb_types.specs.Names.{Name, same_name}
-use Rattle.fb_types.specs.Values.{fits}
-use Rattle.fb_types.specs.Blocks.{event_names, variable_names}
-use Rattle.fb_types.specs.Flat.{instance_in, kind_of_instance}
-use Rattle.fb_types.specs.Repeated.{Twice}
-use Rattle.fb_types.specs.Accepted.{IsGood, kind_of_stimulus, set_names}
-use Rattle.fb_types.specs.Unknown.{event_ins, data_ins}
-use Rattle.fb_types.specs.declared.value.Value.{Value}
-use Rattle.fb_types.specs.declared.deploy.Setting.{Setting}
-use Rattle.fb_types.specs.declared.deploy.Stimulus.{Stimulus}
-use Rattle.fb_types.specs.declared.library.EventPort.{EventPort}
-use Rattle.fb_types.specs.declared.library.Instance.{Instance}
-use Rattle.fb_types.specs.declared.library.Library.{Library}
-use Rattle.fb_types.specs.declared.library.Ports.{Ports}
-use Rattle.fb_types.specs.declared.library.Variable.{Variable}
+use Rattle.fb_check.proofs.lemmas.Common.{◌≡◌, ℕ, ◌<◌, ◌≤◌, ◌+◌, Bool, true, false, not, ◌&&◌, List, [], ◌∷◌, ◌++◌, length, get_or, map, take, Contains, Option, Some, None, Result, refl, sym, ◌∙◌, ap, subst, arith, All, is_some, option_and_then, option_map, position, slice_get, unwrap_or, list_all, map-append, All-append, Contains-append_left, Contains-append_right, slice_get-map, slice_get_read, same_Some, Name, same_name, fits, event_names, variable_names, kind_of_instance, Twice, event_ins, data_ins, Setting, Stimulus, EventPort, Instance, Library, Ports, Variable, InputValue, each_or_none, index_of, index_in, IsFound, slot_of, TypeInputs, IsBadAt, StimulusLocation}
+use Rattle.fb_types.proofs.Common.{Ok, Err, ⊎_elim, length-append, if◌then◌else◌, cases_lt, All-cons, All-nil, slice_get_within, instance_in, IsGood, Value}
+use Rattle.fb_types.specs.Accepted.{kind_of_stimulus, set_names}
 use Rattle.fb_check_names.proofs.lemmas.Each.{each_parts, is_some-each}
 use Rattle.fb_types.proofs.lemmas.lists.Positions.{named-position, position_is}
-use Rattle.fb_check_names.specs.Numbers.{each_or_none, index_of}
 use Rattle.fb_types.proofs.lemmas.lists.ByIndex.{slice_get-push}
 use Rattle.fb_types.proofs.lemmas.lists.Elements.{Contains-here}
-use Rattle.fb_check_names.specs.Indexes.{index_in}
-use Rattle.fb_types.specs.declared.run.InputValue.{InputValue}
 use Rattle.fb_system.specs.declared.rows.StimulusRow.{StimulusRow}
 use Rattle.fb_system.specs.Rows.{IsSet, AreSets, IsRow, AreRows, AreRowsUpTo}
-use Rattle.fb_check.specs.Directory.{IsDirectory, IsFound, IsInputs, IsTaken, has_pair, held_slot, holds, input_in, input_of, is_settable, ports_at, slot_of}
+use Rattle.fb_check.specs.Directory.{IsDirectory, IsInputs, IsTaken, has_pair, held_slot, holds, input_in, input_of, is_settable, ports_at}
 use Rattle.fb_check.specs.declared.directory_making.Input.{Input}
-use Rattle.fb_check.specs.declared.directory_making.TypeInputs.{TypeInputs}
 use Rattle.fb_check.specs.declared.directory.Directory.{Directory}
-use Rattle.fb_check.specs.Stimuli.{AreAllBad, AreAllBadUpTo, IsAdded, IsBadAt, IsRowOr, IsUnfit}
+use Rattle.fb_check.specs.Stimuli.{AreAllBad, AreAllBadUpTo, IsAdded, IsRowOr, IsUnfit}
 use Rattle.fb_check.specs.declared.location.StimulusFault.{StimulusFault}
-use Rattle.fb_check.specs.declared.location.StimulusLocation.{StimulusLocation}
 use Rattle.fb_check_names.proofs.lemmas.Listing.{none_right}
 use Rattle.fb_check.proofs.lemmas.GoodStimuli.{IsFoundAt, Known, all-is, can_take, first_index, found_at, good_from, kind_of_ports, the_ports, unfit}
 use Rattle.fb_check.proofs.lemmas.RefusedStimuli.{HasRefused, refused_more}

@@ -1,14 +1,9 @@
 -- The numbers of the refusals, one after another.
-use Rattle.std.proofs.Common.{◌≡◌, ◌≢◌, ℕ, ◌+◌, ◌<◌, ◌≤◌, Bool, true, false, nat_eq, List, [], ◌∷◌, Result, Ok, Err, Vec, Global, map, refl, sym, ap, ◌∙◌, subst, inl, inr, ⊎_elim, arith}
-use Rattle.std.specs.Prelude.{◌↔◌, IfErr, IfOk, IsTrue}
-use Rattle.std.proofs.lemmas.Bool.{cases_lt, true≢false}
-use Rattle.fb_types.specs.Accepted.{Applies, IsLeastFault, IsAccepted, BadStimulus, OverLimit}
-use Rattle.fb_types.specs.Repeated.{NameTwice}
-use Rattle.fb_types.specs.Unknown.{NameUnknown}
-use Rattle.fb_types.specs.Kinds.{KindWrong}
-use Rattle.fb_types.specs.Joined.{OutOfRange, TwoSources, TooHigh}
-use Rattle.fb_types.specs.Mapped.{NotMapped, NoLink, NoEvent}
-use Rattle.fb_types.specs.Headline.{Inputs}
+use Rattle.fb_types.proofs.Common.{◌≡◌, ◌≢◌, ℕ, ◌+◌, ◌<◌, ◌≤◌, Bool, true, false, nat_eq, List, [], ◌∷◌, Result, Ok, Err, map, refl, sym, ap, ◌∙◌, subst, inl, inr, ⊎_elim, arith, ◌↔◌, IfErr, IfOk, IsTrue, cases_lt, true≢false, BadStimulus, NameTwice, NameUnknown, KindWrong, OutOfRange, TooHigh, NoLink, Inputs, Library, Plan, Stimulus}
+use Rattle.std.proofs.Common.{Vec, Global}
+use Rattle.fb_types.specs.Accepted.{Applies, IsLeastFault, IsAccepted, OverLimit}
+use Rattle.fb_types.specs.Joined.{TwoSources}
+use Rattle.fb_types.specs.Mapped.{NotMapped, NoEvent}
 use Rattle.fb_check_names.proofs.lemmas.twice.Repeating.{none_mapped}
 use Rattle.fb_check.specs.Faults.{number_of}
 use Rattle.fb_check.specs.Refusals.{AreAll, IsCheckEnd, IsRefusal}
@@ -18,9 +13,6 @@ use Rattle.fb_check.specs.declared.location.Location.{Location}
 use Rattle.fb_check.specs.declared.refusal.Refusal.{Refusal}
 use Rattle.fb_check.specs.declared.refusal.CheckEnd.{CheckEnd}
 use Rattle.fb_check.specs.declared.refusal.CheckEnd.TheVariants.{Refused}
-use Rattle.fb_types.specs.declared.library.Library.{Library}
-use Rattle.fb_types.specs.declared.deploy.Plan.{Plan}
-use Rattle.fb_types.specs.declared.deploy.Stimulus.{Stimulus}
 
 -- one of the conditions holds, under its number
 applies_cases :

@@ -1,10 +1,6 @@
 -- Lists of locations, built along a list.
-use Rattle.std.proofs.Common.{◌≡◌, ℕ, zero, suc, ◌+◌, ◌<◌, ◌≤◌, ◌&&◌, Bool, true, false, List, [], ◌∷◌, ◌++◌, drop, get_or, length, map, Some, Contains, Result, Ok, Err, Vec, append_assoc, refl, sym, ◌∙◌, ap, subst, arith}
-use Rattle.std.specs.Prelude.{All, IfOk, slice_get}
-use Rattle.std.specs.List.{list_all}
-use Rattle.std.proofs.lemmas.List.{append-nil, at_drop_all, at_drop_more}
-use Rattle.std.proofs.lemmas.List.Elements.{All-append, All-cons, All-contains, All-nil, Contains-append_left, Contains-append_right}
-use Rattle.std.proofs.lemmas.Option.{same_Some}
+use Rattle.fb_types.proofs.Common.{◌≡◌, ℕ, zero, suc, ◌+◌, ◌<◌, ◌≤◌, ◌&&◌, Bool, true, false, List, [], ◌∷◌, ◌++◌, drop, get_or, length, map, Some, Contains, Result, Ok, Err, append_assoc, refl, sym, ◌∙◌, ap, subst, arith, All, IfOk, slice_get, list_all, append-nil, at_drop_all, at_drop_more, All-append, All-cons, All-contains, All-nil, Contains-append_left, Contains-append_right, same_Some}
+use Rattle.std.proofs.Common.{Vec}
 use Rattle.fb_types.proofs.lemmas.lists.Elements.{Contains-here}
 use Rattle.fb_check_names.specs.Listed.{each_at, each_from, unless}
 

@@ -1,8 +1,6 @@
 -- Flags that are set in addition to others, one after another.
-use Rattle.std.proofs.Common.{◌≡◌, ◌≢◌, ◌<◌, ◌⊎◌, ◌↔◌, ℕ, Bool, true, false, List, [], get_or, length, set, inl, inr, refl, sym, ◌∙◌, ap, subst}
-use Rattle.std.proofs.lemmas.Bool.{cases_eq, cases_lt}
-use Rattle.std.proofs.lemmas.List.{get_or-set_other, get_or-set_same, get_or_past, length-set, set_past}
-use Rattle.std.proofs.lemmas.Option.{unwrap_or-slice_get}
+use Rattle.fb_types.proofs.Common.{◌≡◌, ◌≢◌, ◌<◌, ◌⊎◌, ◌↔◌, ℕ, Bool, true, false, List, [], get_or, length, set, inl, inr, refl, sym, ◌∙◌, ap, subst, cases_eq, cases_lt, get_or-set_other, get_or-set_same, get_or_past, length-set, unwrap_or-slice_get}
+use Rattle.std.proofs.lemmas.List.{set_past}
 use Rattle.fb_coverage.specs.Additions.{AddsFlags}
 use Rattle.fb_coverage.specs.Tables.{is_set, row_of, with_flag}
 use Rattle.fb_coverage.specs.declared.table.Table.{Table}

@@ -1,10 +1,5 @@
 -- Where the event connections of an instance are.
-use Rattle.std.proofs.Common.{◌≡◌, ◌<◌, [], ◌∷◌, length, Option, Some, None, refl, arith}
-use Rattle.std.specs.Prelude.{option_and_then}
-use Rattle.fb_types.specs.Flat.{first_of, inside, instance_at, kind_at, kind_of_instance, network_at, network_of}
-use Rattle.fb_types.specs.Names.{Path}
-use Rattle.fb_types.specs.declared.library.Instance.{Instance}
-use Rattle.fb_types.specs.declared.library.Library.{Library}
+use Rattle.fb_types.proofs.Common.{◌≡◌, ◌<◌, [], ◌∷◌, length, Option, Some, None, refl, arith, option_and_then, first_of, inside, instance_at, kind_at, kind_of_instance, network_at, network_of, Path, Instance, Library}
 use Rattle.fb_wave.specs.Scopes.{own_name}
 
 -- the network inside an instance is that of its type

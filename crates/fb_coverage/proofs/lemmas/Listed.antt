@@ -1,8 +1,5 @@
 -- Texts, rows and counts that grow by one element of a list after another.
-use Rattle.std.proofs.Common.{◌≡◌, ◌<◌, ◌≤◌, ◌+◌, ℕ, List, [], ◌∷◌, ◌++◌, drop, get_or, length, map, take, zero, suc, None, refl, sym, ◌∙◌, ap, append_assoc, append-nil}
-use Rattle.std.specs.Prelude.{OnOk, Result, Ok, Err, if◌then◌else◌, is_ok, slice_get, slice_set, unwrap_or}
-use Rattle.std.proofs.lemmas.List.{at_drop_all, at_drop_more, map-append, take_more}
-use Rattle.std.proofs.lemmas.Option.{get_or_from_slice_get, unwrap_or-slice_get}
+use Rattle.fb_types.proofs.Common.{◌≡◌, ◌<◌, ◌≤◌, ◌+◌, ℕ, List, [], ◌∷◌, ◌++◌, drop, get_or, length, map, take, zero, suc, None, refl, sym, ◌∙◌, ap, append_assoc, append-nil, OnOk, Result, Ok, Err, if◌then◌else◌, is_ok, slice_get, slice_set, unwrap_or, at_drop_all, at_drop_more, map-append, take_more, get_or_from_slice_get, unwrap_or-slice_get}
 use Rattle.fb_types.proofs.lemmas.lists.ByIndex.{element_at}
 use Rattle.fb_coverage.specs.Listed.{listed}
 

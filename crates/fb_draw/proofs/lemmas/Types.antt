@@ -1,12 +1,6 @@
 -- What the names of types represent.
-use Rattle.std.proofs.Common.{◌≡◌, Option, Some, None, refl, ap}
-use Rattle.std.specs.Prelude.{option_map}
-use Rattle.fb_types.specs.Names.{Name}
-use Rattle.fb_types.specs.Blocks.{Kind, Event, named, event_blocks, event_block_named}
+use Rattle.fb_types.proofs.Common.{◌≡◌, Option, Some, None, refl, ap, option_map, Name, Kind, Event, named, event_blocks, event_block_named, kind_of, type_name, EventKind, Library}
 use Rattle.fb_types.specs.Flat as flat
-use Rattle.fb_types.specs.Flat.{kind_of, type_name}
-use Rattle.fb_types.specs.declared.event_kind.EventKind.{EventKind}
-use Rattle.fb_types.specs.declared.library.Library.{Library}
 
 abbrev pub type_from : Library → Name → Option (Name × EventKind) → Option Kind
 type_from lib n o = elim o [ Some e ↦ Some (Event e.1) | None ↦ option_map kind_of (named type_name n lib.blocks) ]

@@ -1,28 +1,8 @@
 -- Actions, put together from their parts.
-use Rattle.std.proofs.Common.{◌≡◌, ℕ, zero, suc, ◌+◌, ◌<◌, ◌≤◌, true, false, cond, List, [], ◌∷◌, ◌++◌, length, get_or, drop, map, Option, Some, None, Result, Ok, Err, OnOk, OnErr, refl, sym, ◌∙◌, ap, subst, arith, add-one, append-nil, append_assoc}
-use Rattle.std.proofs.Math.Path.{fun_ext}
-use Rattle.std.specs.Prelude.{option_map, option_and_then, slice_get, unwrap_or}
+use Rattle.fb_types.proofs.Common.{◌≡◌, ℕ, zero, suc, ◌+◌, ◌<◌, ◌≤◌, true, false, cond, List, [], ◌∷◌, ◌++◌, length, get_or, drop, map, Option, Some, None, Result, Ok, Err, OnOk, OnErr, refl, sym, ◌∙◌, ap, subst, arith, add-one, append-nil, append_assoc, fun_ext, option_map, option_and_then, slice_get, unwrap_or, map-append, length-map, All-push, slice_get-map, slice_get_within, slice_get-get_or, same_Some, Name, same_name, named, bound, outputs_with, types_of, variables_of, Bound, Emission, Point, End, Went, Left, Returned, Stopped, RunsAll, RunsBody, ended, Position, Moving, Halts, Performs, Acts, emitting, at_point, algorithm_of, event_at, emission_of, pair_up, Stmts, no_stmt, body_of, Values, Types, Action, Algorithm, BasicType, EventPort, Variable, Halt, Reason, Ty}
 use Rattle.std.specs.List.{All}
-use Rattle.std.proofs.lemmas.List.{map-append, length-map}
-use Rattle.std.proofs.lemmas.List.Elements.{All-push}
-use Rattle.std.proofs.lemmas.Option.{slice_get-map, slice_get_within, slice_get-get_or, same_Some}
-use Rattle.fb_types.specs.Names.{Name, same_name}
-use Rattle.fb_types.specs.Blocks.{named, bound, outputs_with, types_of, variables_of, Bound, Emission}
-use Rattle.fb_types.specs.Bodies.{Point, End, Went, Left, Returned, Stopped, RunsAll, RunsBody, ended}
-use Rattle.fb_types.specs.Charts.{Position, Moving, Halts, Performs, Acts, emitting, at_point, algorithm_of}
-use Rattle.fb_types.specs.Numbers.{event_at, emission_of, pair_up}
-use Rattle.fb_types.specs.Syntax.{Stmts, no_stmt, body_of}
-use Rattle.fb_types.specs.Values.{Values, Types}
-use Rattle.fb_types.specs.declared.library.Action.{Action}
-use Rattle.fb_types.specs.declared.library.Algorithm.{Algorithm}
-use Rattle.fb_types.specs.declared.library.BasicType.{BasicType}
-use Rattle.fb_types.specs.declared.library.EventPort.{EventPort}
-use Rattle.fb_types.specs.declared.library.Variable.{Variable}
 use Rattle.fb_types.specs.declared.run.Emission as run
-use Rattle.fb_types.specs.declared.run.Halt.{Halt}
 use Rattle.fb_types.specs.declared.run.Halt.TheVariants as halt
-use Rattle.fb_types.specs.declared.value.Reason.{Reason}
-use Rattle.fb_types.specs.declared.value.Ty.{Ty}
 use Rattle.fb_types.specs.declared.value.Ty.TheVariants.{Bool as Boolean}
 use Rattle.fb_types.proofs.lemmas.names.NameLaws.{same_from_same_name}
 use Rattle.fb_st.specs.Frames.{Declared, types_in, values_of}

@@ -1,16 +1,6 @@
 -- Algorithms and guards by their compiled forms.
-use Rattle.std.proofs.Common.{◌≡◌, ℕ, zero, suc, ◌<◌, length, get_or, List, [], ◌∷◌, ◌++◌, ◌⊎◌, inl, inr, map, Option, Some, None, refl, sym, ◌∙◌, ap, subst}
-use Rattle.std.specs.Prelude.{IfSome, slice_get}
+use Rattle.fb_types.proofs.Common.{◌≡◌, ℕ, zero, suc, ◌<◌, length, get_or, List, [], ◌∷◌, ◌++◌, ◌⊎◌, inl, inr, map, Option, Some, None, refl, sym, ◌∙◌, ap, subst, IfSome, slice_get, map-append, slice_get_read, variable_names, expr_of, stmt_of, Algorithm, BasicType, Transition, Variable, Expr}
 use Rattle.std.specs.Borrow.{Bor}
-use Rattle.std.proofs.lemmas.List.{map-append}
-use Rattle.std.proofs.lemmas.Option.{slice_get_read}
-use Rattle.fb_types.specs.Blocks.{variable_names}
-use Rattle.fb_types.specs.Syntax.{expr_of, stmt_of}
-use Rattle.fb_types.specs.declared.library.Algorithm.{Algorithm}
-use Rattle.fb_types.specs.declared.library.BasicType.{BasicType}
-use Rattle.fb_types.specs.declared.library.Transition.{Transition}
-use Rattle.fb_types.specs.declared.library.Variable.{Variable}
-use Rattle.fb_types.specs.declared.text.Expr.{Expr}
 use Rattle.fb_st.specs.Frames.{Declared}
 use Rattle.fb_st.specs.Made.{SaysAll, SaysTruth}
 use Rattle.fb_st.specs.declared.compiled.CompiledStmt.{CompiledStmt}

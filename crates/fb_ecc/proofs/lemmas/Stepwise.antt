@@ -1,15 +1,6 @@
 -- Transitions that are tried one after another, and the actions of a state one by one.
-use Rattle.std.proofs.Common.{◌≡◌, ℕ, zero, suc, ◌+◌, ◌<◌, Bool, true, List, [], ◌∷◌, length, get_or, drop, map, Option, Some, None, Result, refl, sym, ◌∙◌, ap, subst, arith, inl, inr}
-use Rattle.std.specs.Prelude.{slice_get}
-use Rattle.std.proofs.lemmas.List.{length-map}
-use Rattle.std.proofs.lemmas.Option.{slice_get_within, slice_get-get_or, get_or_from_slice_get}
-use Rattle.fb_types.specs.Names.{Name}
-use Rattle.fb_types.specs.Charts.{actions_of, is_true}
-use Rattle.fb_types.specs.Values.{Values}
-use Rattle.fb_types.specs.declared.library.Action.{Action}
-use Rattle.fb_types.specs.declared.library.BasicType.{BasicType}
+use Rattle.fb_types.proofs.Common.{◌≡◌, ℕ, zero, suc, ◌+◌, ◌<◌, Bool, true, List, [], ◌∷◌, length, get_or, drop, map, Option, Some, None, Result, refl, sym, ◌∙◌, ap, subst, arith, inl, inr, slice_get, length-map, slice_get_within, slice_get-get_or, get_or_from_slice_get, Name, actions_of, is_true, Values, Action, BasicType, Reason}
 use Rattle.fb_types.specs.declared.library.State.{State}
-use Rattle.fb_types.specs.declared.value.Reason.{Reason}
 use Rattle.fb_types.proofs.lemmas.lists.ByIndex.{element_at}
 use Rattle.fb_ecc.specs.Actions.{AreActions, IsAction}
 use Rattle.fb_ecc.specs.Indexes.{IsStateOf, state_at}

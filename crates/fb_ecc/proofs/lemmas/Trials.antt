@@ -1,29 +1,12 @@
 -- Transitions that are tried by their indexes.
-use Rattle.std.proofs.Common.{◌≡◌, ℕ, zero, suc, ◌+◌, ◌<◌, Bool, true, false, cond, ◌&&◌, ◌||◌, List, [], ◌∷◌, length, get_or, drop, map, Option, Some, None, Result, Ok, refl, sym, ◌∙◌, ap, subst, arith, add-one}
-use Rattle.std.specs.Prelude.{nat_eq, position, option_map, unwrap_or, slice_get, is_some, if◌then◌else◌, IfSome}
-use Rattle.std.specs.List.{list_all}
-use Rattle.std.proofs.Math.Seq.{drop-cons}
-use Rattle.std.proofs.lemmas.Bool.Decides.{nat_tests}
-use Rattle.std.proofs.lemmas.Bool.{false_from_ne_true, true≢false}
+use Rattle.fb_types.proofs.Common.{◌≡◌, ℕ, zero, suc, ◌+◌, ◌<◌, Bool, true, false, cond, ◌&&◌, ◌||◌, List, [], ◌∷◌, length, get_or, drop, map, Option, Some, None, Result, Ok, refl, sym, ◌∙◌, ap, subst, arith, add-one, nat_eq, position, option_map, unwrap_or, slice_get, is_some, if◌then◌else◌, IfSome, list_all, drop-cons, nat_tests, false_from_ne_true, true≢false, slice_get-get_or, slice_get-map, slice_get_within, slice_get_read, get_or_from_slice_get, Name, same_name, among, state_names, Expr, Steps, Values, Fails, NoneClears, is_true, trial_of, by_condition, event_at, BasicType, EventPort, Transition, Reason}
 use Rattle.std.proofs.lemmas.List.Quantifiers.{position-Some}
-use Rattle.std.proofs.lemmas.Option.{slice_get-get_or, slice_get-map, slice_get_within, slice_get_read, get_or_from_slice_get}
-use Rattle.fb_types.specs.Names.{Name, same_name}
-use Rattle.fb_types.specs.Blocks.{among}
-use Rattle.fb_types.specs.Repeated.{state_names}
 use Rattle.fb_types.specs.declared.library.State.{State}
-use Rattle.fb_types.specs.declared.text.Expr.{Expr}
-use Rattle.fb_types.specs.declared.value.Reason.TheVariants.{Steps}
 use Rattle.fb_types.proofs.lemmas.lists.Positions.{position-first}
 use Rattle.fb_st.proofs.lemmas.Indexes.{position-later}
 use Rattle.fb_ecc.specs.Indexes.{state_at}
-use Rattle.fb_types.specs.Values.{Values}
-use Rattle.fb_types.specs.Charts.{Fails, NoneClears, is_present, is_true, guard_value, trial_of, by_condition}
-use Rattle.fb_types.specs.Numbers.{event_at}
-use Rattle.fb_types.specs.declared.library.BasicType.{BasicType}
-use Rattle.fb_types.specs.declared.library.EventPort.{EventPort}
-use Rattle.fb_types.specs.declared.library.Transition.{Transition}
+use Rattle.fb_types.specs.Charts.{is_present, guard_value}
 use Rattle.fb_types.proofs.lemmas.names.NameLaws.{same_from_same_name}
-use Rattle.fb_types.specs.declared.value.Reason.{Reason}
 use Rattle.fb_ecc.specs.Numbered.{are_waiting, number_in}
 use Rattle.fb_ecc.specs.Sound.{Each, IsSound, AreFirst}
 use Rattle.fb_types.proofs.lemmas.lists.ByIndex.{element_at}

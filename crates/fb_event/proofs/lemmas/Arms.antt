@@ -1,17 +1,7 @@
 -- What a block of each kind does at an event, by what the calls of its arm return.
-use Rattle.std.proofs.Common.{◌≡◌, ℕ, Bool, true, false, List, [], ◌∷◌, map, All, refl, sym, ap, ◌∙◌, subst, arith}
-use Rattle.std.specs.Prelude.{if◌then◌else◌, codes}
-use Rattle.std.proofs.lemmas.List.Elements.{All-cons, All-nil}
-use Rattle.fb_types.specs.Blocks.{ports_of_event_block}
-use Rattle.fb_types.specs.EventBlocks.{Reaction, emits, emits_if, stays}
-use Rattle.fb_types.specs.Names.{Name}
-use Rattle.fb_types.specs.Numbers.{event_at}
-use Rattle.fb_types.specs.Values.{truth}
-use Rattle.fb_types.specs.declared.event_kind.EventKind.{EventKind}
+use Rattle.fb_types.proofs.Common.{◌≡◌, ℕ, Bool, true, false, List, [], ◌∷◌, map, All, refl, sym, ap, ◌∙◌, subst, arith, if◌then◌else◌, codes, All-cons, All-nil, ports_of_event_block, Reaction, Name, event_at, truth, EventKind, TimerAsk, Keep, Value}
+use Rattle.fb_types.specs.EventBlocks.{emits, emits_if, stays}
 use Rattle.fb_types.specs.declared.event_kind.EventKind.TheVariants as kind
-use Rattle.fb_types.specs.declared.run.TimerAsk.{TimerAsk}
-use Rattle.fb_types.specs.declared.run.TimerAsk.TheVariants.{Keep}
-use Rattle.fb_types.specs.declared.value.Value.{Value}
 use Rattle.fb_event.specs.Block.{as_time, input_of, state_of, IsInRange}
 use Rattle.fb_event.specs.Reactions.{IsEventOutput}
 use Rattle.fb_event.specs.Seen.{seen_memory}

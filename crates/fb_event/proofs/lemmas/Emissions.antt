@@ -1,19 +1,7 @@
 -- What emissions by number represent.
-use Rattle.std.proofs.Common.{Bool, true, false, not, Option, IsTrue, ◌≡◌, ℕ, zero, suc, List, [], ◌∷◌, ◌++◌, All, map, length, refl, arith, sym, ap, ◌∙◌}
-use Rattle.std.proofs.lemmas.List.{length-map, map-append}
-use Rattle.std.proofs.lemmas.List.Elements.{All-head, All-map, All-push, All-tail, All-weaker}
-use Rattle.fb_types.specs.Names.{Name}
-use Rattle.fb_types.specs.Values.{Values}
-use Rattle.std.specs.Prelude.{is_some}
-use Rattle.fb_types.specs.Blocks.{ports_of_event_block, variable_names, outputs_with, bound, type_at}
-use Rattle.fb_types.specs.EventBlocks.{Memory, Reaction, output_of}
-use Rattle.fb_types.specs.Numbers.{event_at, emission_of, pair_up}
-use Rattle.fb_types.specs.Reactions.{emissions}
-use Rattle.fb_types.specs.declared.library.Variable.{Variable}
+use Rattle.fb_types.proofs.Common.{Bool, true, false, not, Option, IsTrue, ◌≡◌, ℕ, zero, suc, List, [], ◌∷◌, ◌++◌, All, map, length, refl, arith, sym, ap, ◌∙◌, length-map, map-append, All-head, All-map, All-push, All-tail, All-weaker, Name, Values, is_some, ports_of_event_block, variable_names, outputs_with, bound, type_at, Memory, Reaction, event_at, emission_of, pair_up, emissions, Variable, Ty, EventKind, SetReset, DataLatch, CountUp}
+use Rattle.fb_types.specs.EventBlocks.{output_of}
 use Rattle.fb_types.specs.declared.run.Emission as run
-use Rattle.fb_types.specs.declared.value.Ty.{Ty}
-use Rattle.fb_types.specs.declared.event_kind.EventKind.{EventKind}
-use Rattle.fb_types.specs.declared.event_kind.EventKind.TheVariants.{SetReset, DataLatch, CountUp}
 use Rattle.fb_event.specs.Block.{state_of, values_of, values_in, values_if_any, IsInRange}
 use Rattle.fb_event.specs.Emissions.{emission_at, emitted_by}
 use Rattle.fb_event.specs.Reactions.{EmitsAfter, IsEventOutput, IsWellFormed, emissions_of, meanings}

@@ -1,18 +1,10 @@
 -- What a reaction reads of the data inputs.
-use Rattle.std.proofs.Common.{◌≡◌, ℕ, true, false, cond, List, [], ◌∷◌, refl, arith, IsTrue, ◌^◌, ◌-◌, pos, ℤ, ap, sym, ◌∙◌, subst}
+use Rattle.fb_types.proofs.Common.{◌≡◌, ℕ, true, false, cond, List, [], ◌∷◌, refl, arith, IsTrue, ◌^◌, ◌-◌, pos, ℤ, ap, sym, ◌∙◌, subst, ints, codes, Name, whole, Clear, ports_of_event_block, Memory, Idle, Marks, Flag, Count, Reaction, is, started, event_at, EventKind, Value}
 use Rattle.std.specs.Int.{int_min}
-use Rattle.std.proofs.lemmas.Int.{ints}
-use Rattle.std.specs.Prelude.{codes}
-use Rattle.fb_types.specs.Names.{Name}
-use Rattle.fb_types.specs.Values.{in_range, whole}
-use Rattle.fb_types.specs.declared.run.TimerAsk.TheVariants.{Clear}
+use Rattle.fb_types.specs.Values.{in_range}
 use Rattle.fb_types.specs.declared.value.Ty.TheVariants.{Time}
-use Rattle.fb_types.specs.Blocks.{ports_of_event_block}
-use Rattle.fb_types.specs.EventBlocks.{Memory, Idle, Marks, Flag, Running, Count, Reaction, is, started, ticks, timed}
-use Rattle.fb_types.specs.Numbers.{event_at}
-use Rattle.fb_types.specs.declared.event_kind.EventKind.{EventKind}
+use Rattle.fb_types.specs.EventBlocks.{Running, ticks, timed}
 use Rattle.fb_types.specs.declared.event_kind.EventKind.TheVariants as kind
-use Rattle.fb_types.specs.declared.value.Value.{Value}
 use Rattle.fb_types.specs.declared.value.Value.TheVariants as value
 use Rattle.fb_event.specs.State.{State}
 use Rattle.fb_event.specs.Block.{state, as_time, input_of}

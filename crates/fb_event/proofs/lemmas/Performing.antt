@@ -1,15 +1,9 @@
 -- What single functions of the table return, and what the reaction is there.
-use Rattle.std.proofs.Common.{◌≡◌, ◌≢◌, ◌+◌, ◌≤◌, ℕ, zero, suc, ℤ, pos, negsuc, Bool, true, false, true≢false, List, [], ◌∷◌, length, get_or, refl, sym, ap, ◌∙◌, subst, arith, nat_eq}
+use Rattle.fb_types.proofs.Common.{◌≡◌, ◌≢◌, ◌+◌, ◌≤◌, ℕ, zero, suc, ℤ, pos, negsuc, Bool, true, false, true≢false, List, [], ◌∷◌, length, get_or, refl, sym, ap, ◌∙◌, subst, arith, nat_eq, codes, ◌||◌, if◌then◌else◌, le-ltb, ne_eqb, All-cons, All-nil, Memory, Idle, Reaction, counted, started, whole, At, Clear, Keep, Value}
 use Rattle.std.specs.Int.Signed.{lt_z}
-use Rattle.std.specs.Prelude.{codes, ◌||◌, if◌then◌else◌}
-use Rattle.std.proofs.lemmas.Bool.{le-ltb, ne_eqb}
-use Rattle.std.proofs.lemmas.List.Elements.{All-cons, All-nil}
-use Rattle.fb_types.specs.EventBlocks.{Memory, Idle, Reaction, again, counted, emits, met, natural, started, stays, ticks}
+use Rattle.fb_types.specs.EventBlocks.{again, emits, met, natural, stays, ticks}
 use Rattle.fb_types.specs.EventBlocks as blocks
-use Rattle.fb_types.specs.Values.{whole}
 use Rattle.fb_types.specs.declared.event_kind.EventKind.TheVariants as kind
-use Rattle.fb_types.specs.declared.run.TimerAsk.TheVariants.{At, Clear, Keep}
-use Rattle.fb_types.specs.declared.value.Value.{Value}
 use Rattle.fb_types.specs.declared.value.Value.TheVariants as value
 use Rattle.fb_event.specs.Block.{state_of, IsInRange, IsTimeInRange}
 use Rattle.fb_event.specs.Reactions.{IsEventOutput, PassesTo, expiry_of, first_value}

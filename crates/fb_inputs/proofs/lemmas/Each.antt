@@ -1,10 +1,6 @@
 -- Lists of which each element may fail, read from the front.
-use Rattle.std.proofs.Common.{◌≡◌, ℕ, ◌+◌, ◌<◌, ◌≤◌, Bool, true, false, List, [], ◌∷◌, ◌++◌, length, get_or, drop, Option, Some, None, refl, sym, ap, ◌∙◌, append_assoc, append-nil, arith}
-use Rattle.std.proofs.lemmas.List.{drop_more, length_push}
-use Rattle.std.specs.List.{filter}
-use Rattle.std.specs.Prelude.{Result, Ok, Err}
-use Rattle.fb_inputs.specs.Lists.{all_after, each_at, each_in, placed}
-use Rattle.fb_inputs.specs.Refusals.{and_then, or_refuse}
+use Rattle.fb_inputs.proofs.lemmas.Common.{◌≡◌, ℕ, ◌+◌, ◌<◌, ◌≤◌, Bool, true, false, List, [], ◌∷◌, ◌++◌, length, get_or, drop, Option, Some, None, refl, sym, ap, ◌∙◌, arith, length_push, Result, Ok, Err, all_after, each_at, each_in, placed, and_then, or_refuse}
+use Rattle.fb_types.proofs.Common.{append_assoc, append-nil, drop_more, filter}
 
 -- ---- a loop over the elements, whose rest is known
 

@@ -1,13 +1,7 @@
 -- One more message is dealt, and one more list is sorted.
-use Rattle.std.proofs.Common.{◌≡◌, ◌≢◌, ℕ, ◌+◌, ◌<◌, ◌≤◌, ◌++◌, List, [], ◌∷◌, filter, length, Some, sym, ap, subst, ◌∙◌, append-nil, arith, Vec}
-use Rattle.std.specs.Prelude.{slice_get, slice_set}
-use Rattle.std.specs.declared.alloc.Global.{Global}
-use Rattle.std.proofs.lemmas.Bool.{cond-true, cond-false, eq-eqb, ne_eqb}
-use Rattle.std.proofs.lemmas.Grind.{flat_map-append}
+use Rattle.fb_types.proofs.Common.{◌≡◌, ◌≢◌, ℕ, ◌+◌, ◌<◌, ◌≤◌, ◌++◌, List, [], ◌∷◌, length, Some, sym, ap, subst, ◌∙◌, append-nil, arith, slice_get, slice_set, Global, cond-true, cond-false, eq-eqb, ne_eqb, flat_map-append, slice_get_within, System, Message}
+use Rattle.std.proofs.Common.{filter, Vec}
 use Rattle.std.proofs.lemmas.List.Elements.{filter-append}
-use Rattle.std.proofs.lemmas.Option.{slice_get_within}
-use Rattle.fb_types.specs.Systems.{System}
-use Rattle.fb_types.specs.declared.run.Message.{Message}
 use Rattle.fb_link.specs.Messages.{receiver_of}
 use Rattle.fb_link.specs.Exchanges.{goes_to, all_of, AreDealt, AreFor, AreSorted}
 use Rattle.fb_link.proofs.lemmas.Lists.{set_each}

@@ -1,12 +1,8 @@
 -- The least arrival over the entries so far of a table of latencies.
-use Rattle.std.proofs.Common.{◌≡◌, ℕ, ◌+◌, ◌^◌, ◌<◌, ◌≤◌, min, List, [], length, take, get_or, sym, ◌∙◌, subst, inl, inr, arith}
+use Rattle.fb_types.proofs.Common.{◌≡◌, ℕ, ◌+◌, ◌^◌, ◌<◌, ◌≤◌, min, List, [], length, take, get_or, sym, ◌∙◌, subst, inl, inr, arith, cases_lt, take_all, All-nil, All-weaker, Entry, latency_at}
 use Rattle.std.specs.List.{All}
-use Rattle.std.proofs.lemmas.Bool.{cases_lt}
-use Rattle.std.proofs.lemmas.List.{take_all}
-use Rattle.std.proofs.lemmas.List.Elements.{All-nil, All-more, All-weaker}
-use Rattle.fb_types.specs.declared.latency.Entry.{Entry}
+use Rattle.std.proofs.lemmas.List.Elements.{All-more}
 use Rattle.fb_types.specs.Latencies.{IsLatencyTable}
-use Rattle.fb_types.specs.Flat.{latency_at}
 use Rattle.fb_link.specs.Arrivals.{arrival_at, IsEarliest}
 use Rattle.fb_link.proofs.lemmas.LatencyTables.{NoEarlier, latency_within, latency_index, arrival_least}
 

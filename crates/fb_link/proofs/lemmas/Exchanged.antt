@@ -1,19 +1,12 @@
 -- Messages that were dealt to their receivers and sorted there.
-use Rattle.std.proofs.Common.{◌≡◌, ℕ, Bool, true, false, List, [], ◌∷◌, filter, refl, sym, ap, ◌∙◌, subst, ⊎_elim, IsPermutation}
+use Rattle.fb_types.proofs.Common.{◌≡◌, ℕ, Bool, true, false, List, [], ◌∷◌, refl, sym, ap, ◌∙◌, subst, ⊎_elim, IsPermutation, Ordering, is_lt, nat_cmp, ordering_then, Less, Equal, Greater, eqb-true, eqb-false, All-permutation, key_cmp, same_key, found, Each, System, Key, Message}
+use Rattle.std.proofs.Common.{filter}
 use Rattle.std.specs.Cmp.{IsTotalOrder, nat_cmp_total, on_total}
 use Rattle.std.specs.List.Sorted.{IsSortedByKey, IsStableByKey}
-use Rattle.std.specs.declared.cmp.Ordering.{Ordering}
-use Rattle.std.specs.Ordering.{is_lt, nat_cmp, ordering_then}
-use Rattle.std.specs.declared.cmp.Ordering.TheVariants.{Less, Equal, Greater}
-use Rattle.std.proofs.lemmas.Bool.{eqb-true, eqb-false, cond_both}
+use Rattle.std.proofs.lemmas.Bool.{cond_both}
 use Rattle.std.proofs.lemmas.Cmp.{then_total}
 use Rattle.std.proofs.lemmas.List.Elements.{All-from_recursion, recursion_from_All}
-use Rattle.std.proofs.lemmas.List.Sorted.{ranks_by, All-permutation}
-use Rattle.fb_types.specs.Keys.{key_cmp, same_key, found}
-use Rattle.fb_types.specs.Machines.{Each}
-use Rattle.fb_types.specs.Systems.{System}
-use Rattle.fb_types.specs.declared.key.Key.{Key}
-use Rattle.fb_types.specs.declared.run.Message.{Message}
+use Rattle.std.proofs.lemmas.List.Sorted.{ranks_by}
 use Rattle.fb_types.proofs.lemmas.lists.Lookups.{cmp_equal, same_cases}
 use Rattle.fb_link.specs.Messages.{key_of, receiver_of}
 use Rattle.fb_link.specs.Exchanges.{goes_to, keyed, AreSorted}

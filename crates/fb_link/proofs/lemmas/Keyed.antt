@@ -1,15 +1,9 @@
 -- What lists put under keys, and what stable sorting by keys leaves of that.
-use Rattle.std.proofs.Common.{◌≡◌, ℕ, suc, ◌<◌, ◌≤◌, ◌⊎◌, Bool, true, false, not, ◌&&◌, Option, Some, None, List, [], ◌∷◌, length, map, get_or, filter, refl, sym, ap, ◌∙◌, inl, inr, ⊎_elim, arith}
-use Rattle.std.specs.Prelude.{if◌then◌else◌}
+use Rattle.fb_types.proofs.Common.{◌≡◌, ℕ, suc, ◌<◌, ◌≤◌, ◌⊎◌, Bool, true, false, not, ◌&&◌, Option, Some, None, List, [], ◌∷◌, length, map, get_or, refl, sym, ap, ◌∙◌, inl, inr, ⊎_elim, arith, if◌then◌else◌, is_lt, cond-true, cond-false, tied_itself, key_cmp, Precedes, same_key, or_else, found, Each, Key}
+use Rattle.std.proofs.Common.{filter}
 use Rattle.std.specs.Cmp.{IsStrictWeakOrder}
 use Rattle.std.specs.List.Sorted.{ties, IsSortedBy, IsStableBy}
-use Rattle.std.specs.Ordering.{is_lt}
-use Rattle.std.proofs.lemmas.Bool.{cond-true, cond-false}
-use Rattle.std.proofs.lemmas.Cmp.{tied_itself}
 use Rattle.std.proofs.lemmas.List.Sorted.{sorted_far}
-use Rattle.fb_types.specs.Keys.{key_cmp, Precedes, same_key, or_else, found}
-use Rattle.fb_types.specs.Machines.{Each}
-use Rattle.fb_types.specs.declared.key.Key.{Key}
 use Rattle.fb_types.proofs.lemmas.events.KeyLaws.{key_cmp_total}
 use Rattle.fb_types.proofs.lemmas.lists.Lookups.{or_else_none, same_cases}
 use Rattle.fb_link.specs.Exchanges.{KeysRise}

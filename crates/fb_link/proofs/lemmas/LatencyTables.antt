@@ -1,13 +1,8 @@
 -- Tables of latencies, one entry after another.
-use Rattle.std.proofs.Common.{◌≡◌, ◌⊎◌, ℕ, zero, suc, ◌+◌, ◌^◌, ◌<◌, ◌≤◌, nat_le, true, false, cond, List, [], ◌∷◌, ◌++◌, length, map, take, get_or, Option, Some, None, refl, sym, ◌∙◌, ap, inl, inr, arith}
-use Rattle.std.specs.List.{filter, All, AllPairs}
-use Rattle.std.proofs.lemmas.Bool.{le-leb, lt-leb, cases_lt}
-use Rattle.std.proofs.lemmas.List.{get_or-map, length-map, take_more, take_all}
-use Rattle.std.proofs.lemmas.List.Elements.{All-head, All-tail}
+use Rattle.fb_types.proofs.Common.{◌≡◌, ◌⊎◌, ℕ, zero, suc, ◌+◌, ◌^◌, ◌<◌, ◌≤◌, nat_le, true, false, cond, List, [], ◌∷◌, ◌++◌, length, map, take, get_or, Option, Some, None, refl, sym, ◌∙◌, ap, inl, inr, arith, filter, le-leb, lt-leb, cases_lt, get_or-map, length-map, take_more, take_all, All-head, All-tail, Entry, last_of, latency_at}
+use Rattle.std.specs.List.{All, AllPairs}
 use Rattle.std.proofs.lemmas.List.Kept.{AllPairs-from_increasing}
-use Rattle.fb_types.specs.declared.latency.Entry.{Entry}
 use Rattle.fb_types.specs.Latencies.{IsLatencyTable}
-use Rattle.fb_types.specs.Flat.{last_of, latency_at}
 
 -- the latency at a tick of sending by these entries, where one already holds before them
 abbrev after : ℕ → List Entry → ℕ → ℕ

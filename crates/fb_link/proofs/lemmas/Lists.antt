@@ -1,10 +1,7 @@
 -- Lists by the indexes of their elements.
-use Rattle.std.proofs.Common.{◌≡◌, ◌≢◌, ℕ, ◌<◌, All, List, [], ◌∷◌, ◌++◌, ◌-◌, length, replicate, sym, ap, subst, ◌∙◌, Some, ⊎_elim, get_or, get_or-set_same, get_or-set_other, arith}
-use Rattle.std.specs.Prelude.{slice_get, slice_range, slice_set}
-use Rattle.std.proofs.lemmas.Bool.{cases_eq}
-use Rattle.std.proofs.lemmas.List.{get_or-replicate, length-replicate, length-set, take_all}
-use Rattle.std.proofs.lemmas.List.Elements.{All-head, All-tail}
-use Rattle.std.proofs.lemmas.Option.{slice_get_within, slice_get-get_or, get_or_from_slice_get}
+use Rattle.fb_types.proofs.Common.{◌≡◌, ◌≢◌, ℕ, ◌<◌, All, List, [], ◌∷◌, ◌++◌, ◌-◌, length, replicate, sym, ap, subst, ◌∙◌, Some, ⊎_elim, get_or, get_or-set_same, get_or-set_other, arith, slice_get, slice_set, cases_eq, length-set, take_all, All-head, All-tail, slice_get_within, slice_get-get_or, get_or_from_slice_get}
+use Rattle.std.specs.Prelude.{slice_range}
+use Rattle.std.proofs.lemmas.List.{get_or-replicate, length-replicate}
 
 pub set_here : {A : Type 0} (xs : List A) (i : ℕ) (x y : A) → i < length xs → slice_get (slice_set xs i x) i ≡ Some y → x ≡ y
 set_here xs i x y within read =

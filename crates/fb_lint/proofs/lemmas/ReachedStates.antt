@@ -1,13 +1,6 @@
 -- A search of the states to which edges lead.
-use Rattle.std.proofs.Common.{◌≡◌, ◌+◌, ◌*◌, ◌<◌, length, arith, Bool, true, false, cond, not, List, [], ◌∷◌, ◌++◌, map, Contains, refl, sym, ◌∙◌, ap, subst, inl, inr}
-use Rattle.std.specs.Prelude.{◌⊎◌}
-use Rattle.std.specs.List.{filter}
-use Rattle.std.proofs.lemmas.Bool.{true≢false}
-use Rattle.std.proofs.lemmas.List.{length-append, length-map}
+use Rattle.fb_types.proofs.Common.{◌≡◌, ◌+◌, ◌*◌, ◌<◌, length, arith, Bool, true, false, cond, not, List, [], ◌∷◌, ◌++◌, map, Contains, refl, sym, ◌∙◌, ap, subst, inl, inr, ◌⊎◌, filter, true≢false, length-append, length-map, Contains-append_left, Contains-append_right, Contains-append_cases, Contains-push, Contains-push_cases, among, Name, same_name}
 use Rattle.std.proofs.lemmas.List.Filters.{length-filter_both}
-use Rattle.std.proofs.lemmas.List.Elements.{Contains-append_left, Contains-append_right, Contains-append_cases, Contains-push, Contains-push_cases}
-use Rattle.fb_types.specs.Blocks.{among}
-use Rattle.fb_types.specs.Names.{Name, same_name}
 use Rattle.fb_types.proofs.lemmas.lists.Elements.{Contains-nil, Contains-cons_cases, Contains-here, Contains-there, Contains-map, map-Contains}
 use Rattle.fb_types.proofs.lemmas.names.NameLaws.{same_name-itself, same_from_same_name, contains_from_any, any_from_contains}
 use Rattle.fb_lint.specs.Reached.{Edge, leads, AreReached}

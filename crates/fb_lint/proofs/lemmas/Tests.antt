@@ -1,6 +1,5 @@
 -- Tests of the elements of a list, one after another, until one passes.
-use Rattle.std.proofs.Common.{◌≡◌, ℕ, ◌+◌, ◌<◌, ◌≤◌, ◌||◌, Bool, true, false, List, [], ◌∷◌, drop, get_or, length, sym, ◌∙◌, ap}
-use Rattle.std.proofs.lemmas.List.{at_drop_all, at_drop_more}
+use Rattle.fb_types.proofs.Common.{◌≡◌, ℕ, ◌+◌, ◌<◌, ◌≤◌, ◌||◌, Bool, true, false, List, [], ◌∷◌, drop, get_or, length, sym, ◌∙◌, ap, at_drop_all, at_drop_more}
 
 -- what the rest gives, if the rest begins with an element
 here :

@@ -1,7 +1,5 @@
 -- Lists of warnings that grow by those about one element of a list after another.
-use Rattle.std.proofs.Common.{Result, Ok, Err, ◌≡◌, ℕ, ◌+◌, ◌<◌, ◌≤◌, List, [], ◌∷◌, ◌++◌, drop, get_or, length, map, refl, append_assoc, append-nil, sym, ◌∙◌, ap}
-use Rattle.std.proofs.lemmas.List.{at_drop_all, at_drop_more}
-use Rattle.std.specs.Prelude.{OnOk}
+use Rattle.fb_types.proofs.Common.{Result, Ok, Err, ◌≡◌, ℕ, ◌+◌, ◌<◌, ◌≤◌, List, [], ◌∷◌, ◌++◌, drop, get_or, length, map, refl, append_assoc, append-nil, sym, ◌∙◌, ap, at_drop_all, at_drop_more, OnOk}
 use Rattle.fb_lint.specs.Findings.{each_from}
 
 -- what one element adds

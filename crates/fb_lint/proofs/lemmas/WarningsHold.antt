@@ -1,36 +1,14 @@
 -- Each warning of the list holds at its position.
-use Rattle.std.proofs.Common.{◌≡◌, ℕ, zero, suc, ◌+◌, ◌<◌, Bool, true, false, not, ◌&&◌, if◌then◌else◌, List, [], ◌∷◌, ◌++◌, map, take, Option, Some, None, Contains, refl, sym, ◌∙◌, ap, subst, inl, inr, arith}
-use Rattle.std.specs.Prelude.{slice_get, option_map, option_and_then}
-use Rattle.std.specs.List.{filter, list_any}
-use Rattle.std.proofs.lemmas.Bool.{true≢false}
-use Rattle.std.proofs.lemmas.List.Elements.{Contains-append_cases}
-use Rattle.fb_types.specs.Names.{Name}
-use Rattle.fb_types.specs.Blocks.{ports_of}
-use Rattle.fb_types.specs.declared.deploy.Plan.{Plan}
-use Rattle.fb_types.specs.declared.deploy.Stimulus.{Stimulus}
-use Rattle.fb_types.specs.declared.library.BasicType.{BasicType}
-use Rattle.fb_types.specs.declared.library.BlockType.{BlockType}
-use Rattle.fb_types.specs.declared.library.Library.{Library}
+use Rattle.fb_lint.proofs.lemmas.Common.{◌≡◌, ℕ, ◌+◌, ◌<◌, Bool, true, false, not, List, [], ◌∷◌, ◌++◌, map, take, Contains, refl, sym, ◌∙◌, ap, subst, inl, inr, arith, filter, list_any, true≢false, Name, Algorithm, guard_mentions, when, each_from, Warning}
+use Rattle.fb_types.proofs.Common.{zero, suc, ◌&&◌, if◌then◌else◌, Option, Some, None, slice_get, option_map, option_and_then, Contains-append_cases, ports_of, Plan, Stimulus, BasicType, BlockType, Library, first_of, kind_of, type_name, type_named, CompositeType, Connection, EventPort, Instance, Ports, Variable, OwnedNetwork, body_of, mentions_body}
 use Rattle.fb_types.proofs.lemmas.lists.Elements.{Contains-nil, Contains-cons_cases}
 use Rattle.fb_types.proofs.lemmas.lists.ByIndex.{index_of_element}
 use Rattle.fb_types.proofs.lemmas.lists.ListTests.{passes_somewhere}
-use Rattle.fb_types.specs.Flat.{first_of, kind_of, type_name, type_named}
 use Rattle.fb_types.specs.declared.library.BlockType.TheVariants as block
-use Rattle.fb_types.specs.declared.library.CompositeType.{CompositeType}
-use Rattle.fb_types.specs.declared.library.Connection.{Connection}
-use Rattle.fb_types.specs.declared.library.EventPort.{EventPort}
-use Rattle.fb_types.specs.declared.library.Algorithm.{Algorithm}
-use Rattle.fb_types.specs.declared.library.Instance.{Instance}
-use Rattle.fb_types.specs.declared.library.Ports.{Ports}
 use Rattle.fb_types.specs.declared.library.State.{State}
-use Rattle.fb_types.specs.declared.library.Variable.{Variable}
-use Rattle.fb_types.specs.Repeated.{OwnedNetwork}
-use Rattle.fb_types.specs.Syntax.{body_of}
-use Rattle.fb_types.specs.Unknown.{mentions_body}
 use Rattle.fb_check_names.specs.PortKinds.{names_of_kind}
 use Rattle.fb_check_names.specs.declared.ports.PortKind.{PortKind}
 use Rattle.fb_check_names.specs.declared.ports.PortKind.TheVariants as kind
-use Rattle.fb_check.specs.types.Checks.{guard_mentions}
 use Rattle.fb_check.specs.types.Statements.{Standing, each_in_body}
 use Rattle.fb_check_names.specs.Sites.{network_at, network_inside}
 use Rattle.fb_check_names.specs.declared.location.Site.{Site}
@@ -49,9 +27,7 @@ use Rattle.fb_lint.specs.Reached.{Reached}
 use Rattle.fb_lint.specs.Reads as reads
 use Rattle.fb_lint.specs.Statements as statements
 use Rattle.fb_lint.proofs.lemmas.Edges.{leads-is_reached}
-use Rattle.fb_lint.specs.Findings.{when, each_from}
 use Rattle.fb_lint.specs.Warnings.{readings, of_chart, of_ports, of_statements, of_network, of_composite, of_type, of_block, of_blocks}
-use Rattle.fb_lint.specs.declared.warning.Warning.{Warning}
 use Rattle.fb_lint.specs.declared.warning.Warning.TheVariants.{UnheldConstant, UnreachedInstance, ZeroDivisor}
 
 -- ---- Lists of findings

@@ -1,28 +1,8 @@
 -- Each warning that holds at its position is in the list.
-use Rattle.std.proofs.Common.{◌≡◌, ℕ, zero, suc, ◌+◌, ◌<◌, Bool, true, false, not, ◌&&◌, ◌||◌, if◌then◌else◌, List, [], ◌∷◌, ◌++◌, map, take, Option, Some, None, Contains, refl, sym, ◌∙◌, ap, subst, inl, inr, arith}
-use Rattle.std.specs.Prelude.{slice_get, option_map, option_and_then}
-use Rattle.std.specs.List.{filter, list_any}
-use Rattle.std.proofs.lemmas.Bool.{true≢false}
-use Rattle.std.proofs.lemmas.List.Elements.{Contains-append_left, Contains-append_right}
-use Rattle.fb_types.specs.Names.{Name}
-use Rattle.fb_types.specs.Blocks.{ports_of}
-use Rattle.fb_types.specs.Flat.{first_of, kind_of, type_name, type_named}
-use Rattle.fb_types.specs.Repeated.{OwnedNetwork}
-use Rattle.fb_types.specs.Syntax.{body_of, Stmt}
-use Rattle.fb_types.specs.Unknown.{mentions_body}
-use Rattle.fb_types.specs.declared.deploy.Plan.{Plan}
-use Rattle.fb_types.specs.declared.deploy.Stimulus.{Stimulus}
-use Rattle.fb_types.specs.declared.library.BasicType.{BasicType}
-use Rattle.fb_types.specs.declared.library.BlockType.{BlockType}
+use Rattle.fb_lint.proofs.lemmas.Common.{◌≡◌, ℕ, ◌+◌, ◌<◌, Bool, true, false, not, List, [], ◌∷◌, ◌++◌, map, take, Contains, refl, sym, ◌∙◌, ap, subst, inl, inr, arith, filter, list_any, true≢false, Name, guard_mentions, when, each_from, Warning, UnusedPort}
+use Rattle.fb_types.proofs.Common.{zero, suc, ◌&&◌, ◌||◌, if◌then◌else◌, Option, Some, None, slice_get, option_map, option_and_then, Contains-append_left, Contains-append_right, ports_of, first_of, kind_of, type_name, type_named, OwnedNetwork, body_of, Stmt, mentions_body, Plan, Stimulus, BasicType, BlockType, CompositeType, Library, EventPort, Instance, Ports, Transition, Variable}
 use Rattle.fb_types.specs.declared.library.BlockType.TheVariants as block
-use Rattle.fb_types.specs.declared.library.CompositeType.{CompositeType}
-use Rattle.fb_types.specs.declared.library.Library.{Library}
-use Rattle.fb_types.specs.declared.library.EventPort.{EventPort}
-use Rattle.fb_types.specs.declared.library.Instance.{Instance}
-use Rattle.fb_types.specs.declared.library.Ports.{Ports}
 use Rattle.fb_types.specs.declared.library.State.{State}
-use Rattle.fb_types.specs.declared.library.Transition.{Transition}
-use Rattle.fb_types.specs.declared.library.Variable.{Variable}
 use Rattle.fb_types.proofs.lemmas.lists.Elements.{Contains-nil, Contains-cons_cases, Contains-here}
 use Rattle.fb_types.proofs.lemmas.lists.ByIndex.{element_of_index}
 use Rattle.fb_check_names.specs.declared.ports.PortKind.{PortKind}
@@ -30,14 +10,12 @@ use Rattle.fb_check_names.specs.declared.ports.PortKind.TheVariants as kind
 use Rattle.fb_check_names.specs.Sites.{network_at, network_inside}
 use Rattle.fb_check_names.specs.declared.location.Site.{Site}
 use Rattle.fb_check_names.specs.declared.location.Site.TheVariants.{Application, Inside}
-use Rattle.fb_check.specs.types.Checks.{guard_mentions}
 use Rattle.fb_check.specs.types.Statements.{Standing, each_in_body}
 use Rattle.fb_lint.specs.Charts as charts
 use Rattle.fb_lint.specs.Circles as circles
 use Rattle.fb_lint.specs.Conditions.{IsAlgorithmUnsampled, IsAt, IsBasic, IsEarly, IsEndless, IsFinal, IsGuardUnsampled, IsInstance, IsRepeated, IsShadowed, IsSilentSource, IsStatement, IsUnassigned, IsUnfed, IsUnheld, IsUnnamed, IsUnreached, IsUnreachedEvent, IsUnreachedInstance, IsUnread, IsUnsampled, IsUnsent, IsUnusedAlgorithm, IsUnusedLink, IsUnusedType, IsZeroDivision, IsZeroGuard, is_used_event, is_used_in, names_of_ports, stimuli_at, WarningsListed}
 use Rattle.fb_lint.specs.Constants as constants
 use Rattle.fb_lint.specs.Events as events
-use Rattle.fb_lint.specs.Findings.{when, each_from}
 use Rattle.fb_lint.specs.Instances as instances
 use Rattle.fb_lint.specs.Interfaces as ports
 use Rattle.fb_lint.specs.Networks as nets
@@ -47,8 +25,7 @@ use Rattle.fb_lint.specs.Reached.{Reached}
 use Rattle.fb_lint.specs.Reads as reads
 use Rattle.fb_lint.specs.Statements as statements
 use Rattle.fb_lint.specs.Warnings.{readings, of_chart, of_ports, of_statements, of_network, of_type, of_interface, of_block, of_blocks, warnings}
-use Rattle.fb_lint.specs.declared.warning.Warning.{Warning}
-use Rattle.fb_lint.specs.declared.warning.Warning.TheVariants.{UnsampledInput, UnfedInput, UnsampledInGuard, UnsampledInAlgorithm, UnreachedState, FinalState, ShadowedTransition, UnnamedEvent, UnusedAlgorithm, UnusedType, UnusedPort, UnassignedEvent, UnusedLink, UnsentOutput, UnreachedInstance, UnreachedEvent, UnheldConstant, ZeroDivisor, ZeroDivisorInGuard, EndlessState, SilentSource, RepeatedLabel, UnreadInternal, EarlyStimulus}
+use Rattle.fb_lint.specs.declared.warning.Warning.TheVariants.{UnsampledInput, UnfedInput, UnsampledInGuard, UnsampledInAlgorithm, UnreachedState, FinalState, ShadowedTransition, UnnamedEvent, UnusedAlgorithm, UnusedType, UnassignedEvent, UnusedLink, UnsentOutput, UnreachedInstance, UnreachedEvent, UnheldConstant, ZeroDivisor, ZeroDivisorInGuard, EndlessState, SilentSource, RepeatedLabel, UnreadInternal, EarlyStimulus}
 use Rattle.fb_lint.proofs.lemmas.Edges.{leads-is_reached}
 use Rattle.fb_lint.proofs.lemmas.WarningsHold.{chart}
 

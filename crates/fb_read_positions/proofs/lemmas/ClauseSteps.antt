@@ -1,8 +1,5 @@
 -- Clauses of IFs and REPEATs, token by token.
-use Rattle.std.proofs.Common.{◌≡◌, ◌<◌, ◌≤◌, ◌+◌, ◌-◌, ℕ, suc, Bool, true, false, cond, eqb, ◌||◌, List, [], ◌∷◌, drop, get_or, length, Ok, refl, sym, ◌∙◌, ap, arith}
-use Rattle.std.specs.Prelude.{◌&&◌}
-use Rattle.std.proofs.lemmas.Bool.{eqb-true, false≢true}
-use Rattle.std.proofs.lemmas.List.{at_drop_more, length-drop, length-map}
+use Rattle.fb_types.proofs.Common.{◌≡◌, ◌<◌, ◌≤◌, ◌+◌, ◌-◌, ℕ, suc, Bool, true, false, cond, eqb, ◌||◌, List, [], ◌∷◌, drop, get_or, length, Ok, refl, sym, ◌∙◌, ap, arith, ◌&&◌, eqb-true, false≢true, at_drop_more, length-drop, length-map}
 use denote.Enum.Declared.{tag_of}
 use Rattle.fb_read.specs.Parser.{same_mark}
 use Rattle.fb_read.specs.Tokens.{Tokens, tokens_of}

@@ -1,7 +1,5 @@
 -- What a walk leaves is an end of the tokens that it was given.
-use Rattle.std.proofs.Common.{◌≡◌, ℕ, zero, suc, Bool, true, false, List, [], ◌∷◌, Some, None, Ok, Err, codes, ap, subst, cond}
-use Rattle.std.specs.Prelude.{Option, ◌&&◌}
-use Rattle.fb_types.specs.Names.{Name}
+use Rattle.fb_types.proofs.Common.{◌≡◌, ℕ, zero, suc, Bool, true, false, List, [], ◌∷◌, Some, None, Ok, Err, codes, ap, subst, cond, Option, ◌&&◌, Name}
 use Rattle.fb_read.specs.Blocks.{block}
 use Rattle.fb_read.specs.Charts.{action, algorithm, state, states, transition, transitions}
 use Rattle.fb_read.specs.Network.{application, connection, constant, instance, parameter, parameters, port}

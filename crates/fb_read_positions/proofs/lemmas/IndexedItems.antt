@@ -1,7 +1,5 @@
 -- What is looked up at an index of a list.
-use Rattle.std.proofs.Common.{◌≡◌, ◌≤◌, ◌<◌, ℕ, List, Option, Some, None, get_or, length, refl, sym, ap, ◌∙◌}
-use Rattle.std.proofs.lemmas.Option.{slice_get_past, slice_get_read}
-use Rattle.std.specs.Prelude.{option_and_then, option_map, slice_get}
+use Rattle.fb_types.proofs.Common.{◌≡◌, ◌≤◌, ◌<◌, ℕ, List, Option, Some, None, get_or, length, refl, sym, ap, ◌∙◌, slice_get_past, slice_get_read, option_and_then, option_map, slice_get}
 
 module _ {A B : Type 0} (xs : List A) (i : ℕ) where
   -- what an element has

@@ -1,6 +1,5 @@
 -- Lines and columns of a text that goes on.
-use Rattle.std.proofs.Common.{◌≡◌, ◌<◌, ◌≤◌, ◌+◌, ◌-◌, ◌==◌, ℕ, zero, suc, Bool, true, false, cond, not, length, take, drop, get_or, slice_index, count_by, sum_by, refl, sym, ◌∙◌, ap, arith}
-use Rattle.std.proofs.lemmas.List.{get_or-take, get_or-drop, length-take-le, length-drop}
+use Rattle.fb_types.proofs.Common.{◌≡◌, ◌<◌, ◌≤◌, ◌+◌, ◌-◌, ◌==◌, ℕ, zero, suc, Bool, true, false, cond, not, length, take, drop, get_or, slice_index, count_by, sum_by, refl, sym, ◌∙◌, ap, arith, get_or-take, get_or-drop, length-take-le, length-drop}
 use Rattle.std.proofs.lemmas.List.Folds.{drop_split}
 use Rattle.std.proofs.lemmas.List.Sums.{sum_by-append, sum_by-take-drop, suffix_len_is, suffix_len-take_yes}
 use Rattle.std.specs.List.{slice_range, suffix_len}

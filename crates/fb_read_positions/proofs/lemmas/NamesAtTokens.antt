@@ -1,7 +1,5 @@
 -- The name at the first of the tokens that are left.
-use Rattle.std.proofs.Common.{◌≡◌, ◌-◌, ℕ, List, [], ◌∷◌, length, drop, Ok, Err, sym, ap, ◌∙◌, arith}
-use Rattle.std.proofs.lemmas.List.{drop_all}
-use Rattle.fb_types.specs.Names.{Name}
+use Rattle.fb_types.proofs.Common.{◌≡◌, ◌-◌, ℕ, List, [], ◌∷◌, length, drop, Ok, Err, sym, ap, ◌∙◌, arith, drop_all, Name}
 use Rattle.fb_read.specs.Blank.{Text}
 use Rattle.fb_read.specs.Front.{Found, bad_byte, front}
 use Rattle.fb_read.specs.Refusals.{IsNext}

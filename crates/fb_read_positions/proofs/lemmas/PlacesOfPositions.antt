@@ -1,10 +1,6 @@
 -- The place at which a position is shown.
-use Rattle.std.proofs.Common.{◌≡◌, ◌++◌, ◌∷◌, [], ◌+◌, ◌<◌, ℕ, List, Option, Some, None, get_or, length, sym, subst, take}
-use Rattle.std.specs.List.{AllZip}
-use Rattle.std.proofs.lemmas.List.{take_more}
+use Rattle.fb_types.proofs.Common.{◌≡◌, ◌++◌, ◌∷◌, [], ◌+◌, ◌<◌, ℕ, List, Option, Some, None, get_or, length, sym, subst, take, AllZip, take_more, IfSome, Library}
 use Rattle.std.proofs.lemmas.Slice.Zip.{all_zipped_more}
-use Rattle.std.specs.Prelude.{IfSome}
-use Rattle.fb_types.specs.declared.library.Library.{Library}
 use Rattle.fb_read.specs.Blank.{Text}
 use Rattle.fb_read.specs.declared.token.Span.{Span}
 use Rattle.fb_read_positions.specs.Places.{IsPlace, IsPlaceAt, IsPlaceFor, IsStretch}

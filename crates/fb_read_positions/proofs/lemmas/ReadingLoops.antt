@@ -1,5 +1,5 @@
 -- One iteration of a loop that reads up to a position.
-use Rattle.std.proofs.Common.{Bool, Err, List, Ok, [], ap, arith, cond, eqb, false, refl, subst, suc, sym, true, zero, ℕ, ◌-◌, ◌||◌, ◌∙◌, ◌∷◌, ◌≡◌, ◌≤◌}
+use Rattle.fb_types.proofs.Common.{Bool, Err, List, Ok, [], ap, arith, cond, eqb, false, refl, subst, suc, sym, true, zero, ℕ, ◌-◌, ◌||◌, ◌∙◌, ◌∷◌, ◌≡◌, ◌≤◌, ◌&&◌, length}
 use Rattle.fb_read.specs.Parser.{Parser, Outcome, Reads, and_then, sees_name, rest_of, syntax}
 use Rattle.fb_read.specs.Statements.{begins_statement}
 use Rattle.fb_read.specs.Tokens.{Tokens}
@@ -8,7 +8,6 @@ use Rattle.fb_read.specs.declared.fault.ParseFault.TheVariants as fault
 use Rattle.fb_read.specs.declared.token.Token.TheVariants as token
 use Rattle.fb_read_positions.specs.Walks.{begins_clause, begins_clauses, depth_after, ends_clauses, opens, pass, take_all, to_clause, to_name, to_statement}
 use Rattle.fb_read_positions.specs.declared.step.Step.{Step}
-use Rattle.std.specs.Prelude.{◌&&◌, length}
 
 -- ---- Outcomes
 

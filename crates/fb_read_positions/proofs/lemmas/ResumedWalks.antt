@@ -1,7 +1,5 @@
 -- Walks that go on where an earlier one has been.
-use Rattle.std.proofs.Common.{◌≡◌, ◌-◌, ◌+◌, ℕ, zero, suc, Bool, true, false, cond, List, [], ◌∷◌, ◌++◌, map, length, drop, Ok, refl, sym, ◌∙◌, ap, subst, arith}
-use Rattle.std.specs.Prelude.{◌&&◌}
-use Rattle.std.proofs.lemmas.List.{length-append, length-map}
+use Rattle.fb_types.proofs.Common.{◌≡◌, ◌-◌, ◌+◌, ℕ, zero, suc, Bool, true, false, cond, List, [], ◌∷◌, ◌++◌, map, length, drop, Ok, refl, sym, ◌∙◌, ap, subst, arith, ◌&&◌, length-append, length-map}
 use Rattle.fb_read.specs.Parser.{◌>>◌, pure}
 use Rattle.fb_read.specs.Statements.{begins_statement}
 use Rattle.fb_read.specs.Tokens.{Tokens, tokens_of}

@@ -1,7 +1,5 @@
 -- Statements, token by token.
-use Rattle.std.proofs.Common.{◌≡◌, ◌<◌, ◌+◌, ◌-◌, ℕ, suc, Bool, true, false, [], ◌∷◌, List, drop, take, get_or, length, sym, ◌∙◌, ap, arith}
-use Rattle.std.specs.Prelude.{◌&&◌}
-use Rattle.std.proofs.lemmas.List.{length-drop, take_all}
+use Rattle.fb_types.proofs.Common.{◌≡◌, ◌<◌, ◌+◌, ◌-◌, ℕ, suc, Bool, true, false, [], ◌∷◌, List, drop, take, get_or, length, sym, ◌∙◌, ap, arith, ◌&&◌, length-drop, take_all}
 use Rattle.fb_read.specs.Parser.{rest_of}
 use Rattle.fb_read.specs.Statements.{begins_statement}
 use Rattle.fb_read.specs.Tokens.{Tokens, tokens_of}

@@ -1,6 +1,5 @@
 -- What is left of the tokens after a walk.
-use Rattle.std.proofs.Common.{◌≡◌, ℕ, List, length, Option, Some, None, Result, Ok, Err, sym, ◌∙◌, ap, subst}
-use Rattle.std.specs.Prelude.{IfOk, IfSome}
+use Rattle.fb_types.proofs.Common.{◌≡◌, ℕ, List, length, Option, Some, None, Result, Ok, Err, sym, ◌∙◌, ap, subst, IfOk, IfSome}
 use Rattle.fb_read.specs.Parser.{Outcome, Reads}
 use Rattle.fb_read.specs.Tokens.{Tokens, tokens_of}
 use Rattle.fb_read.specs.declared.fault.ParseFault.{ParseFault}

@@ -1,16 +1,5 @@
 -- The ports of the type that a name represents.
-use Rattle.std.proofs.Common.{◌≡◌, List, Some, None, Option, refl, sym, ◌∙◌, ap}
-use Rattle.std.specs.Prelude.{slice_get, option_map}
-use Rattle.std.specs.List.{find}
-use Rattle.std.proofs.lemmas.Option.{same_Some}
-use Rattle.fb_types.specs.Names.{Name, same_name}
-use Rattle.fb_types.specs.Blocks.{Event, Kind, named, event_blocks, event_block_named, ports_of, ports_of_event_block}
-use Rattle.fb_types.specs.EventPorts.{ArePortsOfKinds, kind_index}
-use Rattle.fb_types.specs.Flat.{kind_of, type_name, type_named}
-use Rattle.fb_types.specs.declared.event_kind.EventKind.{EventKind}
-use Rattle.fb_types.specs.declared.library.BlockType.{BlockType}
-use Rattle.fb_types.specs.declared.library.Library.{Library}
-use Rattle.fb_types.specs.declared.library.Ports.{Ports}
+use Rattle.fb_types.proofs.Common.{◌≡◌, List, Some, None, Option, refl, sym, ◌∙◌, ap, slice_get, option_map, find, same_Some, Name, same_name, Event, Kind, named, event_blocks, event_block_named, ports_of, ports_of_event_block, ArePortsOfKinds, kind_index, kind_of, type_name, type_named, EventKind, BlockType, Library, Ports}
 use Rattle.fb_types.proofs.lemmas.names.NameLaws.{find-named}
 use Rattle.fb_check_names.specs.Types.{ports_of_block}
 

@@ -1,18 +1,8 @@
 -- The result of a taking after the effects from which nothing goes out.
-use Rattle.std.proofs.Common.{◌≡◌, ℕ, [], All, map, Option, Some, None, Result, sym, subst}
-use Rattle.std.proofs.lemmas.List.Elements.{All-nil}
-use Rattle.fb_types.specs.Headline.{Inputs, system_of}
-use Rattle.fb_types.specs.Numbers.{line_of}
-use Rattle.fb_types.specs.declared.key.Key.{Key}
-use Rattle.fb_types.specs.declared.run.Event.{Event}
-use Rattle.fb_types.specs.declared.run.Halt.{Halt}
-use Rattle.fb_types.specs.declared.run.TimerAsk.TheVariants.{Keep}
-use Rattle.fb_types.specs.declared.value.Reason.{Reason}
-use Rattle.fb_system.specs.Lines.{BelongsTo}
+use Rattle.fb_resource.proofs.lemmas.Common.{◌≡◌, ℕ, [], All, map, Option, Some, None, sym, subst, Inputs, system_of, Key, Keep, Reason, Event, BelongsTo, out_of, Effects, Forest}
+use Rattle.fb_types.proofs.Common.{Result, All-nil, line_of, Halt}
 use Rattle.fb_net.specs.Events.{Came, CameAlone, CameTo, HasTaken, Remembered}
-use Rattle.fb_net.specs.Outs.{Gathered, IsOut, StillAreOuts, gathered, only_lines, out_of}
-use Rattle.fb_net.specs.declared.effects.Effects.{Effects}
-use Rattle.fb_net.specs.declared.resource.Forest.{Forest}
+use Rattle.fb_net.specs.Outs.{Gathered, IsOut, StillAreOuts, gathered, only_lines}
 use Rattle.fb_net.specs.OfSystem.{AreOuts}
 use Rattle.fb_resource.specs.Takings.{ended}
 

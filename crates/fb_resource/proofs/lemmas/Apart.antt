@@ -1,17 +1,8 @@
 -- One step of the opening, on the agendas of all resources.
-use Rattle.std.proofs.Common.{◌≡◌, ℕ, ◌+◌, ◌<◌, List, length, refl, sym, ◌∙◌, Some}
-use Rattle.std.specs.Prelude.{slice_get, slice_set}
-use Rattle.std.proofs.lemmas.Bool.{eq-eqb, ne_eqb}
-use Rattle.std.proofs.lemmas.List.{length-set}
-use Rattle.fb_types.specs.Headline.{Inputs, system_of}
-use Rattle.fb_types.specs.Keys.{stimulus_key}
-use Rattle.fb_types.specs.Numbers.{path_at}
-use Rattle.fb_types.specs.declared.key.Key.{Key}
-use Rattle.fb_agenda.specs.Agendas.{Contents}
+use Rattle.fb_resource.proofs.lemmas.Common.{◌≡◌, ℕ, ◌+◌, ◌<◌, List, length, refl, sym, ◌∙◌, Some, slice_get, eq-eqb, length-set, Inputs, system_of, path_at, Key, Contents, HasRestarts, HasStimuli, IsPut, IsInOrder, MayWait}
+use Rattle.fb_types.proofs.Common.{slice_set, ne_eqb, stimulus_key}
 use Rattle.fb_types.specs.declared.run.Event.TheVariants as kinds
-use Rattle.fb_resource.specs.Openings.{HasRestarts, HasStimuli, HasTimersBelow, IsStimulusKey, OneEach}
-use Rattle.fb_resource.specs.Posts.{IsPut}
-use Rattle.fb_resource.specs.Waiting.{IsInOrder, MayWait}
+use Rattle.fb_resource.specs.Openings.{HasTimersBelow, IsStimulusKey, OneEach}
 use Rattle.fb_resource.proofs.lemmas.Lists.{set_each}
 use Rattle.fb_resource.proofs.lemmas.OpenIs.{IsStartedIn, restarts_put, restarts_skip, stimuli_put, stimuli_skip}
 

@@ -1,20 +1,10 @@
 -- The blocks, the counts and its traffic at the beginning.
-use Rattle.std.proofs.Common.{◌≡◌, ℕ, All, length, refl, sym, subst, Option}
-use Rattle.std.proofs.lemmas.List.Elements.{All-nil}
-use Rattle.fb_types.specs.Headline.{Inputs, AreAccepted, system_of}
-use Rattle.fb_types.specs.Simulation.{opening_state}
-use Rattle.fb_types.specs.Takes.{world_of}
-use Rattle.fb_system.specs.Lines.{BelongsTo}
+use Rattle.fb_resource.proofs.lemmas.Common.{◌≡◌, ℕ, All, length, refl, sym, subst, Option, Inputs, AreAccepted, system_of, world_of, BelongsTo, Forest, IsOpened, IsMessage, AreReady, IsHere, IsInOrder, Traffic, IsMetered}
+use Rattle.fb_types.proofs.Common.{All-nil, opening_state}
 use Rattle.fb_net.specs.Worlds.{IsForest}
-use Rattle.fb_net.specs.declared.resource.Forest.{Forest}
 use Rattle.fb_laws.proofs.lemmas.typing.Accepted.{accepted_typed}
 use Rattle.fb_laws.proofs.lemmas.typing.Simulated.{opening_state-typed}
-use Rattle.fb_resource.specs.Openings.{IsOpened}
-use Rattle.fb_resource.specs.Posts.{IsMessage}
-use Rattle.fb_resource.specs.Takings.{AreReady, IsEmpty, IsHere}
-use Rattle.fb_resource.specs.Waiting.{IsInOrder}
-use Rattle.fb_resource.specs.declared.traffic.Traffic.{Traffic}
-use Rattle.fb_resource.specs.Counts.{IsMetered}
+use Rattle.fb_resource.specs.Takings.{IsEmpty}
 use Rattle.fb_resource.proofs.lemmas.Meters.{fresh_counts, metered_fresh}
 
 pub here_opened : (i : Inputs) (r : ℕ) (t : Forest) → AreAccepted i → IsForest i t (world_of (opening_state (system_of i)) r)

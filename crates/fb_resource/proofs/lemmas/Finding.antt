@@ -1,15 +1,10 @@
 -- The event that is taken next, where a local event waits in addition.
-use Rattle.std.proofs.Common.{◌≡◌, ◌<◌, ℕ, Bool, true, false, cond, Option, Some, None, refl, sym, ap, subst, ◌∙◌}
-use Rattle.std.specs.Bool.{OnFalse, OnTrue}
-use Rattle.fb_types.specs.Keys.{Precedes, same_key}
-use Rattle.fb_types.specs.declared.key.Key.{Key}
-use Rattle.fb_types.specs.declared.run.Event.{Event}
+use Rattle.fb_resource.proofs.lemmas.Common.{◌≡◌, ◌<◌, ℕ, Bool, true, false, cond, Option, Some, None, refl, sym, ap, subst, ◌∙◌, same_key, Key, Event, Contents, waiting, IsPut, Finds, with_event}
+use Rattle.fb_types.proofs.Common.{OnFalse, OnTrue, Precedes}
 use Rattle.fb_types.proofs.lemmas.events.KeyLaws.{same_key_is, same_key_itself}
-use Rattle.fb_agenda.specs.Agendas.{Contents, IsClear, waiting}
+use Rattle.fb_agenda.specs.Agendas.{IsClear}
 use Rattle.fb_agenda.proofs.lemmas.Orders.{not_itself}
 use Rattle.fb_agenda.proofs.lemmas.NothingWaits.{clear_before, clear_itself}
-use Rattle.fb_resource.specs.Posts.{IsPut}
-use Rattle.fb_resource.specs.Takings.{Finds, with_event}
 use Rattle.fb_resource.proofs.lemmas.Lone.{with_put}
 
 -- what is found on an agenda is found on one on which the same waits

@@ -1,28 +1,14 @@
 -- A resource as it is before the first event.
-use Rattle.std.proofs.Common.{◌≡◌, ℕ, ◌<◌, Bool, true, false, cond, eqb, List, [], ◌∷◌, ◌++◌, length, refl, sym, ap, subst, ◌∙◌, Option, Some, None}
-use Rattle.std.specs.Global.{Vec}
-use Rattle.std.specs.Prelude.{option_map, slice_get}
-use Rattle.std.proofs.lemmas.Bool.{cond-true, cond-false, eqb-true, eq-eqb}
-use Rattle.fb_types.specs.Headline.{Inputs, AreAccepted, system_of, stimuli_of}
-use Rattle.fb_types.specs.Keys.{or_else}
-use Rattle.fb_types.specs.Parts.{count_of, local_of, part_of}
-use Rattle.fb_types.specs.Simulation.{opening, opening_agenda, opening_state}
-use Rattle.fb_types.specs.Takes.{world_of}
-use Rattle.fb_types.specs.declared.key.Key.{Key}
+use Rattle.fb_resource.proofs.lemmas.Common.{◌≡◌, ℕ, ◌<◌, Bool, true, false, cond, eqb, List, [], ◌∷◌, ◌++◌, length, refl, sym, ap, subst, ◌∙◌, Option, Some, None, Vec, option_map, slice_get, eq-eqb, Inputs, AreAccepted, system_of, stimuli_of, or_else, world_of, Key, Contents, waiting, Event, event_of, IsOpened, CountsAre, IsHere, meaning, Forest, Represents}
+use Rattle.fb_types.proofs.Common.{cond-true, cond-false, eqb-true, count_of, part_of, opening, opening_state}
+use Rattle.fb_types.specs.Parts.{local_of}
+use Rattle.fb_types.specs.Simulation.{opening_agenda}
 use Rattle.fb_types.proofs.lemmas.lists.Lookups.{or_else_none}
-use Rattle.fb_agenda.specs.Agendas.{Contents, waiting}
-use Rattle.fb_types.specs.declared.run.Event.{Event}
-use Rattle.fb_net.specs.Events.{event_of}
-use Rattle.fb_resource.specs.Openings.{IsOpened}
-use Rattle.fb_resource.specs.Posts.{CountsAre}
-use Rattle.fb_resource.specs.Takings.{IsHere}
-use Rattle.fb_resource.specs.Waiting.{meaning}
 use Rattle.fb_resource.proofs.lemmas.Begins.{here_opened}
 use Rattle.fb_resource.proofs.lemmas.Meters.{fresh_counts}
 use Rattle.fb_types.proofs.lemmas.lists.ByIndex.{slice_get-push}
 use Rattle.fb_net.specs.Worlds.{IsForest}
-use Rattle.fb_net.specs.declared.resource.Forest.{Forest}
-use Rattle.fb_resource.specs.Resources.{AreOpened, IsFresh, Represents}
+use Rattle.fb_resource.specs.Resources.{AreOpened, IsFresh}
 use Rattle.fb_resource.specs.declared.resource.Resource.{Resource}
 
 -- what waits in both places, where one key is in one of them alone

@@ -1,10 +1,8 @@
 -- Each step that is used leaves fewer steps below the horizon.
-use Rattle.std.proofs.Common.{◌≡◌, ◌≢◌, ⊎_elim, ℕ, suc, ◌+◌, ◌-◌, ◌*◌, ◌<◌, ◌≤◌, Bool, true, false, cond, sym, subst, Option, Some, None, eqb, arith}
-use Rattle.std.specs.Prelude.{unwrap_or}
+use Rattle.fb_types.proofs.Common.{◌≡◌, ◌≢◌, ⊎_elim, ℕ, suc, ◌+◌, ◌-◌, ◌*◌, ◌<◌, ◌≤◌, Bool, true, false, cond, sym, subst, Option, Some, None, eqb, arith, unwrap_or, begun}
 use Rattle.std.proofs.Math.Nat.{mul-le-mul_right, suc-mul}
 use Rattle.std.proofs.lemmas.Bool.Decides.{eqb_tells}
 use Rattle.fb_types.specs.States as States
-use Rattle.fb_types.specs.Takes.{begun}
 use Rattle.fb_resource.specs.Counts.{fuel, meter_of}
 use Rattle.fb_resource.specs.declared.tick_counts.TickCounts.{TickCounts}
 

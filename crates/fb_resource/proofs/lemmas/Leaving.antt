@@ -1,17 +1,8 @@
 -- An agenda without its least key.
-use Rattle.std.proofs.Common.{◌≡◌, ℕ, ◌<◌, ◌≤◌, Bool, true, false, cond, List, length, sym, ap, subst, ◌∙◌, Option, Some, None, arith}
-use Rattle.std.specs.Prelude.{option_map, slice_index}
-use Rattle.fb_types.specs.Headline.{Inputs}
-use Rattle.fb_types.specs.Keys.{Precedes, same_key, timer_key, without}
+use Rattle.fb_resource.proofs.lemmas.Common.{◌≡◌, ℕ, ◌<◌, ◌≤◌, Bool, true, false, cond, List, length, sym, ap, subst, ◌∙◌, Option, Some, None, arith, option_map, slice_index, Inputs, same_key, timer_key, Key, Contents, waiting, Event, event_of, AreReady, Traffic, IsInOrder, meaning}
+use Rattle.fb_types.proofs.Common.{Precedes, without}
 use Rattle.fb_types.specs.States.{Event as AnEvent}
-use Rattle.fb_types.specs.declared.key.Key.{Key}
 use Rattle.fb_types.proofs.lemmas.events.KeyLaws.{earlier_precedes}
-use Rattle.fb_agenda.specs.Agendas.{Contents, waiting}
-use Rattle.fb_types.specs.declared.run.Event.{Event}
-use Rattle.fb_net.specs.Events.{event_of}
-use Rattle.fb_resource.specs.Takings.{AreReady}
-use Rattle.fb_resource.specs.declared.traffic.Traffic.{Traffic}
-use Rattle.fb_resource.specs.Waiting.{IsInOrder, meaning}
 
 -- an agenda from which one key was taken
 abbrev pub Left : Key → Contents → Contents → Type 0

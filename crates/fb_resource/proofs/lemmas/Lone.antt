@@ -1,40 +1,14 @@
 -- Nothing was put out, or one event, where nothing is asked of a timer.
-use Rattle.std.proofs.Common.{◌≡◌, ◌+◌, ◌<◌, ◌≤◌, ◌++◌, ℕ, Bool, true, false, cond, List, [], ◌∷◌, All, get_or, length, map, Option, Some, refl, sym, ap, subst, ◌∙◌, append-nil, arith}
-use Rattle.std.specs.Map.{lookup}
-use Rattle.std.specs.Prelude.{option_map, slice_index, slice_set}
-use Rattle.std.specs.Global.{Vec}
-use Rattle.std.proofs.lemmas.List.{length-set}
-use Rattle.std.proofs.lemmas.List.Elements.{All-push}
-use Rattle.fb_types.specs.Headline.{Inputs, system_of}
-use Rattle.fb_types.specs.Keys.{changed_to, local_key, or_else, same_key}
-use Rattle.fb_types.specs.Names.{Path}
-use Rattle.fb_types.specs.States.{State, path_of}
+use Rattle.fb_resource.proofs.lemmas.Common.{◌≡◌, ◌+◌, ◌<◌, ◌≤◌, ◌++◌, ℕ, Bool, true, false, cond, List, [], ◌∷◌, All, length, map, Option, Some, refl, sym, ap, subst, ◌∙◌, append-nil, arith, option_map, slice_index, Vec, length-set, Inputs, system_of, changed_to, local_key, or_else, same_key, Path, State, path_of, Posts, post_all, Key, Message, TimerAsk, Keep, Reason, Event, Contents, waiting, event_of, out_of, Out, Effects, Forest, BelongsTo, CountsAre, IsMessage, IsPostable, IsPut, IsSendable, arriving, AreReady, IsTakenHere, with_event, IsInOrder, meaning, Traffic, TickCounts}
+use Rattle.fb_types.proofs.Common.{get_or, lookup, slice_set, All-push, timer_change, Target}
 use Rattle.fb_types.specs.States as model
-use Rattle.fb_types.specs.Takes.{Posts, post_all, timer_change}
-use Rattle.fb_types.specs.declared.key.Key.{Key}
 use Rattle.fb_types.proofs.lemmas.events.KeyLaws.{same_key_from, same_key_is}
-use Rattle.fb_types.specs.declared.run.Event.{Event}
 use Rattle.fb_types.specs.declared.run.Event.TheVariants.{Local}
-use Rattle.fb_types.specs.declared.run.Message.{Message}
-use Rattle.fb_types.specs.declared.run.Target.{Target}
-use Rattle.fb_types.specs.declared.run.TimerAsk.{TimerAsk}
-use Rattle.fb_types.specs.declared.run.TimerAsk.TheVariants.{Keep}
-use Rattle.fb_types.specs.declared.value.Reason.{Reason}
-use Rattle.fb_agenda.specs.Agendas.{Contents, waiting}
 use Rattle.fb_agenda.specs.declared.least.Least.{Least}
-use Rattle.fb_net.specs.Events.{event_of}
-use Rattle.fb_net.specs.Outs.{out_of}
-use Rattle.fb_net.specs.declared.effects.Out.{Out}
 use Rattle.fb_net.specs.declared.effects.Out.TheVariants as outs
-use Rattle.fb_net.specs.declared.effects.Effects.{Effects}
 use Rattle.fb_net.specs.declared.effects.OutgoingMessage.{OutgoingMessage}
-use Rattle.fb_net.specs.declared.resource.Forest.{Forest}
-use Rattle.fb_system.specs.Lines.{BelongsTo}
-use Rattle.fb_resource.specs.Posts.{ArePosted, CountsAre, IsMessage, IsOneMessage, IsPostable, IsPut, IsSendable, arriving, message_of}
-use Rattle.fb_resource.specs.Takings.{AreReady, IsEmptied, IsLone, IsSettled, IsTakenHere, MaySettle, Settles, with_event, with_next}
-use Rattle.fb_resource.specs.Waiting.{IsInOrder, meaning}
-use Rattle.fb_resource.specs.declared.traffic.Traffic.{Traffic}
-use Rattle.fb_resource.specs.declared.tick_counts.TickCounts.{TickCounts}
+use Rattle.fb_resource.specs.Posts.{ArePosted, IsOneMessage, message_of}
+use Rattle.fb_resource.specs.Takings.{IsEmptied, IsLone, IsSettled, MaySettle, Settles, with_next}
 use Rattle.fb_resource.proofs.lemmas.PostLaws.{local_waits, message_is, one_message, order_put, posted_local}
 use Rattle.fb_resource.proofs.lemmas.Posted.{none_before, only_of}
 

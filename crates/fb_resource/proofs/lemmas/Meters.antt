@@ -1,15 +1,9 @@
 -- The counts of a resource, from a tick on.
-use Rattle.std.proofs.Common.{◌≡◌, ◌≢◌, ℕ, suc, ◌-◌, ◌<◌, ◌≤◌, Bool, true, false, not, eqb, cond, refl, sym, ap, subst, ◌∙◌, Option, Some, None, arith}
+use Rattle.fb_resource.proofs.lemmas.Common.{◌≡◌, ◌≢◌, ℕ, suc, ◌<◌, ◌≤◌, Bool, true, false, eqb, cond, refl, sym, ap, subst, ◌∙◌, Option, Some, None, arith, unwrap_or, Inputs, State, begun, Forest, IsMetered, meter_of, IsHere, TickCounts}
+use Rattle.fb_types.proofs.Common.{◌-◌, not, ne_eqb, not-true, Meter}
 use Rattle.std.specs.Option.{option_eq}
-use Rattle.std.proofs.lemmas.Bool.{ne_eqb, not-true}
-use Rattle.std.specs.Prelude.{unwrap_or}
-use Rattle.fb_types.specs.Headline.{Inputs}
-use Rattle.fb_types.specs.States.{Meter, State}
-use Rattle.fb_types.specs.Takes.{begun, is_tick}
-use Rattle.fb_net.specs.declared.resource.Forest.{Forest}
-use Rattle.fb_resource.specs.Counts.{BeginAlike, IsMetered, IsUnused, before_step, meter_of}
-use Rattle.fb_resource.specs.Takings.{IsHere}
-use Rattle.fb_resource.specs.declared.tick_counts.TickCounts.{TickCounts}
+use Rattle.fb_types.specs.Takes.{is_tick}
+use Rattle.fb_resource.specs.Counts.{BeginAlike, IsUnused, before_step}
 
 -- ---- Two meters
 

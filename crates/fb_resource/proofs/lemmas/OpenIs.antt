@@ -1,38 +1,20 @@
 -- What waits at the beginning, one stimulus or instance after another.
-use Rattle.std.proofs.Common.{◌≡◌, ◌≢◌, ℕ, suc, ◌+◌, ◌^◌, ◌<◌, Bool, true, false, cond, List, [], ◌∷◌, ◌++◌, length, take, refl, sym, ap, subst, ◌∙◌, append-nil, Option, Some, None, get_or, inl, inr, arith}
-use Rattle.std.specs.Prelude.{flat_map, option_map, slice_get}
+use Rattle.fb_resource.proofs.lemmas.Common.{◌≡◌, ◌≢◌, ℕ, suc, ◌+◌, ◌^◌, ◌<◌, Bool, true, false, cond, List, [], ◌∷◌, ◌++◌, length, refl, sym, ap, subst, ◌∙◌, append-nil, Option, Some, None, arith, option_map, slice_get, Inputs, AreAccepted, system_of, stimuli_of, Path, or_else, found, changed_to, same_key, timer_key, path_at, path_of, System, is_timer_of, Key, Contents, waiting, event_of, HasRestarts, HasStimuli, IsOpened, IsPut, IsInOrder, MayWait, meaning}
+use Rattle.fb_types.proofs.Common.{take, get_or, inl, inr, flat_map, cases_lt, flat_map-append, length-map, length-take-le, slice_get_within, get_or_from_slice_get, unwrap_or-slice_get, Kind, Event, IsWithinLimits, Port, stimulus_key, restart_of, stimuli_from, stimulus_of, Stimulated, Expired, EventKind, Restart}
 use Rattle.std.proofs.Math.Seq.{take-suc, take-length}
-use Rattle.std.proofs.lemmas.Bool.{cases_lt}
-use Rattle.std.proofs.lemmas.Grind.{flat_map-append}
-use Rattle.std.proofs.lemmas.List.{length-map, length-take-le}
-use Rattle.std.proofs.lemmas.Option.{slice_get_within, get_or_from_slice_get, unwrap_or-slice_get}
-use Rattle.fb_types.specs.Blocks.{Kind, Event}
-use Rattle.fb_types.specs.Headline.{Inputs, AreAccepted, system_of, stimuli_of}
-use Rattle.fb_types.specs.Limits.{IsWithinLimits}
-use Rattle.fb_types.specs.Names.{Path, Port}
-use Rattle.fb_types.specs.Keys.{or_else, found, changed_to, same_key, stimulus_key, timer_key}
-use Rattle.fb_types.specs.Numbers.{path_at}
-use Rattle.fb_types.specs.Simulation.{Stimulus, restart_of, stimuli_from, stimulus_of}
-use Rattle.fb_types.specs.States.{Event as AnEvent, Stimulated, Expired, path_of}
-use Rattle.fb_types.specs.Systems.{System}
-use Rattle.fb_types.specs.Takes.{is_timer_of}
-use Rattle.fb_types.specs.declared.event_kind.EventKind.{EventKind}
-use Rattle.fb_types.specs.declared.event_kind.EventKind.TheVariants.{Restart}
-use Rattle.fb_types.specs.declared.key.Key.{Key}
+use Rattle.fb_types.specs.Simulation.{Stimulus}
+use Rattle.fb_types.specs.States.{Event as AnEvent}
 use Rattle.fb_types.proofs.lemmas.events.KeyLaws.{same_key_is}
 use Rattle.fb_types.proofs.lemmas.lists.TakeLaws.{found-put}
-use Rattle.fb_agenda.specs.Agendas.{Contents, waiting}
 use Rattle.fb_types.specs.declared.run.Event as waits
 use Rattle.fb_types.specs.declared.run.Event.TheVariants as kinds
-use Rattle.fb_net.specs.Events.{event_of, stimulated}
+use Rattle.fb_net.specs.Events.{stimulated}
 use Rattle.fb_system.specs.Stimuli.{IsStimulusAt}
 use Rattle.fb_system.specs.declared.stimulus.StimulusAt.{StimulusAt}
 use Rattle.fb_laws.specs.Simulations.{IsTypedStimulus}
 use Rattle.fb_laws.specs.Typed.{IsTypedEvent}
 use Rattle.fb_laws.proofs.lemmas.typing.Accepted.{accepted_typed}
-use Rattle.fb_resource.specs.Openings.{HasRestarts, HasStimuli, HasTimersBelow, IsOpened, IsStimulusKey, is_of, only}
-use Rattle.fb_resource.specs.Posts.{IsPut}
-use Rattle.fb_resource.specs.Waiting.{IsInOrder, MayWait, meaning}
+use Rattle.fb_resource.specs.Openings.{HasTimersBelow, IsStimulusKey, is_of, only}
 use Rattle.fb_types.proofs.lemmas.lists.ByIndex.{all_at}
 use Rattle.fb_resource.proofs.lemmas.PostLaws.{meaning_put, order_put, port_path, timer_class, timer_instance}
 use Rattle.fb_types.proofs.lemmas.lists.Lookups.{found-append, or_else_none}

@@ -1,34 +1,20 @@
 -- Local events that are put on the agenda, and messages after the mail.
-use Rattle.std.proofs.Common.{◌≡◌, ◌≢◌, ℕ, ◌+◌, ◌<◌, Bool, true, false, cond, eqb, ◌&&◌, List, [], ◌∷◌, ◌++◌, length, map, refl, sym, ap, subst, ◌∙◌, append_assoc, Option, Some, ⊎_elim, get_or, get_or-set_same, get_or-set_other, arith}
-use Rattle.std.specs.Prelude.{if◌then◌else◌, option_map, slice_get, slice_index, slice_set}
+use Rattle.fb_resource.proofs.lemmas.Common.{◌≡◌, ◌≢◌, ℕ, ◌+◌, ◌<◌, Bool, true, false, cond, eqb, List, [], ◌∷◌, ◌++◌, length, map, refl, sym, ap, subst, ◌∙◌, Option, Some, ⊎_elim, arith, option_map, slice_get, slice_index, eq-eqb, length-set, Inputs, system_of, or_else, found, same_key, local_key, path_at, Path, System, Posts, post_all, is_timer_of, Key, Message, Contents, waiting, Event, out_of, Out, event_of, CountsAre, IsMessage, IsPut, IsSendable, arriving, meaning, MayWait, IsInOrder}
+use Rattle.fb_types.proofs.Common.{◌&&◌, append_assoc, get_or, get_or-set_same, get_or-set_other, if◌then◌else◌, slice_set, cases_eq, eqb-true, ne_eqb, slice_get_within, slice_get-get_or, get_or_from_slice_get, message_key, port_of, carried_of, event_output, post, with_at, Target, Arrival}
 use Rattle.std.specs.Cmp.{first_so, second_so}
-use Rattle.std.proofs.lemmas.Bool.{cases_eq, eqb-true, eq-eqb, ne_eqb}
-use Rattle.std.proofs.lemmas.List.{length-set}
-use Rattle.std.proofs.lemmas.Option.{slice_get_within, slice_get-get_or, get_or_from_slice_get}
-use Rattle.fb_types.specs.Headline.{Inputs, system_of}
-use Rattle.fb_types.specs.Keys.{or_else, found, same_key, local_key, message_key}
-use Rattle.fb_types.specs.Numbers.{path_at, port_of, carried_of, event_input, event_output}
-use Rattle.fb_types.specs.Names.{Path}
+use Rattle.fb_types.specs.Numbers.{event_input}
 use Rattle.fb_types.specs.Reactions as reactions
 use Rattle.fb_types.specs.States as model
-use Rattle.fb_types.specs.Systems.{System}
-use Rattle.fb_types.specs.Takes.{Posts, post, post_all, with_at, is_timer_of}
-use Rattle.fb_types.specs.declared.key.Key.{Key}
-use Rattle.fb_types.specs.declared.run.Message.{Message}
-use Rattle.fb_types.specs.declared.run.Target.{Target}
 use Rattle.fb_types.proofs.lemmas.events.KeyLaws.{same_key_is}
 use Rattle.fb_types.proofs.lemmas.lists.TakeLaws.{found-put}
-use Rattle.fb_agenda.specs.Agendas.{Contents, waiting, IsTimed}
-use Rattle.fb_types.specs.declared.run.Event.{Event}
-use Rattle.fb_types.specs.declared.run.Event.TheVariants.{Arrival, Local}
+use Rattle.fb_agenda.specs.Agendas.{IsTimed}
+use Rattle.fb_types.specs.declared.run.Event.TheVariants.{Local}
 use Rattle.fb_net.specs.declared.effects.OutgoingMessage.{OutgoingMessage}
-use Rattle.fb_net.specs.Outs.{IsLocal, out_of}
-use Rattle.fb_net.specs.declared.effects.Out.{Out}
+use Rattle.fb_net.specs.Outs.{IsLocal}
 use Rattle.fb_net.specs.declared.effects.Out.TheVariants as outs
-use Rattle.fb_net.specs.Events.{event_of}
-use Rattle.fb_resource.specs.Posts.{ArePosted, CountsAre, IsMessage, IsPut, IsSendable, arriving, message_of}
+use Rattle.fb_resource.specs.Posts.{ArePosted, message_of}
 pub use Rattle.fb_link.proofs.lemmas.Lists.{next_of}
-use Rattle.fb_resource.specs.Waiting.{meaning, MayWait, AllMayWait, TimersAtHome, IsInOrder}
+use Rattle.fb_resource.specs.Waiting.{AllMayWait, TimersAtHome}
 
 pub timer_class : (r n : ℕ) (j : Key) → is_timer_of r n j ≡ true → j.class ≡ 1
 timer_class r n j h =

@@ -1,24 +1,8 @@
 -- Posting goes on after a step of it, of the same system and under the same key.
-use Rattle.std.proofs.Common.{◌≡◌, ◌+◌, ◌++◌, ◌∷◌, ◌<◌, ◌≤◌, ℕ, List, [], All, length, map, refl, sym, ap, subst, ◌∙◌, append-nil, arith}
-use Rattle.std.specs.Global.{Vec}
-use Rattle.std.proofs.lemmas.List.{length_push, map-append, nil_from_length}
-use Rattle.fb_types.specs.Headline.{Inputs, system_of}
-use Rattle.fb_types.specs.Systems.{System}
-use Rattle.fb_types.specs.Takes.{Posts, post_all}
-use Rattle.fb_types.specs.declared.key.Key.{Key}
-use Rattle.fb_types.specs.declared.run.Event.{Event}
-use Rattle.fb_types.specs.declared.run.Message.{Message}
-use Rattle.fb_types.specs.declared.run.TimerAsk.{TimerAsk}
-use Rattle.fb_types.specs.declared.run.TimerAsk.TheVariants.{Keep}
-use Rattle.fb_agenda.specs.Agendas.{Contents}
-use Rattle.fb_net.specs.Outs.{out_of}
-use Rattle.fb_net.specs.declared.effects.Out.{Out}
-use Rattle.fb_net.specs.declared.effects.Effects.{Effects}
-use Rattle.fb_system.specs.Lines.{BelongsTo}
-use Rattle.fb_resource.specs.Posts.{ArePosted, CountsAre, IsMessage, IsPostable, arriving}
+use Rattle.fb_resource.proofs.lemmas.Common.{◌≡◌, ◌+◌, ◌++◌, ◌∷◌, ◌<◌, ◌≤◌, ℕ, List, [], All, length, map, refl, sym, ap, subst, ◌∙◌, append-nil, arith, Vec, Inputs, system_of, System, Posts, post_all, Key, Message, TimerAsk, Keep, Event, Contents, out_of, Out, Effects, BelongsTo, CountsAre, IsMessage, IsPostable, arriving, AreReady, IsInOrder}
+use Rattle.fb_types.proofs.Common.{length_push, map-append, nil_from_length}
+use Rattle.fb_resource.specs.Posts.{ArePosted}
 use Rattle.fb_resource.specs.Postings.{HasGrown, HasPosted, HasSet, IsSame, MayPost, traffic_in, system_in}
-use Rattle.fb_resource.specs.Takings.{AreReady}
-use Rattle.fb_resource.specs.Waiting.{IsInOrder}
 use Rattle.fb_resource.specs.declared.posting.Posting.{Posting}
 use Rattle.fb_resource.proofs.lemmas.PostLaws.{post_all_then}
 

@@ -1,43 +1,21 @@
 -- What waits stays in order, and what a reaction puts out may be posted.
-use Rattle.std.proofs.Common.{◌≡◌, ℕ, suc, ◌+◌, ◌-◌, ◌^◌, ◌<◌, ◌≤◌, Bool, true, false, cond, List, [], ◌∷◌, length, map, refl, sym, ap, subst, ◌∙◌, Some, None, Result, Ok, Err, OnOk, All, arith}
-use Rattle.std.proofs.lemmas.Bool.{eq-eqb}
-use Rattle.std.proofs.lemmas.List.Elements.{All-nil, All-cons, All-head, All-tail}
-use Rattle.fb_types.specs.Headline.{Inputs, AreAccepted, system_of}
-use Rattle.fb_types.specs.Keys.{changed_to, same_key, timer_key}
-use Rattle.fb_types.specs.Limits.{IsWithinLimits}
-use Rattle.fb_types.specs.Machines.{Each}
-use Rattle.fb_types.specs.Numbers.{path_at, port_of}
-use Rattle.fb_types.specs.Reactions.{World}
+use Rattle.fb_resource.proofs.lemmas.Common.{◌≡◌, ℕ, suc, ◌+◌, ◌^◌, ◌<◌, ◌≤◌, Bool, true, false, cond, List, [], ◌∷◌, length, map, refl, sym, ap, subst, ◌∙◌, Some, None, All, arith, eq-eqb, Inputs, AreAccepted, system_of, changed_to, same_key, timer_key, path_at, path_of, System, is_timer_of, Key, TimerAsk, Keep, Contents, waiting, Event, out_of, Out, Effects, event_of, Forest, IsMetered, IsPostable, IsInOrder, MayWait, TickCounts}
+use Rattle.fb_types.proofs.Common.{◌-◌, Result, Ok, Err, OnOk, All-nil, All-cons, All-head, All-tail, IsWithinLimits, Each, port_of, World, Clear, At, Timer}
 use Rattle.fb_types.specs.Reactions as reactions
-use Rattle.fb_types.specs.States.{path_of}
-use Rattle.fb_types.specs.Systems.{System}
-use Rattle.fb_types.specs.Takes.{is_timer_of}
-use Rattle.fb_types.specs.declared.key.Key.{Key}
-use Rattle.fb_types.specs.declared.run.TimerAsk.{TimerAsk}
-use Rattle.fb_types.specs.declared.run.TimerAsk.TheVariants.{Keep, Clear, At}
 use Rattle.fb_types.proofs.lemmas.events.KeyLaws.{same_key_is}
 use Rattle.fb_laws.specs.Sound.{IsSound}
 use Rattle.fb_laws.proofs.lemmas.soundness.Accepting.{sound_of}
 use Rattle.fb_laws.proofs.lemmas.soundness.Outs.{GoodOutcome, IsGood, reacts_good}
 use Rattle.fb_laws.proofs.lemmas.takings.Timers as timers
-use Rattle.fb_agenda.specs.Agendas.{Contents, IsTimed, IsInResource, timer_set, waiting}
-use Rattle.fb_types.specs.declared.run.Event.{Event}
-use Rattle.fb_types.specs.declared.run.Event.TheVariants.{Timer}
-use Rattle.fb_net.specs.Outs.{IsOut, only_lines, out_of}
-use Rattle.fb_net.specs.declared.effects.Out.{Out}
+use Rattle.fb_agenda.specs.Agendas.{IsTimed, IsInResource, timer_set}
+use Rattle.fb_net.specs.Outs.{IsOut, only_lines}
 use Rattle.fb_net.specs.declared.effects.Out.TheVariants.{Local, Send}
-use Rattle.fb_net.specs.declared.effects.Effects.{Effects}
-use Rattle.fb_net.specs.Events.{CameTo, event_of}
+use Rattle.fb_net.specs.Events.{CameTo}
 use Rattle.fb_net.proofs.lemmas.taking.AskedTimers.{asked_first}
-use Rattle.fb_net.specs.declared.resource.Forest.{Forest}
 use Rattle.fb_laws.specs.Typed.{AreTyped, IsTypedEvent, IsTypedOut, KeepsTypes}
 use Rattle.fb_laws.proofs.lemmas.typing.Accepted.{accepted_typed}
 use Rattle.fb_laws.proofs.lemmas.typing.ReactionTypes.{reacts_typed}
-use Rattle.fb_resource.specs.Counts.{IsMetered}
-use Rattle.fb_resource.specs.Posts.{IsPostable}
 use Rattle.fb_resource.specs.Takings.{IsLater}
-use Rattle.fb_resource.specs.Waiting.{IsInOrder, MayWait}
-use Rattle.fb_resource.specs.declared.tick_counts.TickCounts.{TickCounts}
 use Rattle.fb_resource.proofs.lemmas.PostLaws.{port_path, timer_class, timer_instance, timer_resource}
 
 -- ---- Timers

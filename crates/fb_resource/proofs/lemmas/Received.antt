@@ -1,26 +1,14 @@
 -- A resource to which messages have come.
-use Rattle.std.proofs.Common.{◌≡◌, ℕ, Bool, true, false, cond, eqb, List, [], ◌∷◌, map, refl, sym, ap, subst, ◌∙◌, Option, Some, None, All, ◌⊎◌, ⊎_elim, arith}
-use Rattle.std.specs.Prelude.{option_map, is_some, slice_index, length}
-use Rattle.std.proofs.lemmas.List.Elements.{All-head, All-tail, All-weaker}
-use Rattle.std.proofs.lemmas.Bool.{cases_Bool, eq-eqb}
-use Rattle.fb_types.specs.Headline.{Inputs, system_of}
-use Rattle.fb_types.specs.Keys.{found, or_else, same_key, timer_key}
-use Rattle.fb_types.specs.Machines.{Local}
-use Rattle.fb_types.specs.Parts.{machine}
-use Rattle.fb_types.specs.declared.key.Key.{Key}
-use Rattle.fb_types.specs.declared.run.Message.{Message}
+use Rattle.fb_resource.proofs.lemmas.Common.{◌≡◌, ℕ, Bool, true, false, cond, eqb, List, [], ◌∷◌, map, refl, sym, ap, subst, ◌∙◌, Option, Some, None, All, ⊎_elim, arith, option_map, slice_index, length, eq-eqb, Inputs, system_of, found, or_else, same_key, timer_key, Local, machine, Key, Message, Contents, waiting, Event, event_of, arriving, IsInOrder, MayWait, meaning, IsOf, Represents}
+use Rattle.fb_types.proofs.Common.{◌⊎◌, is_some, All-head, All-tail, All-weaker, cases_Bool, Arrival}
 use Rattle.fb_types.proofs.lemmas.events.KeyLaws.{same_key_is}
 use Rattle.fb_types.proofs.lemmas.lists.Lookups.{none_since, or_else_some}
-use Rattle.fb_agenda.specs.Agendas.{Contents, waiting}
 use Rattle.fb_agenda.specs.Arrivals.{arrival_at, arrivals_at}
-use Rattle.fb_types.specs.declared.run.Event.{Event}
-use Rattle.fb_types.specs.declared.run.Event.TheVariants.{Arrival}
 use Rattle.fb_agenda.proofs.lemmas.MessagesPut.{arrival_class}
 use Rattle.fb_agenda.proofs.lemmas.Timers.{timer_class}
-use Rattle.fb_net.specs.Events.{event_of, IsEventIn}
-use Rattle.fb_resource.specs.Posts.{arriving, key_of, receiver_of}
-use Rattle.fb_resource.specs.Waiting.{IsInOrder, MayWait, meaning}
-use Rattle.fb_resource.specs.Resources.{HasReceived, IsFor, IsOf, Represents, with_messages}
+use Rattle.fb_net.specs.Events.{IsEventIn}
+use Rattle.fb_resource.specs.Posts.{key_of, receiver_of}
+use Rattle.fb_resource.specs.Resources.{HasReceived, IsFor, with_messages}
 use Rattle.fb_resource.specs.declared.resource.Resource.{Resource}
 
 -- ---- What is found among the messages

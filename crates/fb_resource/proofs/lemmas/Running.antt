@@ -1,32 +1,16 @@
 -- A run of a resource in code has the result of a run of what represents it.
-use Rattle.std.proofs.Common.{◌≡◌, ◌<◌, ◌≤◌, ℕ, List, [], map, Option, Some, None, refl, sym, ap, subst, ◌∙◌, arith}
-use Rattle.std.specs.Global.{Vec}
-use Rattle.std.specs.Prelude.{option_map, unwrap_or}
-use Rattle.fb_types.specs.Headline.{Inputs, system_of}
-use Rattle.fb_types.specs.Machines.{Item, Local, Run, TakesAlone, after, end}
-use Rattle.fb_types.specs.Numbers.{line_of}
-use Rattle.fb_types.specs.Parts.{count_of, machine, IsAtResource}
-use Rattle.fb_types.specs.States.{State}
+use Rattle.fb_resource.proofs.lemmas.Common.{◌≡◌, ◌<◌, ◌≤◌, ℕ, List, [], map, Option, Some, None, refl, sym, ap, subst, ◌∙◌, arith, Vec, option_map, unwrap_or, Inputs, system_of, Local, machine, State, Key, Message, Reason, Contents, waiting, Event, event_of, IsMetered, meter_of, arriving, AreReady, IsHere, IsTakenHere, Traffic, IsOf, Represents, TickCounts}
+use Rattle.fb_types.proofs.Common.{Item, Run, TakesAlone, end, line_of, count_of, IsAtResource, Line, StopMark}
+use Rattle.fb_types.specs.Machines.{after}
 use Rattle.fb_types.specs.States as model
-use Rattle.fb_types.specs.declared.key.Key.{Key}
-use Rattle.fb_types.specs.declared.run.Line.{Line}
-use Rattle.fb_types.specs.declared.run.Message.{Message}
-use Rattle.fb_types.specs.declared.run.StopMark.{StopMark}
-use Rattle.fb_types.specs.declared.value.Reason.{Reason}
 use Rattle.fb_types.proofs.lemmas.lists.Lookups.{none_some}
 use Rattle.fb_laws.specs.Sound.{IsSound}
-use Rattle.fb_agenda.specs.Agendas.{Contents, waiting}
-use Rattle.fb_types.specs.declared.run.Event.{Event}
-use Rattle.fb_net.specs.Events.{event_of}
-use Rattle.fb_resource.specs.Counts.{IsMetered, IsUnused, meter_of}
-use Rattle.fb_resource.specs.Posts.{arriving}
-use Rattle.fb_resource.specs.Takings.{AreReady, IsEmpty, IsHere, IsTakenHere}
-use Rattle.fb_resource.specs.declared.traffic.Traffic.{Traffic}
-use Rattle.fb_resource.specs.Resources.{HasRun, IsOf, RanTo, Represents, mark_of}
+use Rattle.fb_resource.specs.Counts.{IsUnused}
+use Rattle.fb_resource.specs.Takings.{IsEmpty}
+use Rattle.fb_resource.specs.Resources.{HasRun, RanTo, mark_of}
 use Rattle.fb_resource.specs.Runs.{ComesTo, HasEnded, IsRunning, Running, RepresentsRunning, at_rest, in_run, with_traffic}
 use Rattle.fb_resource.specs.declared.resource.Resource.{Resource}
 use Rattle.fb_resource.specs.declared.resource.WindowDone.TheVariants.{Ran}
-use Rattle.fb_resource.specs.declared.tick_counts.TickCounts.{TickCounts}
 use Rattle.fb_resource.proofs.lemmas.Begins.{ready_empty}
 use Rattle.fb_resource.proofs.lemmas.Comes.{come_more, come_rest, come_stop}
 use Rattle.fb_resource.proofs.lemmas.Lone.{ready_alike}

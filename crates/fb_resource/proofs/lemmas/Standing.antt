@@ -1,24 +1,13 @@
 -- What represents a resource takes the events that the resource takes.
-use Rattle.std.proofs.Common.{◌≡◌, ⊎_elim, ℕ, Bool, true, false, cond, Option, Some, None, refl, sym, ap, subst, ◌∙◌}
-use Rattle.std.specs.Prelude.{option_map}
-use Rattle.fb_types.specs.Headline.{Inputs, system_of}
-use Rattle.fb_types.specs.Keys.{Precedes, same_key, changed_to, without}
-use Rattle.fb_types.specs.Machines.{Item, Local, TakesAlone, after}
+use Rattle.fb_resource.proofs.lemmas.Common.{◌≡◌, ⊎_elim, ℕ, Bool, true, false, cond, Option, Some, None, refl, sym, ap, subst, ◌∙◌, option_map, Inputs, system_of, same_key, changed_to, Local, machine, State, Key, Reason, Contents, waiting, Event, event_of, IsHere, IsTakenHere, Traffic, meaning}
+use Rattle.fb_types.proofs.Common.{Precedes, without, Item, TakesAlone, part_of, IsAtResource, Effect, Takes}
+use Rattle.fb_types.specs.Machines.{after}
 use Rattle.fb_types.specs.Machines as machines
-use Rattle.fb_types.specs.Parts.{machine, part_of, outcome_of, IsAtResource}
-use Rattle.fb_types.specs.States.{State, Event as AnEvent}
-use Rattle.fb_types.specs.Takes.{Effect, Takes}
-use Rattle.fb_types.specs.declared.key.Key.{Key}
-use Rattle.fb_types.specs.declared.value.Reason.{Reason}
+use Rattle.fb_types.specs.Parts.{outcome_of}
+use Rattle.fb_types.specs.States.{Event as AnEvent}
 use Rattle.fb_types.proofs.lemmas.lists.Lookups.{edit_some}
 use Rattle.fb_laws.specs.Sound.{IsSound}
-use Rattle.fb_agenda.specs.Agendas.{Contents, waiting}
-use Rattle.fb_types.specs.declared.run.Event.{Event}
-use Rattle.fb_net.specs.Events.{event_of}
 use Rattle.fb_resource.specs.Runs.{Running, RepresentsRunning}
-use Rattle.fb_resource.specs.Takings.{IsHere, IsTakenHere}
-use Rattle.fb_resource.specs.declared.traffic.Traffic.{Traffic}
-use Rattle.fb_resource.specs.Waiting.{meaning}
 use Rattle.fb_resource.proofs.lemmas.Leaving.{Left, still}
 use Rattle.fb_laws.proofs.lemmas.takings.Effects.{takes_good}
 use Rattle.fb_laws.proofs.lemmas.resources.Takings.{ChangesOwn, IsParted, parted_after, waiting_after}

@@ -1,37 +1,18 @@
 -- An event is taken in its resource as the model takes it.
-use Rattle.std.proofs.Common.{◌≡◌, ℕ, suc, Bool, true, false, cond, List, [], map, refl, sym, ap, subst, ◌∙◌, ◌++◌, append-nil, Option, Some, None}
-use Rattle.std.specs.Prelude.{option_map}
-use Rattle.std.proofs.lemmas.Bool.{eq-eqb}
-use Rattle.fb_types.specs.Headline.{Inputs, system_of}
-use Rattle.fb_types.specs.Keys.{or_else, found, changed_to, no_keys, same_key, timer_key}
-use Rattle.fb_types.specs.Names.{Path}
-use Rattle.fb_types.specs.Numbers.{path_at, line_of}
-use Rattle.fb_types.specs.Reactions.{Out, Outcome, Reacts}
-use Rattle.fb_types.specs.States.{State, Meter, Event as AnEvent, Expired, path_of}
-use Rattle.fb_types.specs.Systems.{System}
-use Rattle.fb_types.specs.Takes.{Effect, Posts, Takes, TakesWith, agenda_after, begun, effect_of, is_timer_of, out_of_steps, post_all, posts_of, put_of, timer_change, with_at, world_of}
-use Rattle.fb_types.specs.declared.key.Key.{Key}
-use Rattle.fb_types.specs.declared.run.TimerAsk.{TimerAsk}
-use Rattle.fb_types.specs.declared.run.TimerAsk.TheVariants.{Keep, Clear, At}
-use Rattle.fb_types.specs.declared.value.Reason.{Reason}
+use Rattle.fb_resource.proofs.lemmas.Common.{◌≡◌, ℕ, suc, Bool, true, false, cond, List, [], map, refl, sym, ap, subst, ◌∙◌, ◌++◌, append-nil, Option, Some, None, option_map, eq-eqb, Inputs, system_of, or_else, found, changed_to, same_key, timer_key, Path, path_at, State, path_of, System, Posts, begun, is_timer_of, post_all, world_of, Key, TimerAsk, Keep, Reason, Contents, Event, out_of, Effects, event_of, Forest, meter_of, CountsAre, arriving, IsHere, IsTakenHere, Traffic, meaning}
+use Rattle.fb_types.proofs.Common.{line_of, Out, Outcome, Reacts, Meter, Expired, Effect, Takes, TakesWith, agenda_after, effect_of, out_of_steps, posts_of, put_of, timer_change, with_at, Clear, At, Timer}
+use Rattle.fb_types.specs.Keys.{no_keys}
+use Rattle.fb_types.specs.States.{Event as AnEvent}
 use Rattle.fb_types.specs.declared.value.Reason.TheVariants as reason
-use Rattle.fb_agenda.specs.Agendas.{Contents, timer_set}
-use Rattle.fb_types.specs.declared.run.Event.{Event}
-use Rattle.fb_types.specs.declared.run.Event.TheVariants.{Timer}
-use Rattle.fb_net.specs.Outs.{only_lines, out_of}
-use Rattle.fb_net.specs.declared.effects.Effects.{Effects}
-use Rattle.fb_net.specs.Events.{CameTo, event_of}
+use Rattle.fb_agenda.specs.Agendas.{timer_set}
+use Rattle.fb_net.specs.Outs.{only_lines}
+use Rattle.fb_net.specs.Events.{CameTo}
 use Rattle.fb_net.proofs.lemmas.taking.AskedTimers.{asked_first}
 use Rattle.fb_net.specs.Worlds.{IsForest}
-use Rattle.fb_net.specs.declared.resource.Forest.{Forest}
 use Rattle.fb_laws.specs.Typed.{IsTypedEvent, IsTypedSystem}
 use Rattle.fb_laws.proofs.lemmas.takings.Agendas.{holds_none}
 use Rattle.fb_laws.proofs.lemmas.typing.Simulated.{IsTypedConfig, takes-typed}
-use Rattle.fb_resource.specs.Counts.{meter_of}
-use Rattle.fb_resource.specs.Posts.{CountsAre, arriving}
-use Rattle.fb_resource.specs.Takings.{IsHere, IsSettled, IsTakenHere}
-use Rattle.fb_resource.specs.declared.traffic.Traffic.{Traffic}
-use Rattle.fb_resource.specs.Waiting.{meaning}
+use Rattle.fb_resource.specs.Takings.{IsSettled}
 use Rattle.fb_resource.specs.declared.tick_counts.TickCounts as counted
 use Rattle.fb_resource.proofs.lemmas.Meters.{alike_same}
 

@@ -1,7 +1,5 @@
 -- What is known of a row that was read.
-use Rattle.std.proofs.Common.{◌≡◌, ◌^◌, ◌≤◌, Bool, true, false, cond, refl, Result, Ok, Err, subst}
-use Rattle.std.proofs.lemmas.Bool.{leb-true}
-use Rattle.fb_types.specs.declared.deploy.Stimulus.{Stimulus}
+use Rattle.fb_types.proofs.Common.{◌≡◌, ◌^◌, ◌≤◌, Bool, true, false, cond, refl, Result, Ok, Err, subst, leb-true, Stimulus, nat_le, nat_lt}
 use Rattle.fb_inputs.specs.declared.location.RowFault as fault
 use Rattle.fb_inputs.specs.declared.location.RowFault.TheVariants.{Crowded, Fields, Late, Tick}
 use Rattle.fb_inputs.specs.Lists.{each_at}
@@ -10,7 +8,6 @@ use Rattle.fb_inputs.specs.Refusals.{and_then, or_refuse}
 use Rattle.fb_inputs.specs.Rows.{Row, draft, setting}
 use Rattle.fb_inputs.specs.Stimuli.{limited, most_rows, stimulus, three}
 use Rattle.fb_inputs.specs.StimuliLocations.{value_at}
-use Rattle.std.specs.Prelude.{nat_le, nat_lt}
 
 first_ok : {A B N : Type 0} (r : Result A N) (f : A → Result B N) (y : B) → and_then r f ≡ Ok y → (x : A) × (f x ≡ Ok y)
 first_ok (Ok x) f y h = (x, h)

@@ -1,8 +1,5 @@
 -- The blocks of a session that has not failed stand.
-use Rattle.std.proofs.Common.{◌≡◌, ℕ, Some, slice_get, sym, ◌∙◌, arith}
-use Rattle.fb_types.specs.Headline.{system_of}
-use Rattle.fb_types.specs.Numbers.{path_at}
-use Rattle.fb_types.specs.Takes.{world_of}
+use Rattle.fb_types.proofs.Common.{◌≡◌, ℕ, Some, slice_get, sym, ◌∙◌, arith, system_of, path_at, world_of}
 use Rattle.fb_laws.proofs.lemmas.lists.Indexes.{has_at, is_at}
 use Rattle.fb_net.specs.Worlds.{Stands}
 use Rattle.fb_net.specs.declared.resource.Forest.{Forest}

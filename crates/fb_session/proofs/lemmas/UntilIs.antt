@@ -1,14 +1,5 @@
 -- What comes of taking events up to a tick, a break or a stop.
-use Rattle.std.proofs.Common.{◌≡◌, ℕ, ◌+◌, ◌^◌, ◌<◌, ◌≤◌, Bool, List, ◌++◌, Option, Ok, refl, sym, subst, arith, append-nil}
-use Rattle.std.specs.Io.KnownBytes.{Appends}
-use Rattle.std.proofs.KnownBytes.{Appends-trans}
-use Rattle.std.proofs.lemmas.List.Elements.{All-append}
-use Rattle.fb_types.specs.Headline.{Inputs, IsTrace, system_of}
-use Rattle.fb_types.specs.Keys.{NoneBelow}
-use Rattle.fb_types.specs.Simulation.{AtHorizon, AtStop, Taken}
-use Rattle.fb_types.specs.States.{Config}
-use Rattle.fb_types.specs.Text.{last_line}
-use Rattle.fb_types.specs.declared.run.StopMark.{StopMark}
+use Rattle.fb_types.proofs.Common.{◌≡◌, ℕ, ◌+◌, ◌^◌, ◌<◌, ◌≤◌, Bool, List, ◌++◌, Option, Ok, refl, sym, subst, arith, append-nil, Appends, Appends-trans, All-append, Inputs, IsTrace, system_of, NoneBelow, AtHorizon, AtStop, Taken, Config, last_line, StopMark}
 use Rattle.fb_sim_machine.specs.Machines.{IsReady}
 use Rattle.fb_sim_machine.specs.declared.machine.Machine.{Machine}
 use Rattle.fb_session.specs.Going.{HasTaken, IsBeginning, Reaches}

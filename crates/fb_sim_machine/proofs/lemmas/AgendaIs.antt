@@ -1,15 +1,5 @@
 -- A run takes what the model takes, and ends.
-use Rattle.std.proofs.Common.{◌≡◌, ℕ, zero, suc, ◌<◌, ◌≤◌, List, [], ◌∷◌, ◌++◌, map, refl, sym, ap, subst, ◌∙◌, append-nil, Option, Some, None, arith}
-use Rattle.std.specs.Prelude.{option_map, slice_get, slice_set, unwrap_or}
-use Rattle.std.proofs.lemmas.List.Elements.{All-nil, All-cons}
-use Rattle.fb_types.specs.Headline.{Inputs, system_of}
-use Rattle.fb_types.specs.Keys.{Precedes, without}
-use Rattle.fb_types.specs.Numbers.{line_of}
-use Rattle.fb_types.specs.States.{Config}
-use Rattle.fb_types.specs.Simulation.{Taken, TakesLeast, NothingAfter, AtHorizon, RestsAt, after, ending_by}
-use Rattle.fb_types.specs.declared.key.Key.{Key}
-use Rattle.fb_types.specs.declared.run.Line.{Line}
-use Rattle.fb_types.specs.declared.value.Reason.{Reason}
+use Rattle.fb_types.proofs.Common.{◌≡◌, ℕ, zero, suc, ◌<◌, ◌≤◌, List, [], ◌∷◌, ◌++◌, map, refl, sym, ap, subst, ◌∙◌, append-nil, Option, Some, None, arith, option_map, slice_get, slice_set, unwrap_or, All-nil, All-cons, Inputs, system_of, Precedes, without, line_of, Config, Taken, TakesLeast, NothingAfter, AtHorizon, RestsAt, after, ending_by, Key, Line, Reason}
 use Rattle.fb_agenda.specs.Agendas.{Contents, waiting}
 use Rattle.fb_types.specs.declared.run.Event.{Event}
 use Rattle.fb_net.specs.Events.{event_of}

@@ -1,16 +1,8 @@
 -- Messages that go to the one agenda.
-use Rattle.std.proofs.Common.{◌≡◌, ◌∷◌, ◌++◌, ℕ, ◌<◌, ◌≤◌, ◌^◌, Bool, true, false, cond, List, [], length, map, refl, sym, ap, ◌∙◌, Option, Some, arith}
-use Rattle.std.proofs.lemmas.List.{length-map}
-use Rattle.fb_types.specs.Headline.{Inputs, AreAccepted, system_of}
-use Rattle.fb_types.specs.Keys.{or_else, found, same_key}
-use Rattle.fb_types.specs.Limits.{IsWithinLimits}
-use Rattle.fb_types.specs.Numbers.{path_at}
+use Rattle.fb_types.proofs.Common.{◌≡◌, ◌∷◌, ◌++◌, ℕ, ◌<◌, ◌≤◌, ◌^◌, Bool, true, false, cond, List, [], length, map, refl, sym, ap, ◌∙◌, Option, Some, arith, length-map, Inputs, AreAccepted, system_of, or_else, found, same_key, IsWithinLimits, path_at, Key, Message, Arrival}
 use Rattle.fb_types.specs.States as model
-use Rattle.fb_types.specs.declared.key.Key.{Key}
-use Rattle.fb_types.specs.declared.run.Message.{Message}
 use Rattle.fb_types.proofs.lemmas.lists.TakeLaws.{found-put}
 use Rattle.fb_agenda.specs.Agendas.{Contents}
-use Rattle.fb_types.specs.declared.run.Event.TheVariants.{Arrival}
 use Rattle.fb_net.specs.Events.{event_of}
 use Rattle.fb_resource.specs.Posts.{IsMessage, IsPut, arriving, key_of, receiver_of}
 use Rattle.fb_resource.specs.Waiting.{MayWait, meaning}

@@ -1,20 +1,8 @@
 -- A row that was given waits on the agenda of the machine.
-use Rattle.std.proofs.Common.{◌≡◌, ◌≢◌, ℕ, ◌<◌, ◌≤◌, Bool, true, false, cond, [], ◌∷◌, List, length, refl, sym, ap, subst, ◌∙◌, Option, Some, None, inl, inr}
-use Rattle.std.proofs.lemmas.List.Elements.{All-head}
-use Rattle.fb_types.specs.Accepted.{BadStimulus, IsGood}
-use Rattle.fb_types.specs.Blocks.{Bound}
-use Rattle.fb_types.specs.Headline.{Inputs, system_of}
-use Rattle.fb_types.specs.Keys.{or_else, same_key, stimulus_key, with_all}
-use Rattle.fb_types.specs.Names.{Port}
-use Rattle.fb_types.specs.Numbers.{path_at}
-use Rattle.fb_types.specs.Simulation.{stimulus_of}
-use Rattle.fb_types.specs.States.{Agenda, State, Stimulated}
+use Rattle.fb_types.proofs.Common.{◌≡◌, ◌≢◌, ℕ, ◌<◌, ◌≤◌, Bool, true, false, cond, [], ◌∷◌, List, length, refl, sym, ap, subst, ◌∙◌, Option, Some, None, inl, inr, All-head, BadStimulus, IsGood, Bound, Inputs, system_of, or_else, same_key, stimulus_key, Port, path_at, stimulus_of, Agenda, State, Stimulated, Stimulus, Key, Library, Given}
+use Rattle.fb_types.specs.Keys.{with_all}
 use Rattle.fb_types.specs.States as model
-use Rattle.fb_types.specs.declared.deploy.Stimulus.{Stimulus}
-use Rattle.fb_types.specs.declared.key.Key.{Key}
-use Rattle.fb_types.specs.declared.library.Library.{Library}
 use Rattle.fb_types.specs.declared.run.Event.{Event}
-use Rattle.fb_types.specs.declared.run.Event.TheVariants.{Given}
 use Rattle.fb_types.specs.declared.run.GivenRow.{GivenRow}
 use Rattle.fb_agenda.specs.Agendas.{Contents, IsPut}
 use Rattle.fb_types.proofs.lemmas.lists.Elements.{Contains-cons_cases, Contains-nil}

@@ -1,13 +1,5 @@
 -- The local event that a taking put out alone, which is in `Least` and on no agenda.
-use Rattle.std.proofs.Common.{◌≡◌, ℕ, Bool, true, [], map, sym, ap, subst, ◌∙◌}
-use Rattle.std.specs.Global.{Vec}
-use Rattle.std.specs.Bool.{OnTrue}
-use Rattle.std.specs.Prelude.{option_map}
-use Rattle.fb_types.specs.Headline.{Inputs}
-use Rattle.fb_types.specs.Keys.{found, or_else}
-use Rattle.fb_types.specs.States.{Agenda, State}
-use Rattle.fb_types.specs.declared.key.Key.{Key}
-use Rattle.fb_types.specs.declared.run.Message.{Message}
+use Rattle.fb_types.proofs.Common.{◌≡◌, ℕ, Bool, true, [], map, sym, ap, subst, ◌∙◌, Vec, OnTrue, option_map, Inputs, found, or_else, Agenda, State, Key, Message}
 use Rattle.fb_agenda.specs.Agendas.{Contents, waiting}
 use Rattle.fb_net.specs.Events.{event_of}
 use Rattle.fb_resource.specs.Posts.{arriving}

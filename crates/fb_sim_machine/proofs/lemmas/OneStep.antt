@@ -1,12 +1,5 @@
 -- One event was taken.
-use Rattle.std.proofs.Common.{◌≡◌, ℕ, [], ◌∷◌, ◌++◌, map, refl, sym, ap, ◌∙◌, append-nil, Option, Some, None}
-use Rattle.fb_types.specs.Headline.{Inputs, system_of}
-use Rattle.fb_types.specs.Keys.{Precedes}
-use Rattle.fb_types.specs.Numbers.{line_of}
-use Rattle.fb_types.specs.Simulation.{NothingAfter}
-use Rattle.fb_types.specs.States.{Config}
-use Rattle.fb_types.specs.declared.key.Key.{Key}
-use Rattle.fb_types.specs.declared.value.Reason.{Reason}
+use Rattle.fb_types.proofs.Common.{◌≡◌, ℕ, [], ◌∷◌, ◌++◌, map, refl, sym, ap, ◌∙◌, append-nil, Option, Some, None, Inputs, system_of, Precedes, line_of, NothingAfter, Config, Key, Reason}
 use Rattle.fb_agenda.specs.Agendas.{Contents, waiting}
 use Rattle.fb_types.specs.declared.run.Event.{Event}
 use Rattle.fb_net.specs.Events.{event_of}

@@ -1,10 +1,7 @@
 -- What a run begins with.
-use Rattle.std.proofs.Common.{◌≡◌, ℕ, ◌+◌, ◌≤◌, List, [], ◌∷◌, ◌++◌, length, length-append, replicate, sym, ap, subst, ◌∙◌, Some, None, arith}
-use Rattle.std.specs.Prelude.{slice_get, unwrap_or}
+use Rattle.fb_types.proofs.Common.{◌≡◌, ℕ, ◌+◌, ◌≤◌, List, [], ◌∷◌, ◌++◌, length, length-append, replicate, sym, ap, subst, ◌∙◌, Some, None, arith, slice_get, unwrap_or, Inputs, AreAccepted, system_of, stimuli_of, opening_state, world_of}
 use Rattle.std.proofs.lemmas.List.{length-replicate}
-use Rattle.fb_types.specs.Headline.{Inputs, AreAccepted, system_of, stimuli_of}
-use Rattle.fb_types.specs.Simulation.{opening_state, opening_agenda}
-use Rattle.fb_types.specs.Takes.{world_of}
+use Rattle.fb_types.specs.Simulation.{opening_agenda}
 use Rattle.fb_net.specs.Worlds.{IsForest}
 use Rattle.fb_net.specs.declared.resource.Forest.{Forest}
 use Rattle.fb_resource.specs.Counts.{IsMetered}

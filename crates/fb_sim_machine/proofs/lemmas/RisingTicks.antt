@@ -1,8 +1,5 @@
 -- Ticks at which events may be taken, from one event to the next.
-use Rattle.std.proofs.Common.{◌≡◌, ℕ, ◌≤◌, List, [], ◌∷◌, ◌++◌, Some, arith}
-use Rattle.std.proofs.lemmas.List.Elements.{All-nil, All-push}
-use Rattle.fb_types.specs.Headline.{Inputs}
-use Rattle.fb_types.specs.Simulation.{Taken}
+use Rattle.fb_types.proofs.Common.{◌≡◌, ℕ, ◌≤◌, List, [], ◌∷◌, ◌++◌, Some, arith, All-nil, All-push, Inputs, Taken}
 use Rattle.fb_types.specs.declared.run.Event.{Event}
 use Rattle.fb_agenda.specs.Agendas.{waiting}
 use Rattle.fb_sim_machine.specs.Machines.{IsReady}

@@ -1,17 +1,6 @@
 -- The machine takes an event as the model does.
-use Rattle.std.proofs.Common.{◌≡◌, ◌≢◌, ℕ, zero, suc, ◌<◌, ⊎_elim, Bool, true, false, cond, [], ◌++◌, length, map, refl, sym, ap, subst, ◌∙◌, Option, Some}
-use Rattle.std.specs.Prelude.{slice_get, slice_set}
-use Rattle.std.proofs.lemmas.Bool.{cases_eq, ne_eqb}
-use Rattle.fb_types.specs.Names.{Path, same_path}
-use Rattle.fb_types.specs.Headline.{Inputs, system_of}
-use Rattle.fb_types.specs.Keys.{or_else, found, without, changed_to}
-use Rattle.fb_types.specs.Numbers.{path_at, line_of}
-use Rattle.fb_types.specs.Reactions.{World}
-use Rattle.fb_types.specs.States.{State, Meter, Agenda, Event as AnEvent, path_of}
-use Rattle.fb_types.specs.Systems.{System}
-use Rattle.fb_types.specs.Takes.{Effect, Takes, TakesWith, begun, with_at, world_of}
-use Rattle.fb_types.specs.declared.key.Key.{Key}
-use Rattle.fb_types.specs.declared.value.Reason.{Reason}
+use Rattle.fb_types.proofs.Common.{◌≡◌, ◌≢◌, ℕ, zero, suc, ◌<◌, ⊎_elim, Bool, true, false, cond, [], ◌++◌, length, map, refl, sym, ap, subst, ◌∙◌, Option, Some, slice_get, slice_set, cases_eq, ne_eqb, Path, same_path, Inputs, system_of, or_else, found, without, changed_to, path_at, line_of, World, State, Meter, Agenda, path_of, System, Effect, Takes, TakesWith, begun, with_at, world_of, Key, Reason}
+use Rattle.fb_types.specs.States.{Event as AnEvent}
 use Rattle.fb_types.proofs.lemmas.names.PathLaws.{same_path_is}
 use Rattle.fb_laws.proofs.lemmas.takings.OneBlockChanges.{reacts_stays}
 use Rattle.fb_system.specs.Ports.{variable_of}

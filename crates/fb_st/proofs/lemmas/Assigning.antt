@@ -1,25 +1,16 @@
 -- Assignments to the variable of a slot.
-use Rattle.std.proofs.Common.{◌≡◌, ℕ, ℤ, suc, ◌<◌, ◌&&◌, Bool, true, false, length, List, [], ◌∷◌, zero, map, Option, Some, None, Ok, Err, refl, sym, ◌∙◌, ap, subst, arith}
-use Rattle.std.specs.Prelude.{slice_get, slice_set, int_le, pos, ◌≤ℤ◌, ◌+ℤ◌}
+use Rattle.fb_st.proofs.lemmas.Common.{◌≡◌, ℕ, ℤ, suc, ◌<◌, ◌&&◌, Bool, true, false, length, List, [], ◌∷◌, zero, map, Option, Some, None, Ok, Err, refl, sym, ◌∙◌, ap, subst, arith, slice_get, slice_set, int_le, pos, ◌+ℤ◌, false≢true, ints, Name, with_value, Twice, Assign, Types, Values, value_of, fits, whole, End, Advances, passed, Went, Left, Stopped, Runs, Ty, Value, Reason, Expr, Declared, types_in, word_at, values_at, value_of_word, name_at, ty_or, is_within_type, is_truth_type}
+use Rattle.fb_types.proofs.Common.{Ends, Either, Assigns}
+use Rattle.std.specs.Prelude.{◌≤ℤ◌}
 use mir.Syntax.{w64}
 use mir.Val.{SFits}
-use Rattle.std.proofs.lemmas.Bool.{false≢true}
-use Rattle.std.proofs.lemmas.Int.{ints}
-use Rattle.fb_types.specs.Names.{Name, with_value}
-use Rattle.fb_types.specs.Repeated.{Twice}
-use Rattle.fb_types.specs.Syntax.{Expr, Assign}
-use Rattle.fb_types.specs.Values.{Types, Values, value_of, fits, same_whole, whole}
-use Rattle.fb_types.specs.Bodies.{End, Ends, Either, Assigns, Advances, passed, Went, Left, Stopped, Runs}
-use Rattle.fb_types.specs.declared.value.Ty.{Ty}
+use Rattle.fb_types.specs.Values.{same_whole}
 use Rattle.fb_types.specs.declared.value.Ty.TheVariants as ty
-use Rattle.fb_types.specs.declared.value.Value.{Value}
 use Rattle.fb_types.specs.declared.value.Value.TheVariants as value
-use Rattle.fb_types.specs.declared.value.Reason.{Reason}
 use Rattle.fb_types.specs.declared.value.Reason.TheVariants as reason
-use Rattle.fb_st.specs.Frames.{Declared, types_in}
 use Rattle.fb_st.specs.Variables.{least_of, most_of}
-use Rattle.fb_st.specs.Compiled.{unsigned_of, truth_of_word, word_at}
-use Rattle.fb_st.specs.Fitting.{values_at, value_of_word, name_at, ty_at, ty_or, is_long_type, is_within_type, is_truth_type}
+use Rattle.fb_st.specs.Compiled.{unsigned_of, truth_of_word}
+use Rattle.fb_st.specs.Fitting.{ty_at, is_long_type}
 use Rattle.fb_st.proofs.lemmas.Comes.{both_true}
 use Rattle.fb_st.proofs.lemmas.Ranges.{between}
 use Rattle.fb_st.proofs.lemmas.Runs.{assigns, assigns_not}

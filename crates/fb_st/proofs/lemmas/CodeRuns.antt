@@ -1,27 +1,15 @@
 -- Runs of compiled statements and iterations, put together from their parts. The layout stays, so all is said of one list of variables.
-use Rattle.std.proofs.Common.{◌≡◌, ℕ, ℤ, suc, ◌+◌, ◌<◌, ◌&&◌, rules, Bool, true, false, List, drop, length, get_or, map, Option, Some, None, Result, Ok, Err, refl, sym, ◌∙◌, ap, subst}
-use Rattle.std.specs.Prelude.{slice_get, slice_set}
-use Rattle.std.proofs.lemmas.Bool.{false≢true}
-use Rattle.fb_types.specs.Names.{with_value}
-use Rattle.fb_types.specs.Repeated.{Twice}
-use Rattle.fb_types.specs.Syntax.{Expr, Stmt, Stmts, Branches, Assign, If, Case, For, While, Repeat}
-use Rattle.fb_types.specs.Values.{Types, Values, truth_of, value_of, whole}
-use Rattle.fb_types.specs.Bodies.{Point, End, Went, Stopped, Running, After, Runs, RunsAll, RunsChoice, RunsBranch, label_fits}
-use Rattle.fb_types.specs.declared.text.Label.{Label}
-use Rattle.fb_types.specs.declared.value.Reason.{Reason}
-use Rattle.fb_types.specs.declared.value.Value.{Value}
+use Rattle.fb_st.proofs.lemmas.Common.{◌≡◌, ℕ, ℤ, suc, ◌+◌, ◌<◌, ◌&&◌, rules, Bool, true, false, List, drop, length, get_or, map, Option, Some, None, Result, Ok, Err, refl, sym, ◌∙◌, ap, subst, slice_get, slice_set, false≢true, with_value, Twice, Stmt, Stmts, Assign, If, Case, For, While, Repeat, Types, Values, truth_of, value_of, whole, Point, End, Went, Stopped, Running, Runs, RunsAll, RunsChoice, RunsBranch, Label, Reason, Value, Expr, Declared, CountExpr, TruthExpr, CompiledStmt, CompiledChoice, number_said, truth_said, fits_truth, fits_number, spot, values_at, name_at, codes_said, expr_of_number, expr_of_truth, value_of_word, kinds_truth, kinds_number, right_truth, right_number, is_within_type, code_right, codes_right, arm_right}
+use Rattle.fb_types.proofs.Common.{Branches, After, label_fits}
 use Rattle.fb_types.specs.declared.value.Value.TheVariants as value
-use Rattle.fb_st.specs.Frames.{Declared}
 use Rattle.fb_st.specs.declared.meter.Meter.{Meter}
-use Rattle.fb_st.specs.declared.compiled.CountExpr.{CountExpr}
 use Rattle.fb_st.specs.declared.compiled.NumberExpr.{NumberExpr}
-use Rattle.fb_st.specs.declared.compiled.TruthExpr.{TruthExpr}
-use Rattle.fb_st.specs.declared.compiled.CompiledStmt.{CompiledStmt, fold-roll-CompiledStmt}
+use Rattle.fb_st.specs.declared.compiled.CompiledStmt.{fold-roll-CompiledStmt}
 use Rattle.fb_st.specs.declared.compiled.CompiledStmt.TheVariants as variants
-use Rattle.fb_st.specs.declared.compiled.CompiledChoice.{CompiledChoice, out-CompiledChoice, fold_out-CompiledChoice}
+use Rattle.fb_st.specs.declared.compiled.CompiledChoice.{out-CompiledChoice, fold_out-CompiledChoice}
 use Rattle.fb_st.specs.declared.compiled.CompiledBranch.{CompiledBranch, out-CompiledBranch, fold_out-CompiledBranch}
-use Rattle.fb_st.specs.Compiled.{number_said, truth_said, truth_at, fits_truth, fits_number}
-use Rattle.fb_st.specs.Fitting.{spot, values_at, name_at, all_right, code_said, codes_said, arm_said, arms_said, fork_said, forks_said, expr_of_number, expr_of_truth, value_of_word, kinds_truth, kinds_number, right_truth, right_number, is_within_type, count_right, code_right, codes_right, arm_right, forks_right}
+use Rattle.fb_st.specs.Compiled.{truth_at}
+use Rattle.fb_st.specs.Fitting.{all_right, code_said, arm_said, arms_said, fork_said, forks_said, count_right, forks_right}
 use Rattle.fb_st.proofs.lemmas.Comes.{both_true, condition_comes}
 use Rattle.fb_st.proofs.lemmas.Runs.{Leads, cut_at, written}
 use Rattle.fb_st.proofs.lemmas.Words.{word_written}

@@ -1,19 +1,13 @@
 -- A compiled expression has the value of its text.
-use Rattle.std.proofs.Common.{◌≡◌, ℕ, ℤ, ◌&&◌, Bool, true, false, length, List, [], ◌∷◌, map, Option, Some, None, Result, Ok, Err, refl, sym, ◌∙◌, ap}
-use Rattle.std.specs.Prelude.{slice_get, if◌then◌else◌, codes, pos, neg_ℤ, int_div, ◌+ℤ◌, ◌-ℤ◌, ◌*ℤ◌, not}
+use Rattle.fb_types.proofs.Common.{◌≡◌, ℕ, ℤ, ◌&&◌, Bool, true, false, length, List, [], ◌∷◌, map, Option, Some, None, Result, Ok, Err, refl, sym, ◌∙◌, ap, slice_get, if◌then◌else◌, codes, pos, neg_ℤ, ◌+ℤ◌, ◌-ℤ◌, not, false≢true, Values, value_of, and_then, binary_value, unary_value, value_if_known, function_named, truth, whole, truth_of, BinaryOperator, Ty, Value, Reason, Twice}
+use Rattle.std.specs.Prelude.{int_div, ◌*ℤ◌}
 use Rattle.std.specs.Int.{int_min, int_max}
-use Rattle.std.proofs.lemmas.Bool.{false≢true}
-use Rattle.fb_types.specs.Values.{Values, value_of, and_then, judged, absolute, binary_value, unary_value, within_signed, value_if_known, function_named, truth, whole, truth_of, same_whole}
+use Rattle.fb_types.specs.Values.{judged, absolute, within_signed, same_whole}
 use Rattle.fb_types.specs.declared.text.UnaryOperator.TheVariants as unary
-use Rattle.fb_types.specs.declared.text.BinaryOperator.{BinaryOperator}
 use Rattle.fb_types.specs.declared.text.BinaryOperator.TheVariants.{Or, Xor, And, Equal, NotEqual, Less, Greater, LessOrEqual, GreaterOrEqual, Add, Subtract, Multiply, Divide, Modulo}
-use Rattle.fb_types.specs.declared.value.Ty.{Ty}
 use Rattle.fb_types.specs.declared.value.Ty.TheVariants as ty
-use Rattle.fb_types.specs.declared.value.Value.{Value}
 use Rattle.fb_types.specs.declared.value.Value.TheVariants as value
-use Rattle.fb_types.specs.declared.value.Reason.{Reason}
 use Rattle.fb_types.specs.declared.value.Reason.TheVariants as reason
-use Rattle.fb_types.specs.Repeated.{Twice}
 use Rattle.fb_st.specs.Required.{wholes, as_whole, as_bool, gives_number}
 use Rattle.fb_st.specs.Frames.{Declared}
 use Rattle.fb_st.specs.Compiled.{Number, Constant, Slot, UnsignedSlot, Binary, Negated, Magnitude, Lesser, Larger, Limited, Chosen, Truth, Known, TruthSlot, Compared, Joined, Not, TruthChosen, number_at, truth_at, two_numbers, two_compared, two_truths, with_two, chosen, is_comparison, is_joint, compared_by, joined_by, word_at, unsigned_of, truth_of_word}

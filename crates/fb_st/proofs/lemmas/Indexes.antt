@@ -1,12 +1,6 @@
 -- The first index at which a name is.
-use Rattle.std.proofs.Common.{◌≡◌, ℕ, zero, suc, ◌+◌, Bool, true, false, cond, not, List, [], ◌∷◌, length, map, Some, None, Contains, refl, sym, ◌∙◌, ap, subst, inl, inr, arith}
-use Rattle.std.specs.Prelude.{position, slice_get, option_map, option_and_then, nat_lt}
+use Rattle.fb_types.proofs.Common.{◌≡◌, ℕ, zero, suc, ◌+◌, Bool, true, false, cond, not, List, [], ◌∷◌, length, map, Some, None, Contains, refl, sym, ◌∙◌, ap, subst, inl, inr, arith, position, slice_get, option_map, option_and_then, nat_lt, nat_tests, false_from_ne_true, Name, same_name, named, Twice}
 use Rattle.std.specs.List.{prefix_len}
-use Rattle.std.proofs.lemmas.Bool.Decides.{nat_tests}
-use Rattle.std.proofs.lemmas.Bool.{false_from_ne_true}
-use Rattle.fb_types.specs.Names.{Name, same_name}
-use Rattle.fb_types.specs.Blocks.{named}
-use Rattle.fb_types.specs.Repeated.{Twice}
 use Rattle.fb_types.proofs.lemmas.lists.Positions.{position-first, slice_get-Contains}
 use Rattle.fb_types.proofs.lemmas.names.NameLaws.{same_from_same_name, same_name-flip}
 

@@ -1,20 +1,10 @@
 -- What a list of variables shows, after a read, a write and a push.
-use Rattle.std.proofs.Common.{◌≡◌, ℕ, ℤ, zero, suc, ◌<◌, ◌||◌, Bool, true, cond, length, List, [], ◌∷◌, ◌++◌, set, map, take, Option, Some, None, refl, sym, ◌∙◌, ap, subst, arith}
-use Rattle.std.specs.Prelude.{slice_get, is_none, is_some, not, unwrap_or, option_map, position}
-use Rattle.std.specs.List.{list_any}
-use Rattle.std.proofs.lemmas.Bool.{false≢true, true≢false}
-use Rattle.fb_types.specs.Names.{Name, same_name}
-use Rattle.fb_types.specs.Repeated.{Twice}
-use Rattle.fb_types.specs.Bodies.{End, Running}
-use Rattle.fb_types.specs.declared.value.Value.{Value}
-use Rattle.fb_st.specs.Compiled.{word_at}
-use Rattle.fb_st.specs.Flows.{point}
-use Rattle.fb_st.specs.Frames.{Declared, declared_in, index_of, names_of}
+use Rattle.fb_st.proofs.lemmas.Common.{◌≡◌, ℕ, ℤ, zero, suc, ◌<◌, ◌||◌, Bool, true, cond, length, List, [], ◌∷◌, ◌++◌, set, map, take, Option, Some, None, refl, sym, ◌∙◌, ap, subst, arith, slice_get, not, list_any, false≢true, true≢false, Name, same_name, Twice, End, Running, Value, word_at, point, Declared, declared_in, index_of, names_of, value_of_word, Slot, Kept}
+use Rattle.fb_types.proofs.Common.{is_some, unwrap_or, option_map, position}
+use Rattle.std.specs.Prelude.{is_none}
 use Rattle.fb_st.specs.Kept.{all_plain, kept_as, shown}
-use Rattle.fb_st.specs.Fitting.{held, value_of_word}
-use Rattle.fb_st.specs.declared.frame.Slot.{Slot}
+use Rattle.fb_st.specs.Fitting.{held}
 use Rattle.fb_st.specs.declared.meter.Meter.{Meter}
-use Rattle.fb_st.specs.declared.slot_list.Kept.{Kept}
 use Rattle.fb_st.proofs.lemmas.Comes.{both_true}
 use Rattle.fb_st.proofs.lemmas.Indexes.{index_of_once, position-cons}
 use Rattle.fb_st.proofs.lemmas.Making.{both}

@@ -1,25 +1,16 @@
 -- Compiled statements say what their texts say.
-use Rattle.std.proofs.Common.{◌≡◌, ℕ, ℤ, zero, suc, ◌+◌, ◌<◌, ◌≤◌, ◌&&◌, Bool, true, false, length, take, get_or, List, [], ◌∷◌, ◌++◌, map, refl, sym, ◌∙◌, ap, subst, rules, arith}
-use Rattle.std.specs.Prelude.{slice_get}
-use Rattle.std.proofs.lemmas.Bool.{true≢false}
-use Rattle.fb_types.specs.Names.{Name}
+use Rattle.fb_st.proofs.lemmas.Common.{◌≡◌, ℕ, ℤ, zero, suc, ◌+◌, ◌<◌, ◌≤◌, ◌&&◌, Bool, true, false, length, take, get_or, List, [], ◌∷◌, ◌++◌, map, refl, sym, ◌∙◌, ap, subst, rules, arith, slice_get, true≢false, Name, Label, Ty, Declared, CountExpr, TruthExpr, CompiledStmt, CompiledChoice, number_said, truth_said, arm_right, code_right, codes_right, is_truth_type, is_within_type, name_at, right_number, right_truth, ty_or, SaysAll, SaysTruth}
 use Rattle.fb_types.specs.Syntax as syntax
-use Rattle.fb_types.specs.declared.text.Label.{Label}
-use Rattle.fb_types.specs.declared.value.Ty.{Ty}
 use Rattle.fb_types.specs.declared.value.Ty.TheVariants as ty
 use Rattle.fb_types.proofs.lemmas.lists.LoopSteps.{map_take_more}
-use Rattle.fb_st.specs.Frames.{Declared}
 use Rattle.fb_st.specs.Variables.{least_of, most_of}
-use Rattle.fb_st.specs.declared.compiled.CountExpr.{CountExpr}
 use Rattle.fb_st.specs.declared.compiled.NumberExpr.{NumberExpr}
-use Rattle.fb_st.specs.declared.compiled.TruthExpr.{TruthExpr}
-use Rattle.fb_st.specs.declared.compiled.CompiledStmt.{CompiledStmt, fold-roll-CompiledStmt}
+use Rattle.fb_st.specs.declared.compiled.CompiledStmt.{fold-roll-CompiledStmt}
 use Rattle.fb_st.specs.declared.compiled.CompiledStmt.TheVariants as variants
-use Rattle.fb_st.specs.declared.compiled.CompiledChoice.{CompiledChoice, out-CompiledChoice, fold_out-CompiledChoice}
+use Rattle.fb_st.specs.declared.compiled.CompiledChoice.{out-CompiledChoice, fold_out-CompiledChoice}
 use Rattle.fb_st.specs.declared.compiled.CompiledBranch.{CompiledBranch, out-CompiledBranch, fold_out-CompiledBranch}
-use Rattle.fb_st.specs.Compiled.{number_said, truth_said}
-use Rattle.fb_st.specs.Fitting.{all_right, arm_right, arm_said, arms_right, code_right, codes_right, count_right, fork_right, fork_said, forks_right, is_long, is_long_type, is_truth, is_truth_type, is_within, is_within_type, name_at, right_number, right_truth, ty_at, ty_or}
-use Rattle.fb_st.specs.Made.{SaysAll, SaysBranches, SaysChoices, SaysCount, SaysNumber, SaysStmt, SaysTruth}
+use Rattle.fb_st.specs.Fitting.{all_right, arm_said, arms_right, count_right, fork_right, fork_said, forks_right, is_long, is_long_type, is_truth, is_within, ty_at}
+use Rattle.fb_st.specs.Made.{SaysBranches, SaysChoices, SaysCount, SaysNumber, SaysStmt}
 use Rattle.fb_st.proofs.lemmas.Comes.{both_true}
 use Rattle.fb_st.proofs.lemmas.Assigning.{there}
 use Rattle.fb_st.proofs.lemmas.CodeRuns.{arm_says, case_says, fork_says, for_says, if_says, long_says, repeat_says, truth_says, while_says, within_says}

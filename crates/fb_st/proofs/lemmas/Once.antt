@@ -1,9 +1,6 @@
 -- A name that is new, after names that differ.
-use Rattle.std.proofs.Common.{◌≡◌, ◌||◌, List, [], ◌∷◌, refl, ap}
-use Rattle.std.specs.List.{list_any}
-use Rattle.fb_types.specs.Names.{Name, same_name}
-use Rattle.fb_st.specs.declared.frame.Slot.{Slot}
-use Rattle.fb_st.specs.Frames.{declared_in, is_declared}
+use Rattle.fb_st.proofs.lemmas.Common.{◌≡◌, ◌||◌, List, [], ◌∷◌, refl, ap, list_any, Name, same_name, Slot, declared_in}
+use Rattle.fb_st.specs.Frames.{is_declared}
 
 pub tested : (slots : List Slot) (n : Name) → is_declared (declared_in slots) n ≡ list_any (λ s. same_name n s.name) slots
 tested [] n = refl

@@ -1,29 +1,18 @@
 -- Runs of statements and iterations, put together from their parts.
-use Rattle.std.proofs.Common.{◌≡◌, ℕ, ℤ, zero, suc, ◌+◌, ◌<◌, ◌≤◌, arith, Bool, true, false, cond, not, ◌&&◌, ◌||◌, List, [], ◌∷◌, Option, drop, length, get_or, Result, Ok, Err, refl, sym, ◌∙◌, ap, subst, add-one, rules}
-use Rattle.std.specs.Prelude.{int_le}
-use Rattle.std.specs.List.{list_any}
-use Rattle.std.proofs.Math.Seq.{drop-cons}
-use Rattle.fb_types.specs.Names.{Name, with_value}
-use Rattle.fb_types.specs.Syntax.{Expr, Stmt, Assign, If, Case, For, While, Repeat, Stmts, Branches, expr_of, step_of, stmt_of}
-use Rattle.fb_types.specs.Values.{Values, Types, truth_of, and_then, value_of, whole, fits}
-use Rattle.fb_types.specs.Bodies.{Point, End, Went, Left, Returned, Stopped, Running, After, Then, Step, TurnThen, Loop, Runs, RunsAll, RunsChoice, RunsBranch, Assigns, Advances, Counts, label_fits}
-use Rattle.fb_types.specs.declared.text.Label.{Label}
+use Rattle.fb_st.proofs.lemmas.Common.{◌≡◌, ℕ, ℤ, zero, suc, ◌+◌, ◌<◌, ◌≤◌, arith, Bool, true, false, cond, not, ◌&&◌, ◌||◌, List, [], ◌∷◌, Option, drop, length, get_or, Result, Ok, Err, refl, sym, ◌∙◌, ap, subst, rules, int_le, list_any, Name, with_value, Stmt, Assign, If, Case, For, While, Repeat, Stmts, expr_of, step_of, stmt_of, Values, Types, truth_of, and_then, value_of, whole, fits, Point, End, Went, Left, Stopped, Running, Step, Runs, RunsAll, RunsChoice, RunsBranch, Advances, Label, Choice, Branch, Value, Reason, Expr, Declared, declared_in, types_in, values_of, end_of, point, all_of, choices_of, branches_of, choice_of, branch_of, Slot, AllKnown, ChoicesKnown, BranchesKnown}
+use Rattle.fb_types.proofs.Common.{add-one, drop-cons, Branches, Returned, After, Then, TurnThen, Loop, Assigns, label_fits, out-Choice, out-Branch}
+use Rattle.fb_types.specs.Bodies.{Counts}
 use Rattle.fb_types.specs.declared.text.Expr as expr
 use Rattle.fb_types.specs.declared.text.Stmt as read
 use Rattle.fb_types.specs.declared.text.Stmt.{fold-roll-Stmt}
 use Rattle.fb_types.specs.declared.text.Stmt.TheVariants as variants
-use Rattle.fb_types.specs.declared.text.Choice.{Choice, out-Choice, fold_out-Choice}
-use Rattle.fb_types.specs.declared.text.Branch.{Branch, out-Branch, fold_out-Branch}
-use Rattle.fb_types.specs.declared.value.Value.{Value}
-use Rattle.fb_types.specs.declared.value.Reason.{Reason}
+use Rattle.fb_types.specs.declared.text.Choice.{fold_out-Choice}
+use Rattle.fb_types.specs.declared.text.Branch.{fold_out-Branch}
 use Rattle.fb_types.specs.declared.value.Reason.TheVariants as reason
 use Rattle.fb_types.proofs.lemmas.names.NameLaws.{same_name-itself}
-use Rattle.fb_st.specs.Frames.{Declared, declared_in, types_in, values_of}
-use Rattle.fb_st.specs.Flows.{end_of, point, all_of, choices_of, branches_of, choice_of, branch_of}
-use Rattle.fb_st.specs.declared.frame.Slot.{Slot}
 use Rattle.fb_st.specs.declared.meter.Meter.{Meter}
 use Rattle.fb_st.specs.declared.meter.Flow.{Flow}
-use Rattle.fb_st.specs.Known.{AssignsKnown, AllKnown, ChoicesKnown, BranchesKnown}
+use Rattle.fb_st.specs.Known.{AssignsKnown}
 
 -- what the one runs to from here, the other runs to from there
 abbrev pub Leads : Running → Point → Running → Point → Type 0

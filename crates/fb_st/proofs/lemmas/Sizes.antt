@@ -1,12 +1,9 @@
 -- Statements are less deep than what holds them, so that their runs end.
-use Rattle.std.proofs.Common.{◌≡◌, ◌<◌, ◌≤◌, ℕ, List, length, get_or, ap, rules, arith}
+use Rattle.fb_st.proofs.lemmas.Common.{◌≡◌, ◌<◌, ◌≤◌, ℕ, List, length, get_or, ap, rules, arith, CountExpr, CompiledStmt, TruthExpr, CompiledChoice}
 use denote.Param.Weighed.{most, at_most}
-use Rattle.fb_st.specs.declared.compiled.CountExpr.{CountExpr}
-use Rattle.fb_st.specs.declared.compiled.CompiledStmt.{CompiledStmt}
-use Rattle.fb_st.specs.declared.compiled.TruthExpr.{TruthExpr}
 use Rattle.fb_st.specs.declared.compiled.CompiledStmt.TheVariants as variants
 use Rattle.fb_st.specs.declared.compiled.CompiledStmt.TheViews.{size_is-CompiledChoice, sized-For, sized-Repeat, sized-While}
-use Rattle.fb_st.specs.declared.compiled.CompiledChoice.{CompiledChoice, out-CompiledChoice}
+use Rattle.fb_st.specs.declared.compiled.CompiledChoice.{out-CompiledChoice}
 use Rattle.fb_st.proofs.compiled.CompiledStmt.TheLaws as stmt
 use Rattle.fb_st.proofs.compiled.CompiledChoice.TheLaws as choice
 

@@ -1,13 +1,7 @@
 -- What the variables of a layout hold, by the words of their slots, and after a write there.
-use Rattle.std.proofs.Common.{◌≡◌, ℕ, ℤ, zero, suc, length, List, [], ◌∷◌, set, map, Some, refl, sym, ◌∙◌, ap, subst, arith}
-use Rattle.std.specs.Prelude.{slice_get}
-use Rattle.fb_types.specs.Names.{Name, with_value}
-use Rattle.fb_types.specs.Repeated.{Twice}
+use Rattle.fb_st.proofs.lemmas.Common.{◌≡◌, ℕ, ℤ, zero, suc, length, List, [], ◌∷◌, set, map, Some, refl, sym, ◌∙◌, ap, subst, arith, slice_get, Name, with_value, Twice, Slot as Variable, Declared, names_of, values_of, index_of, declared_in, types_in, word_at, values_at, value_of_word, name_at}
 use Rattle.fb_types.proofs.lemmas.names.NameLaws.{same_name-itself}
-use Rattle.fb_st.specs.declared.frame.Slot.{Slot as Variable}
-use Rattle.fb_st.specs.Frames.{Declared, names_of, values_of, index_of, declared_in, types_in}
-use Rattle.fb_st.specs.Compiled.{word_at}
-use Rattle.fb_st.specs.Fitting.{held, values_at, value_of_word, name_at, name_or}
+use Rattle.fb_st.specs.Fitting.{held, name_or}
 use Rattle.fb_st.proofs.lemmas.Indexes.{index_of_once}
 use Rattle.fb_st.proofs.lemmas.Slots.{value_here, type_here, written}
 

@@ -1,8 +1,5 @@
 -- A resource to which memory was refused is as it was, and what was for it still is.
-use Rattle.std.proofs.Common.{List, [], sym, subst, All}
-use Rattle.std.proofs.lemmas.List.Elements.{All-nil, All-weaker}
-use Rattle.fb_types.specs.Headline.{Inputs}
-use Rattle.fb_types.specs.declared.run.Message.{Message}
+use Rattle.fb_types.proofs.Common.{List, [], sym, subst, All, All-nil, All-weaker, Inputs, Message}
 use Rattle.fb_resource.specs.Resources.{IsFor, IsOf, IsSame}
 use Rattle.fb_resource.specs.declared.resource.Resource.{Resource}
 use Rattle.fb_resource.proofs.lemmas.Received.{received}

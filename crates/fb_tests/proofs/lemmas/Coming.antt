@@ -1,6 +1,5 @@
 -- From a core that some rounds have led to, a round that goes on leads to another such core.
-use Rattle.std.proofs.Common.{◌≡◌, ℕ, List, ◌++◌, Option, Ok, subst}
-use Rattle.fb_types.specs.Headline.{Inputs}
+use Rattle.fb_types.proofs.Common.{◌≡◌, ℕ, List, ◌++◌, Option, Ok, subst, Inputs}
 use Rattle.fb_types.specs.States.{Line}
 use Rattle.fb_window.specs.declared.cores.CoreState.{CoreState}
 use Rattle.fb_sim.specs.Rounds.{HasCome, Rounds}

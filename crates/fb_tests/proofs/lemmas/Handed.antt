@@ -1,10 +1,7 @@
 -- What holds of each message that one resource sent holds of each that another gets.
-use Rattle.std.proofs.Common.{◌≡◌, ℕ, List, [], ◌∷◌, filter, sym, subst, All, Vec, append-nil}
-use Rattle.std.specs.declared.alloc.Global.{Global}
+use Rattle.fb_types.proofs.Common.{◌≡◌, ℕ, List, [], ◌∷◌, sym, subst, All, append-nil, Global, All-permutation, System, Message}
+use Rattle.std.proofs.Common.{filter, Vec}
 use Rattle.std.proofs.lemmas.List.Elements.{All-filter}
-use Rattle.std.proofs.lemmas.List.Sorted.{All-permutation}
-use Rattle.fb_types.specs.Systems.{System}
-use Rattle.fb_types.specs.declared.run.Message.{Message}
 use Rattle.fb_link.specs.Exchanges.{AreFor, all_of, goes_to}
 
 pub handed : (P : Message → Type 0) (sys : System) (r : ℕ) (sent : Vec Message Global) (boxes : List (Vec Message Global)) (ms : List Message)

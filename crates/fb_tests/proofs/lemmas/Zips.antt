@@ -1,6 +1,5 @@
 -- What was done of a list and of one more element was done of them together.
-use Rattle.std.proofs.Common.{◌≡◌, List, [], ◌∷◌, ◌++◌, sym, subst}
-use Rattle.std.specs.List.{AllZip}
+use Rattle.fb_types.proofs.Common.{◌≡◌, List, [], ◌∷◌, ◌++◌, sym, subst, AllZip}
 
 snoc : {A B : Type 0} (R : A → B → Type 0) (xs : List A) (us : List B) (x : A) (u : B) → AllZip R xs us → R x u → AllZip R (xs ++ x ∷ []) (us ++ u ∷ [])
 snoc R [] [] x u a r = (r, tt)

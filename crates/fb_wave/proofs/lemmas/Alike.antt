@@ -1,24 +1,10 @@
 -- No two ports of a system with names are written alike.
-use Rattle.std.proofs.Common.{◌≡◌, ℕ, zero, suc, ◌<◌, ◌≤◌, Bool, true, false, List, [], ◌∷◌, ◌++◌, length, map, codes, Contains, Some, refl, sym, ap, subst, ◌∙◌, inl, inr, arith, append_assoc}
-use Rattle.std.specs.Prelude.{All, not, ◌||◌, ◌==◌, slice_get, unwrap_or}
-use Rattle.std.specs.List.{list_all}
-use Rattle.std.proofs.lemmas.Bool.{and_from, and_parts, false≢true, leb-true, ne_eqb, not_from_false, or_cases}
-use Rattle.std.proofs.lemmas.List.{length-map}
-use Rattle.std.proofs.lemmas.List.Elements.{All-head, All-tail}
-use Rattle.std.proofs.lemmas.List.Folds.{list_all-append}
-use Rattle.fb_types.specs.Blocks.{event_names}
-use Rattle.fb_types.specs.Headline.{AreAccepted, Inputs, system_of}
-use Rattle.fb_types.specs.Names.{Name, Path}
-use Rattle.fb_types.specs.Numbers.{event_at, path_at}
-use Rattle.fb_types.specs.Repeated.{Twice}
-use Rattle.fb_types.specs.Text.{path_text}
-use Rattle.fb_types.specs.declared.library.EventPort.{EventPort}
+use Rattle.fb_wave.proofs.lemmas.Common.{◌≡◌, ℕ, zero, suc, ◌<◌, ◌≤◌, Bool, true, false, List, [], ◌∷◌, ◌++◌, length, map, codes, Contains, Some, refl, sym, ap, subst, ◌∙◌, inl, inr, arith, append_assoc, All, not, ◌||◌, ◌==◌, slice_get, unwrap_or, list_all, and_from, and_parts, false≢true, leb-true, ne_eqb, not_from_false, length-map, All-head, All-tail, list_all-append, event_names, Inputs, system_of, Name, Path, event_at, path_at, Twice, path_text, EventPort, AreNames, HasNames, is_digit, is_name, IsPortOf, port_text, side, Port}
+use Rattle.fb_types.proofs.Common.{or_cases, AreAccepted}
 use Rattle.fb_types.proofs.lemmas.lists.ByIndex.{all_at, index_of_element}
 use Rattle.fb_types.proofs.lemmas.lists.Elements.{Contains-cons_cases, Contains-here, map-Contains}
-use Rattle.fb_wave.specs.Named.{AreNames, HasNames, is_digit, is_letter, is_name}
+use Rattle.fb_wave.specs.Named.{is_letter}
 use Rattle.fb_wave.specs.Nested.{AreNumbered}
-use Rattle.fb_wave.specs.Ports.{IsPortOf, port_text, side}
-use Rattle.fb_wave.specs.declared.ports.Port.{Port}
 use Rattle.fb_wave.proofs.lemmas.Finding.{begins_three, one_index, sign, three_words}
 use Rattle.fb_wave.proofs.lemmas.Known.{events_once, path_some}
 use Rattle.fb_wave.proofs.lemmas.Lining.{event_named, path_named}

@@ -1,27 +1,9 @@
 -- Where the copy of a trace refuses a line, it is the first with which the text is no trace.
-use Rattle.std.proofs.Common.{◌≡◌, ℕ, suc, ◌+◌, ◌<◌, ◌^◌, List, [], ◌∷◌, ◌++◌, length, map, refl, sym, ap, subst, ◌∙◌, inl, inr, arith, append_assoc}
-use Rattle.std.specs.Prelude.{All, IfSome, Option, None, Some}
-use Rattle.std.specs.Io.KnownBytes.{Consumes}
-use Rattle.std.proofs.lemmas.List.{length-map}
-use Rattle.std.proofs.lemmas.List.Elements.{All-head, All-tail}
-use Rattle.fb_types.specs.Headline.{Inputs, system_of}
-use Rattle.fb_types.specs.Limits.{IsWithinLimits}
-use Rattle.fb_types.specs.Numbers.{line_of}
-use Rattle.fb_types.specs.Systems.{System}
-use Rattle.fb_types.specs.Text.{last_line, lines_text}
-use Rattle.fb_types.specs.declared.deploy.ResourceEntry.{ResourceEntry}
-use Rattle.fb_types.specs.declared.run.Form.{Form}
-use Rattle.fb_types.specs.declared.run.Line.{Line}
-use Rattle.fb_trace.specs.End.{ending_of}
-use Rattle.fb_trace.specs.declared.last.Outcome.{Outcome}
-use Rattle.fb_wave.specs.Copying.{IsAfter, IsCopied, IsNoLineFrom, RefusesEnd, RefusesLine}
-use Rattle.fb_wave.specs.Dumps.{last_tick}
-use Rattle.fb_wave.specs.Lines.{IsLast, IsLineOf, IsNoLast}
-use Rattle.fb_wave.specs.Named.{HasNames}
+use Rattle.fb_wave.proofs.lemmas.Common.{◌≡◌, ℕ, suc, ◌+◌, ◌<◌, ◌^◌, List, [], ◌∷◌, ◌++◌, length, map, refl, sym, ap, subst, ◌∙◌, inl, inr, arith, append_assoc, All, IfSome, Option, None, Some, Consumes, length-map, All-head, All-tail, Inputs, system_of, line_of, System, last_line, lines_text, Form, Line, ending_of, Outcome, IsAfter, IsCopied, RefusesLine, last_tick, IsLast, IsLineOf, HasNames, Progress, WaveError, Refused, Names, Memory, Read, Write}
+use Rattle.fb_types.proofs.Common.{IsWithinLimits, ResourceEntry}
+use Rattle.fb_wave.specs.Copying.{IsNoLineFrom, RefusesEnd}
+use Rattle.fb_wave.specs.Lines.{IsNoLast}
 use Rattle.fb_wave.specs.Refusals.{Blames, IsFirstBad}
-use Rattle.fb_wave.specs.declared.copy.Progress.{Progress}
-use Rattle.fb_wave.specs.declared.error.WaveError.{WaveError}
-use Rattle.fb_wave.specs.declared.error.WaveError.TheVariants.{Refused, Names, Memory, Read, Write}
 use Rattle.fb_wave.proofs.lemmas.Copied.{ends_after}
 use Rattle.fb_wave.proofs.lemmas.Ends.{after_once}
 use Rattle.fb_wave.proofs.lemmas.Lining.{line_not_last}

@@ -1,16 +1,5 @@
 -- The resource that holds an instance is one of the deployment.
-use Rattle.std.proofs.Common.{◌≡◌, ℕ, ◌<◌, Bool, true, false, cond, List, [], ◌∷◌, length, Some, None, refl, sym, subst, arith}
-use Rattle.std.specs.Prelude.{nat_lt, position, unwrap_or}
-use Rattle.std.specs.List.{position_or_len}
-use Rattle.std.proofs.lemmas.Bool.{ltb-true}
-use Rattle.std.proofs.lemmas.List.{length-map}
-use Rattle.fb_types.specs.Blocks.{among}
-use Rattle.fb_types.specs.Flat.{holder, resource_of}
-use Rattle.fb_types.specs.Headline.{Inputs, system_of}
-use Rattle.fb_types.specs.Limits.{IsWithinLimits}
-use Rattle.fb_types.specs.Names.{Name, Path}
-use Rattle.fb_types.specs.declared.deploy.Plan.{Plan}
-use Rattle.fb_types.specs.declared.deploy.ResourceEntry.{ResourceEntry}
+use Rattle.fb_types.proofs.Common.{◌≡◌, ℕ, ◌<◌, Bool, true, false, cond, List, [], ◌∷◌, length, Some, None, refl, sym, subst, arith, nat_lt, position, unwrap_or, position_or_len, ltb-true, length-map, among, holder, resource_of, Inputs, system_of, IsWithinLimits, Name, Path, Plan, ResourceEntry}
 
 one_below : (a b : ℕ) → 0 < b → unwrap_or (cond (nat_lt a b) (Some a) None) 0 < b
 one_below a b some = go (nat_lt a b) refl

@@ -1,11 +1,7 @@
 -- The changes of lines whose ticks do not fall are those of each tick, one tick after another.
-use Rattle.std.proofs.Common.{◌≡◌, ℕ, ◌<◌, ◌≤◌, Bool, decimal, true, false, cond, List, [], ◌∷◌, ◌++◌, map, refl, sym, ap, subst, ◌∙◌, inl, inr, arith, append_assoc, append-nil}
-use Rattle.std.specs.Prelude.{◌==◌, filter, nat_lt}
+use Rattle.fb_types.proofs.Common.{◌≡◌, ℕ, ◌<◌, ◌≤◌, Bool, decimal, true, false, cond, List, [], ◌∷◌, ◌++◌, map, refl, sym, ap, subst, ◌∙◌, inl, inr, arith, append_assoc, append-nil, ◌==◌, nat_lt, cases_lt, eq-eqb, eqb-false, eqb-true, false_from_ne_true, lt-ltb, ltb-true, ne_eqb, or_from, or_left, or_right, list_any-append, System, Line}
+use Rattle.std.specs.Prelude.{filter}
 use Rattle.std.specs.List.{flat_map}
-use Rattle.std.proofs.lemmas.Bool.{cases_lt, eq-eqb, eqb-false, eqb-true, false_from_ne_true, lt-ltb, ltb-true, ne_eqb, or_from, or_left, or_right}
-use Rattle.std.proofs.lemmas.List.Folds.{list_any-append}
-use Rattle.fb_types.specs.Systems.{System}
-use Rattle.fb_types.specs.declared.run.Line.{Line}
 use Rattle.fb_wave.specs.ByTick.{AreTickByTick, before_tick, of_tick, tick_text}
 use Rattle.fb_wave.specs.Changes.{line, time_text}
 use Rattle.fb_wave.specs.Dumps.{tick_changes, ticks_text}

@@ -1,32 +1,14 @@
 -- Lines that are read and shown one after another.
-use Rattle.std.proofs.Common.{◌≡◌, ℕ, ◌+◌, ◌<◌, ◌≤◌, List, [], ◌∷◌, ◌++◌, length, map, take, refl, sym, ap, subst, ◌∙◌, arith, append_assoc, append-nil, length-append}
-use Rattle.std.specs.Prelude.{IfSome, Option, None, Some}
-use Rattle.std.specs.Io.BufRead.{take_through}
-use Rattle.std.specs.Io.KnownBytes.{Appends, Consumes, IsAtEnd}
-use Rattle.std.proofs.lemmas.List.Elements.{All-nil, All-push}
-use Rattle.std.proofs.KnownBytes.{Appends-nil, Appends-trans, Consumes-trans}
-use Rattle.std.proofs.Math.Seq.{take-append_seam}
-use Rattle.fb_types.specs.Simulation.{Ending, AtHorizon}
-use Rattle.fb_types.specs.Systems.{System}
-use Rattle.fb_types.specs.Numbers.{line_of}
-use Rattle.fb_types.specs.Text.{line_text, lines_text, trace_text}
-use Rattle.fb_types.specs.declared.run.Form.{Form}
-use Rattle.fb_types.specs.declared.run.Line.{Line}
-use Rattle.fb_trace.specs.End.{ending_of}
+use Rattle.fb_wave.proofs.lemmas.Common.{◌≡◌, ℕ, ◌+◌, ◌<◌, ◌≤◌, List, [], ◌∷◌, ◌++◌, length, map, take, refl, sym, ap, subst, ◌∙◌, arith, append_assoc, append-nil, length-append, IfSome, Option, None, Some, take_through, Consumes, take-append_seam, Ending, System, line_of, lines_text, Form, Line, ending_of, Outcome, last_tick, IsLast, IsLineOf, IsTextOf, HasNames, IsAfter, IsCopied, Progress, WaveError, Refused, Names, Memory, Read, Write}
+use Rattle.fb_types.proofs.Common.{Appends, IsAtEnd, All-nil, All-push, Appends-nil, Appends-trans, Consumes-trans, AtHorizon, line_text, trace_text}
 use Rattle.fb_trace.specs.Progress.{IsPartWritten, bounded}
-use Rattle.fb_trace.specs.declared.last.Outcome.{Outcome}
 use Rattle.fb_trace.specs.declared.last.Outcome.TheVariants.{End, Stop}
 use Rattle.fb_wave.specs.Scopes.{head_text}
-use Rattle.fb_wave.specs.Dumps.{dump_text, end_text, last_tick, ticks_text}
+use Rattle.fb_wave.specs.Dumps.{dump_text, end_text, ticks_text}
 use Rattle.fb_wave.specs.Writing.{HasShown, IsDump}
 use Rattle.fb_wave.specs.declared.dump.Dump.{Dump}
-use Rattle.fb_wave.specs.Lines.{IsLast, IsLineOf, IsTextOf}
-use Rattle.fb_wave.specs.Named.{HasNames}
-use Rattle.fb_wave.specs.Copying.{IsAfter, IsCopied, IsFinished, IsFirstLine, IsNoWriteError, IsTaken, IsUnfinished}
+use Rattle.fb_wave.specs.Copying.{IsFinished, IsFirstLine, IsNoWriteError, IsTaken, IsUnfinished}
 use Rattle.fb_wave.specs.Waves.{AreLinesOf, EndsAfter, FailsWave, IsBegun, IsWave, RiseFrom, WritesFront, WritesPart}
-use Rattle.fb_wave.specs.declared.copy.Progress.{Progress}
-use Rattle.fb_wave.specs.declared.error.WaveError.{WaveError}
-use Rattle.fb_wave.specs.declared.error.WaveError.TheVariants.{Refused, Names, Memory, Read, Write}
 use Rattle.fb_wave.specs.Pages.{IsCutShort, IsFlushed}
 use Rattle.fb_wave.specs.declared.page.Page.{Page}
 use Rattle.fb_wave.specs.declared.page.PageFault.{PageFault}

@@ -1,21 +1,9 @@
 -- Where the line that was read last is, after a refusal.
-use Rattle.std.proofs.Common.{◌≡◌, ◌⊎◌, ℕ, Bool, true, false, cond, List, [], ◌∷◌, ◌++◌, map, refl, sym, ap, subst, ◌∙◌, inl, inr, append_assoc}
-use Rattle.std.specs.Prelude.{◌==◌, IfSome, Option}
-use Rattle.std.specs.Io.BufRead.{take_through}
-use Rattle.fb_types.specs.Numbers.{line_of}
-use Rattle.fb_types.specs.Systems.{System}
-use Rattle.fb_types.specs.Text.{lines_text}
-use Rattle.fb_types.specs.declared.run.Form.{Form}
-use Rattle.fb_trace.specs.End.{ending_of}
-use Rattle.fb_trace.specs.declared.last.Outcome.{Outcome}
-use Rattle.fb_wave.specs.Copying.{IsAfter, IsCopied, IsCutUnfinished, IsFirstLine, IsNoLineFrom, IsRefusedAt, RefusesLine}
-use Rattle.fb_wave.specs.CurrentLines.{IsAfterLines, IsAfterTrace, IsNoEndFrom, IsRefusedLine}
-use Rattle.fb_wave.specs.Dumps.{last_tick}
-use Rattle.fb_wave.specs.Lines.{IsLast, IsNoLast}
-use Rattle.fb_wave.specs.declared.copy.Progress.{Progress}
+use Rattle.fb_wave.proofs.lemmas.Common.{◌≡◌, ◌⊎◌, ℕ, Bool, true, false, cond, List, [], ◌∷◌, ◌++◌, map, refl, sym, ap, subst, ◌∙◌, inl, inr, append_assoc, ◌==◌, IfSome, Option, take_through, line_of, System, lines_text, Form, ending_of, Outcome, IsAfter, IsCopied, RefusesLine, IsRefusedLine, last_tick, IsLast, Progress, WaveError, Refused, Names, Memory, Read, Write}
+use Rattle.fb_wave.specs.Copying.{IsCutUnfinished, IsFirstLine, IsNoLineFrom, IsRefusedAt}
+use Rattle.fb_wave.specs.CurrentLines.{IsAfterLines, IsAfterTrace, IsNoEndFrom}
+use Rattle.fb_wave.specs.Lines.{IsNoLast}
 use Rattle.fb_wave.specs.declared.current_line.CurrentLine.{CurrentLine}
-use Rattle.fb_wave.specs.declared.error.WaveError.{WaveError}
-use Rattle.fb_wave.specs.declared.error.WaveError.TheVariants.{Refused, Names, Memory, Read, Write}
 use Rattle.fb_wave.proofs.lemmas.Blaming.{known}
 use Rattle.fb_wave.proofs.lemmas.Copied.{ends_after}
 use Rattle.fb_wave.proofs.lemmas.Ends.{after_once}

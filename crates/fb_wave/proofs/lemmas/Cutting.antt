@@ -1,9 +1,5 @@
 -- A text is a word and what comes after it in one way at most.
-use Rattle.std.proofs.Common.{◌≡◌, ℕ, true, List, [], ◌∷◌, ◌++◌, refl, sym, ap, ◌∙◌}
-use Rattle.std.specs.Prelude.{not}
-use Rattle.std.proofs.lemmas.Bool.{and_parts, false≢true, not-true}
-use Rattle.std.proofs.lemmas.List.Folds.{list_all-append}
-use Rattle.fb_wave.specs.Words.{is_end, is_word, is_ended, IsCut}
+use Rattle.fb_wave.proofs.lemmas.Common.{◌≡◌, ℕ, true, List, [], ◌∷◌, ◌++◌, refl, sym, ap, ◌∙◌, not, and_parts, false≢true, not-true, list_all-append, is_end, is_word, is_ended, IsCut}
 
 -- a word that is ended is not a word with what ends it
 pub not_word : (w r : List ℕ) → is_ended r ≡ true → is_word (w ++ r) ≡ true → ⊥

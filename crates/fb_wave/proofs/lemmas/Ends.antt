@@ -1,22 +1,9 @@
 -- What keeps a text from being the end of a last line, and which ends have one text.
-use Rattle.std.proofs.Common.{◌≡◌, ℕ, ◌<◌, ◌^◌, true, List, [], ◌∷◌, ◌++◌, length, get_or, codes, decimal, refl, sym, ap, ◌∙◌, arith, append_assoc}
-use Rattle.std.specs.Prelude.{slice_get, unwrap_or}
-use Rattle.std.proofs.lemmas.List.{append_cancel_left}
-use Rattle.std.proofs.lemmas.Option.{unwrap_or-slice_get}
-use Rattle.fb_types.specs.Names.{Name}
-use Rattle.fb_types.specs.Simulation.{Ending, AtHorizon, AtStop}
-use Rattle.fb_types.specs.Systems.{System}
-use Rattle.fb_types.specs.Text.{last_line, tick_and_resource_text, reason_text}
-use Rattle.fb_types.specs.declared.value.Reason.{Reason}
-use Rattle.fb_trace.specs.End.{ending_of}
-use Rattle.fb_trace.specs.declared.last.Outcome.{Outcome}
+use Rattle.fb_wave.proofs.lemmas.Common.{◌≡◌, ℕ, ◌<◌, ◌^◌, true, List, [], ◌∷◌, ◌++◌, length, get_or, codes, decimal, refl, sym, ap, ◌∙◌, arith, append_assoc, slice_get, unwrap_or, unwrap_or-slice_get, Name, Ending, System, last_line, ending_of, Outcome, IsAfter, HasNames, number_text, IsCut, is_word}
+use Rattle.fb_types.proofs.Common.{append_cancel_left, AtHorizon, AtStop, tick_and_resource_text, reason_text, Reason}
 use Rattle.fb_trace.specs.declared.last.Outcome.TheVariants.{End, Stop}
-use Rattle.fb_wave.specs.Copying.{IsAfter}
 use Rattle.fb_wave.specs.Lines.{IsEndOf, IsNoStop, stop_text}
-use Rattle.fb_wave.specs.Named.{HasNames}
-use Rattle.fb_wave.specs.Reading.{number_text}
 use Rattle.fb_wave.specs.Waves.{EndsAfter}
-use Rattle.fb_wave.specs.Words.{IsCut, is_word}
 use Rattle.fb_wave.proofs.lemmas.Cutting.{cut_once, uncut, word_once}
 use Rattle.fb_wave.proofs.lemmas.Known.{there}
 use Rattle.fb_wave.proofs.lemmas.Numerals.{decimal_once, digits_of, number_once}

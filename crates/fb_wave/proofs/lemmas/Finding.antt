@@ -1,27 +1,15 @@
 -- How the port of a line is found by its text.
-use Rattle.std.proofs.Common.{◌≡◌, ℕ, zero, suc, ◌-◌, ◌≤◌, Bool, true, false, List, [], ◌∷◌, ◌++◌, length, map, take, get_or, codes, Contains, Some, None, refl, sym, ap, subst, ◌∙◌, inl, inr, arith, append_assoc, length-append}
-use Rattle.std.specs.Prelude.{if◌then◌else◌, is_some, option_map, position, slice_get}
-use Rattle.std.proofs.Math.Seq.{take-append_seam}
-use Rattle.std.proofs.lemmas.Bool.{true≢false}
-use Rattle.std.proofs.lemmas.List.{append_cancel_left, length-map}
-use Rattle.std.proofs.lemmas.Option.{same_Some, slice_get-map, slice_get_past}
-use Rattle.fb_types.specs.Headline.{system_of}
-use Rattle.fb_types.specs.Names.{Name, same_name}
-use Rattle.fb_types.specs.Numbers.{event_at, path_at}
-use Rattle.fb_types.specs.Repeated.{Twice}
-use Rattle.fb_types.specs.Systems.{System}
-use Rattle.fb_types.specs.Text.{path_text}
+use Rattle.fb_wave.proofs.lemmas.Common.{◌≡◌, ℕ, zero, suc, ◌-◌, ◌≤◌, Bool, true, false, List, [], ◌∷◌, ◌++◌, length, map, take, get_or, codes, Contains, Some, None, refl, sym, ap, subst, ◌∙◌, inl, inr, arith, append_assoc, length-append, if◌then◌else◌, option_map, slice_get, take-append_seam, length-map, slice_get-map, system_of, Name, event_at, path_at, Twice, System, path_text, AreNames, HasNames, IsPortOf, holder_name, port_text, side, IsCut, is_ended, is_word, Port}
+use Rattle.fb_types.proofs.Common.{is_some, position, true≢false, append_cancel_left, same_Some, slice_get_past, same_name}
 use Rattle.fb_types.proofs.lemmas.lists.ByIndex.{all_at, element_of_index, index_of_element}
 use Rattle.fb_types.proofs.lemmas.lists.Elements.{Contains-here, Contains-map}
 use Rattle.fb_types.proofs.lemmas.names.NameLaws.{any_from_contains}
 use Rattle.fb_types.proofs.lemmas.lists.Positions.{is_some-position, position_is}
 use Rattle.fb_check_names.specs.Indexes.{index_in}
-use Rattle.fb_wave.specs.Named.{AreNames, HasNames}
-use Rattle.fb_wave.specs.Ports.{BeginsWith, IsPortOf, holder_name, port_text, side}
+use Rattle.fb_wave.specs.Ports.{BeginsWith}
 use Rattle.std.proofs.Math.Logic.{∥∥₁_elim}
 use Rattle.std.proofs.Props.{props}
-use Rattle.fb_wave.specs.Words.{AreThree, HasNoThree, HasThree, IsCut, is_ended, is_word, three}
-use Rattle.fb_wave.specs.declared.ports.Port.{Port}
+use Rattle.fb_wave.specs.Words.{AreThree, HasNoThree, HasThree, three}
 use Rattle.fb_wave.specs.declared.table.PortTable.{PortTable}
 use Rattle.fb_wave.proofs.lemmas.Cutting.{cut_once, uncut, word_once}
 use Rattle.fb_wave.proofs.lemmas.Lining.{event_named, path_named}

@@ -1,16 +1,6 @@
 -- The form of a trace by the second word of its first line.
-use Rattle.std.proofs.Common.{◌≡◌, ℕ, ◌<◌, ◌≤◌, Bool, true, false, List, [], ◌∷◌, ◌++◌, length, get_or, codes, decimal, refl, sym, ap, ◌∙◌, arith, append_assoc}
-use Rattle.std.specs.Prelude.{if◌then◌else◌, nat_le}
-use Rattle.std.proofs.lemmas.Bool.{and_from, and_parts, false_from_ne_true, le-leb, leb-true}
-use Rattle.fb_types.specs.declared.run.Form.{Form}
-use Rattle.fb_types.specs.declared.run.Form.TheVariants.{One, Two}
-use Rattle.fb_types.specs.declared.run.Line.{Line}
-use Rattle.fb_types.specs.Systems.{System}
-use Rattle.fb_wave.specs.Lines.{IsTextOf}
-use Rattle.fb_wave.specs.Named.{HasNames, is_digit}
-use Rattle.fb_wave.specs.Ports.{holder_name, port_text}
-use Rattle.fb_wave.specs.Reading.{number_text}
-use Rattle.fb_wave.specs.Words.{is_word}
+use Rattle.fb_wave.proofs.lemmas.Common.{◌≡◌, ℕ, ◌<◌, ◌≤◌, Bool, true, false, List, [], ◌∷◌, ◌++◌, length, get_or, codes, decimal, refl, sym, ap, ◌∙◌, arith, append_assoc, if◌then◌else◌, and_from, and_parts, leb-true, Form, One, Two, Line, System, IsTextOf, HasNames, is_digit, holder_name, port_text, number_text, is_word}
+use Rattle.fb_types.proofs.Common.{nat_le, false_from_ne_true, le-leb}
 use Rattle.fb_wave.proofs.lemmas.Lining.{after_holder, after_key, holder_named, key_three, line_end, line_parts, port_of_line, port_spread}
 use Rattle.fb_wave.proofs.lemmas.Numerals.{digits_of, number_cut}
 use Rattle.fb_wave.proofs.lemmas.Plain.{name_first}

@@ -1,26 +1,10 @@
 -- The text of a line, put together from what was read of it.
-use Rattle.std.proofs.Common.{◌≡◌, ℕ, ◌<◌, Bool, true, false, List, [], ◌∷◌, ◌++◌, length, map, get_or, codes, sym, ap, ◌∙◌, append_assoc}
-use Rattle.std.specs.Prelude.{IfNone, IfOk, IfSome, MatchOption, Ok, Err, Option, Some, None, Result, option_map, slice_get, unwrap_or}
-use Rattle.std.proofs.lemmas.List.{length-map}
-use Rattle.std.proofs.lemmas.Option.{slice_get-map, unwrap_or-slice_get}
-use Rattle.fb_types.specs.Blocks.{inputs_with, outputs_with}
-use Rattle.fb_types.specs.Names.{Name}
-use Rattle.fb_types.specs.Numbers.{event_at, pair_up, path_at, ports_at}
-use Rattle.fb_types.specs.Systems.{System}
-use Rattle.fb_types.specs.Text.{key_text, path_text, tick_and_resource_text, reason_text, values_text}
-use Rattle.fb_types.specs.declared.key.Key.{Key}
-use Rattle.fb_types.specs.declared.library.Variable.{Variable}
-use Rattle.fb_types.specs.declared.run.Form.{Form}
-use Rattle.fb_types.specs.declared.run.Form.TheVariants.{One, Two}
-use Rattle.fb_types.specs.declared.run.Line.{Line}
-use Rattle.fb_types.specs.declared.value.Reason.{Reason}
-use Rattle.fb_types.specs.declared.value.Value.{Value}
-use Rattle.fb_system.specs.IndexLists.{AreIndexes}
-use Rattle.fb_wave.specs.Reading.{AreRead, name_at, number_text}
-use Rattle.fb_wave.specs.Lines.{AreValuesOf, IsHead, IsInRange, IsTextOf}
-use Rattle.fb_wave.specs.Ports.{IsPortOf, holder_name, port_text}
+use Rattle.fb_wave.proofs.lemmas.Common.{◌≡◌, ℕ, ◌<◌, Bool, true, false, List, [], ◌∷◌, ◌++◌, length, map, get_or, codes, sym, ap, ◌∙◌, append_assoc, IfSome, MatchOption, Option, Some, None, option_map, slice_get, unwrap_or, length-map, slice_get-map, unwrap_or-slice_get, inputs_with, outputs_with, Name, event_at, pair_up, path_at, ports_at, System, path_text, values_text, Variable, Form, One, Two, Line, Value, AreIndexes, AreRead, number_text, AreValuesOf, IsTextOf, IsPortOf, holder_name, port_text, Port}
+use Rattle.fb_types.proofs.Common.{IfNone, IfOk, Ok, Err, Result, tick_and_resource_text, reason_text, Key, Reason}
+use Rattle.fb_types.specs.Text.{key_text}
+use Rattle.fb_wave.specs.Reading.{name_at}
+use Rattle.fb_wave.specs.Lines.{IsHead, IsInRange}
 use Rattle.fb_wave.specs.declared.line.Parts.{Parts}
-use Rattle.fb_wave.specs.declared.ports.Port.{Port}
 
 abbrev pub port_at : (instance event : ℕ) → (taken : Bool) → Port
 port_at i e taken = record { instance = i; event = e; taken = taken }

@@ -1,7 +1,5 @@
 -- What holds of the last call of a function, whose answer is the function's.
-use Rattle.std.proofs.Common.{◌≡◌, ℕ, List, Result, Ok, Err, sym, subst}
-use Rattle.std.specs.Result.{IsErrAnd}
-use Rattle.std.specs.Prelude.{IfErr, IfNone, None, OnOk, Option, Some, if◌then◌else◌, is_ok}
+use Rattle.fb_types.proofs.Common.{◌≡◌, ℕ, List, Result, Ok, Err, sym, subst, IsErrAnd, IfErr, IfNone, None, OnOk, Option, Some, if◌then◌else◌, is_ok}
 
 -- where the call goes well, something more holds
 pub on_ok : {A E : Type 0} (r : Result A E) (P Q : Type 0) → OnOk r P → (P → Q) → OnOk r Q

@@ -1,33 +1,13 @@
 -- What the text of a line begins with, and what it has after that.
-use Rattle.std.proofs.Common.{◌≡◌, ℕ, ◌<◌, ◌≤◌, ◌^◌, Bool, true, false, List, [], ◌∷◌, ◌++◌, length, map, get_or, codes, decimal, Contains, refl, sym, ap, subst, ◌∙◌, arith, append_assoc}
-use Rattle.std.specs.Prelude.{if◌then◌else◌, slice_get, unwrap_or}
-use Rattle.std.proofs.lemmas.List.{get_or_append_left, length-map}
-use Rattle.std.proofs.lemmas.List.Elements.{Contains-append_left, Contains-append_right}
-use Rattle.std.proofs.lemmas.Option.{unwrap_or-slice_get}
-use Rattle.fb_types.specs.Blocks.{event_names, inputs_with, outputs_with, variable_names}
-use Rattle.fb_types.specs.Names.{Name}
-use Rattle.fb_types.specs.Numbers.{event_at, line_of, pair_up, path_at, ports_at}
-use Rattle.fb_types.specs.Simulation.{Ending, AtHorizon, AtStop}
-use Rattle.fb_types.specs.Systems.{System}
-use Rattle.fb_types.specs.Text.{key_text, last_line, line_text, path_text, reason_text, values_text}
-use Rattle.fb_types.specs.declared.key.Key.{Key}
-use Rattle.fb_types.specs.declared.library.EventPort.{EventPort}
-use Rattle.fb_types.specs.declared.library.Variable.{Variable}
-use Rattle.fb_types.specs.declared.run.Form.{Form}
-use Rattle.fb_types.specs.declared.run.Form.TheVariants.{One, Two}
-use Rattle.fb_types.specs.declared.run.Line.{Line}
-use Rattle.fb_types.specs.declared.value.Reason.{Reason}
-use Rattle.fb_types.specs.declared.value.Reason.TheVariants.{Steps, Divide, Range}
-use Rattle.fb_types.specs.declared.value.Value.{Value}
+use Rattle.fb_wave.proofs.lemmas.Common.{◌≡◌, ℕ, ◌<◌, ◌≤◌, ◌^◌, Bool, true, false, List, [], ◌∷◌, ◌++◌, length, map, get_or, codes, decimal, Contains, refl, sym, ap, subst, ◌∙◌, arith, append_assoc, if◌then◌else◌, slice_get, unwrap_or, get_or_append_left, length-map, Contains-append_left, unwrap_or-slice_get, event_names, inputs_with, outputs_with, variable_names, Name, event_at, line_of, pair_up, path_at, ports_at, Ending, System, last_line, path_text, values_text, EventPort, Variable, Form, One, Two, Line, Value, AreIndexes, IsLineOf, AreNames, HasNames, is_name, IsPortOf, holder_name, port_text, side, number_text, is_ended, Port}
+use Rattle.fb_types.proofs.Common.{Contains-append_right, AtHorizon, AtStop, line_text, reason_text, Key, Reason, Steps, Divide, Range}
+use Rattle.fb_types.specs.Text.{key_text}
 use Rattle.fb_types.proofs.lemmas.lists.Elements.{map-Contains}
 use Rattle.fb_system.specs.Lines.{line_variables}
-use Rattle.fb_system.specs.IndexLists.{AreIndexes, variable_at}
-use Rattle.fb_wave.specs.Lines.{IsEndOf, IsInRange, IsLineOf, line_side}
-use Rattle.fb_wave.specs.Named.{AreNames, HasNames, is_name}
-use Rattle.fb_wave.specs.Ports.{BeginsWith, IsPortOf, holder_name, port_text, side}
-use Rattle.fb_wave.specs.Reading.{number_text, type_at}
-use Rattle.fb_wave.specs.Words.{is_ended}
-use Rattle.fb_wave.specs.declared.ports.Port.{Port}
+use Rattle.fb_system.specs.IndexLists.{variable_at}
+use Rattle.fb_wave.specs.Lines.{IsEndOf, IsInRange, line_side}
+use Rattle.fb_wave.specs.Ports.{BeginsWith}
+use Rattle.fb_wave.specs.Reading.{type_at}
 use Rattle.fb_wave.proofs.lemmas.Gluing.{port_at}
 use Rattle.fb_wave.proofs.lemmas.Known.{there}
 use Rattle.fb_wave.proofs.lemmas.Numerals.{digits_of, number_once}

@@ -1,20 +1,10 @@
 -- The signals of a line are those that the dump finds for it.
-use Rattle.std.proofs.Common.{◌≡◌, ℕ, ◌+◌, ◌<◌, get_or, arith, Bool, true, false, cond, List, [], ◌∷◌, ◌++◌, length, map, sym, ap, subst, ◌∙◌, append_assoc}
-use Rattle.fb_types.specs.Blocks.{inputs_with, outputs_with, variable_names}
-use Rattle.fb_types.specs.Headline.{AreAccepted, Inputs, system_of}
-use Rattle.fb_types.specs.Numbers.{event_at, path_at, ports_at}
-use Rattle.fb_types.specs.Repeated.{Twice}
-use Rattle.fb_types.specs.Systems.{System}
-use Rattle.fb_types.specs.declared.library.Ports.{Ports}
-use Rattle.fb_types.specs.declared.run.Line.{Line}
-use Rattle.fb_types.specs.declared.value.Value.{Value}
-use Rattle.fb_wave.specs.Levels.{AreLevels}
+use Rattle.fb_wave.proofs.lemmas.Common.{◌≡◌, ℕ, ◌+◌, ◌<◌, get_or, arith, Bool, true, false, cond, List, [], ◌∷◌, ◌++◌, length, map, sym, ap, subst, ◌∙◌, append_assoc, inputs_with, outputs_with, variable_names, Inputs, system_of, event_at, path_at, ports_at, Twice, System, Ports, Line, Value, AreLevels, AreIndexes, first_signal, pairs}
+use Rattle.fb_types.proofs.Common.{AreAccepted}
 use Rattle.fb_wave.specs.declared.levels.Levels.{Levels}
-use Rattle.fb_system.specs.IndexLists.{AreIndexes}
-use Rattle.fb_wave.specs.Signals.{first_signal}
 use Rattle.fb_system.specs.Lines.{BelongsTo, line_variables}
 use Rattle.fb_wave.specs.Lines.{line_side}
-use Rattle.fb_wave.specs.LineSignals.{fired, pairs, index_of, set_by, changed_signals, touched}
+use Rattle.fb_wave.specs.LineSignals.{fired, index_of, set_by, changed_signals, touched}
 use Rattle.fb_wave.specs.Writing.{AreFirsts, AreMarks}
 use Rattle.fb_wave.specs.declared.system_signals.Marks.{Marks}
 use Rattle.fb_wave.proofs.lemmas.Numbering.{signals_within}

@@ -1,12 +1,6 @@
 -- The numbers of signals, instance by instance.
-use Rattle.std.proofs.Common.{◌≡◌, ℕ, ◌+◌, ◌^◌, ◌<◌, ◌≤◌, List, [], ◌∷◌, ◌++◌, length, take, drop, get_or, sym, ap, subst, ◌∙◌, arith, inl, inr, take-append-drop}
-use Rattle.std.proofs.lemmas.Bool.{cases_lt}
-use Rattle.std.proofs.lemmas.Grind.{take_at_read}
-use Rattle.std.proofs.lemmas.Option.{unwrap_or-slice_get}
-use Rattle.std.proofs.lemmas.List.{drop_more, get_or_append_left, get_or_push, length_push, take_all}
-use Rattle.fb_types.specs.Names.{Path}
-use Rattle.fb_types.specs.Systems.{System}
-use Rattle.fb_types.specs.Numbers.{path_at, ports_at}
+use Rattle.fb_types.proofs.Common.{◌≡◌, ℕ, ◌+◌, ◌^◌, ◌<◌, ◌≤◌, List, [], ◌∷◌, ◌++◌, length, take, drop, get_or, sym, ap, subst, ◌∙◌, arith, inl, inr, take-append-drop, cases_lt, take_at_read, unwrap_or-slice_get, drop_more, get_or_append_left, length_push, take_all, Path, System, path_at, ports_at}
+use Rattle.std.proofs.lemmas.List.{get_or_push}
 use Rattle.fb_wave.specs.Signals.{size_of, sizes_of, first_signal}
 use Rattle.fb_wave.specs.Writing.{AreFirsts}
 

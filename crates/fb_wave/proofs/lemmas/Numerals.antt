@@ -1,11 +1,6 @@
 -- Numbers that are read digit by digit.
-use Rattle.std.proofs.Common.{◌≡◌, ℕ, ◌+◌, ◌-◌, ◌*◌, ◌/◌, ◌%◌, ◌^◌, ◌<◌, ◌≤◌, true, false, List, [], ◌∷◌, ◌++◌, length, take, drop, get_or, codes, decimal, refl, sym, ap, subst, ◌∙◌, arith, inl, inr, length-append, take-append-drop, append_assoc}
-use Rattle.std.specs.Prelude.{not, All, MatchOption, Option, Some, None}
-use Rattle.std.proofs.lemmas.Bool.{cases_lt, and_from, or_from, not_from_false, ne_eqb}
-use Rattle.std.proofs.lemmas.Fmt.{decimal_digit, decimal_step_wide, decimal_by_steps_wide}
-use Rattle.std.proofs.lemmas.List.{drop_more, take_more, length-take-le, get_or_append_left, get_or-take}
-use Rattle.std.proofs.lemmas.List.Elements.{All-push, All-nil}
-use Rattle.std.proofs.lemmas.List.Folds.{list_all-append}
+use Rattle.fb_types.proofs.Common.{◌≡◌, ℕ, ◌+◌, ◌-◌, ◌*◌, ◌/◌, ◌%◌, ◌^◌, ◌<◌, ◌≤◌, true, false, List, [], ◌∷◌, ◌++◌, length, take, drop, get_or, codes, decimal, refl, sym, ap, subst, ◌∙◌, arith, inl, inr, length-append, take-append-drop, append_assoc, not, All, MatchOption, Option, Some, None, cases_lt, and_from, or_from, not_from_false, ne_eqb, decimal_digit, drop_more, take_more, length-take-le, get_or_append_left, get_or-take, All-push, All-nil, list_all-append}
+use Rattle.std.proofs.lemmas.Fmt.{decimal_step_wide, decimal_by_steps_wide}
 use Rattle.fb_wave.proofs.lemmas.Cutting.{cut_once, word_once}
 use Rattle.fb_wave.specs.Reading.{HasNoNumber, IsGrown, IsNoNumber, IsWide, number_text}
 use Rattle.fb_wave.specs.Words.{is_end, is_word, IsCut}

@@ -1,10 +1,7 @@
 -- Signals shown one after another.
-use Rattle.std.proofs.Common.{◌≡◌, ℕ, zero, suc, ◌+◌, ◌<◌, List, [], ◌∷◌, ◌++◌, length, map, take, get_or, min, sym, ap, subst, ◌∙◌, arith, append_assoc, add-one}
-use Rattle.std.proofs.lemmas.List.{map-append}
-use Rattle.fb_types.specs.declared.value.Value.{Value}
-use Rattle.fb_wave.specs.Levels.{AreLevels}
+use Rattle.fb_wave.proofs.lemmas.Common.{◌≡◌, ℕ, zero, suc, ◌+◌, ◌<◌, List, [], ◌∷◌, ◌++◌, length, map, take, get_or, sym, ap, subst, ◌∙◌, arith, append_assoc, Value, AreLevels, pairs}
+use Rattle.fb_types.proofs.Common.{min, add-one, map-append}
 use Rattle.fb_wave.specs.declared.levels.Levels.{Levels}
-use Rattle.fb_wave.specs.LineSignals.{pairs}
 
 -- the first pairs, and one more
 pairs-suc :

@@ -1,9 +1,5 @@
 -- The list of all event ports of a system.
-use Rattle.std.proofs.Common.{◌≡◌, ◌⊎◌, ℕ, ◌+◌, ◌<◌, ◌^◌, Bool, true, false, List, [], ◌∷◌, ◌++◌, length, Contains, refl, sym, ap, subst, ◌∙◌, inl, inr, arith}
-use Rattle.std.proofs.lemmas.Bool.{cases_lt, true≢false}
-use Rattle.std.proofs.lemmas.List.Elements.{Contains-append_left, Contains-append_right, Contains-push_cases}
-use Rattle.fb_types.specs.Repeated.{Twice}
-use Rattle.fb_types.specs.Systems.{System}
+use Rattle.fb_types.proofs.Common.{◌≡◌, ◌⊎◌, ℕ, ◌+◌, ◌<◌, ◌^◌, Bool, true, false, List, [], ◌∷◌, ◌++◌, length, Contains, refl, sym, ap, subst, ◌∙◌, inl, inr, arith, cases_lt, true≢false, Contains-append_left, Contains-append_right, Contains-push_cases, Twice, System}
 use Rattle.fb_types.proofs.lemmas.lists.Elements.{Contains-here}
 use Rattle.fb_types.proofs.lemmas.lists.TwiceLaws.{once_push}
 use Rattle.fb_wave.specs.Ports.{AreAdded, HasNone, IsPortOf, side}

@@ -1,22 +1,8 @@
 -- The line at which a text is refused is the first with which it can be no trace.
-use Rattle.std.proofs.Common.{◌≡◌, ◌⊎◌, ℕ, suc, ◌<◌, ◌≤◌, ◌^◌, Bool, true, false, cond, List, [], ◌∷◌, ◌++◌, length, map, take, refl, sym, ap, subst, ◌∙◌, inl, inr, arith, append_assoc, append-nil}
-use Rattle.std.specs.Prelude.{All, not, ◌==◌}
-use Rattle.std.specs.Io.BufRead.{take_through}
-use Rattle.std.proofs.lemmas.Bool.{and_parts, not-true}
-use Rattle.std.proofs.lemmas.List.{length-map}
-use Rattle.std.proofs.lemmas.List.Elements.{All-head, All-tail}
-use Rattle.std.proofs.Math.Seq.{take-append_seam}
-use Rattle.fb_types.specs.Numbers.{line_of}
-use Rattle.fb_types.specs.Simulation.{Ending, AtStop}
-use Rattle.fb_types.specs.Systems.{System}
-use Rattle.fb_types.specs.Text.{last_line, line_text, lines_text}
-use Rattle.fb_types.specs.declared.run.Form.{Form}
-use Rattle.fb_types.specs.declared.run.Line.{Line}
-use Rattle.fb_types.specs.declared.value.Reason.TheVariants.{Steps}
+use Rattle.fb_wave.proofs.lemmas.Common.{◌≡◌, ◌⊎◌, ℕ, suc, ◌<◌, ◌≤◌, ◌^◌, Bool, true, false, cond, List, [], ◌∷◌, ◌++◌, length, map, take, refl, sym, ap, subst, ◌∙◌, inl, inr, arith, append_assoc, append-nil, All, not, ◌==◌, take_through, and_parts, not-true, length-map, All-head, All-tail, take-append_seam, line_of, Ending, System, last_line, lines_text, Form, Line, last_tick, IsLineOf, IsTextOf, HasNames}
+use Rattle.fb_types.proofs.Common.{AtStop, line_text, Steps}
 use Rattle.fb_wave.specs.Copying.{IsNoLineFrom}
-use Rattle.fb_wave.specs.Dumps.{last_tick}
-use Rattle.fb_wave.specs.Lines.{IsEndOf, IsLineOf, IsTextOf}
-use Rattle.fb_wave.specs.Named.{HasNames}
+use Rattle.fb_wave.specs.Lines.{IsEndOf}
 use Rattle.fb_wave.specs.Refusals.{GoesOn, IsFirstBad, lines_in, longer}
 use Rattle.fb_wave.specs.Waves.{AreLinesOf, EndsAfter, IsTraceOf, RiseFrom}
 use Rattle.fb_wave.proofs.lemmas.Lining.{IsOneLine, last_one, line_not_last, line_one, same_line}

@@ -1,32 +1,16 @@
 -- Traces that are cut off, and what is known where a trace may be.
-use Rattle.std.proofs.Common.{◌≡◌, ◌⊎◌, ℕ, suc, ◌+◌, ◌-◌, ◌≤◌, Bool, true, false, cond, List, [], ◌∷◌, ◌++◌, length, refl, sym, ap, subst, ◌∙◌, inl, inr, arith, append_assoc, append-nil}
-use Rattle.std.specs.Prelude.{All, IfSome, not, ◌==◌, count_by, slice_get, Option, Some, None}
-use Rattle.std.specs.Io.BufRead.{take_through}
-use Rattle.std.specs.Io.KnownBytes.{Appends}
-use Rattle.std.proofs.KnownBytes.{Appends-trans}
-use Rattle.std.proofs.lemmas.Bool.{and_from, not-true, not_from_false}
-use Rattle.std.proofs.lemmas.List.Elements.{All-head, All-tail}
+use Rattle.fb_wave.proofs.lemmas.Common.{◌≡◌, ◌⊎◌, ℕ, suc, ◌+◌, ◌-◌, ◌≤◌, Bool, true, false, cond, List, [], ◌∷◌, ◌++◌, length, refl, sym, ap, subst, ◌∙◌, inl, inr, arith, append_assoc, append-nil, All, IfSome, not, ◌==◌, slice_get, Option, Some, None, take_through, and_from, not-true, not_from_false, All-head, All-tail, System, Form, Line, ending_of, Outcome, IsAfter, IsCopied, RefusesLine, last_tick, IsLast, IsLineOf, HasNames, Progress, WaveError, Refused, Names, Memory, Read, Write}
+use Rattle.fb_types.proofs.Common.{count_by, Appends, Appends-trans}
 use Rattle.std.proofs.lemmas.List.Sums.{sum_by-append}
-use Rattle.fb_types.specs.Systems.{System}
-use Rattle.fb_types.specs.declared.run.Form.{Form}
-use Rattle.fb_types.specs.declared.run.Line.{Line}
-use Rattle.fb_trace.specs.End.{ending_of}
 use Rattle.fb_trace.specs.Progress.{bounded}
-use Rattle.fb_trace.specs.declared.last.Outcome.{Outcome}
-use Rattle.fb_wave.specs.Copying.{IsAfter, IsCopied, IsCutFinished, IsCutUnfinished, RefusesEnd, RefusesLine}
+use Rattle.fb_wave.specs.Copying.{IsCutFinished, IsCutUnfinished, RefusesEnd}
 use Rattle.fb_wave.specs.CutOff.{BlamesShown, FailsShown, HasTrace, IsCutWave, IsNoCut, IsShown, IsWhole, cut_text, has_no_feed, is_cut, is_unended, is_unended_by}
-use Rattle.fb_wave.specs.Dumps.{last_tick}
 use Rattle.fb_wave.specs.Faults.{IsReadFault}
-use Rattle.fb_wave.specs.Lines.{IsLast, IsLineOf}
-use Rattle.fb_wave.specs.Named.{HasNames}
 use Rattle.fb_wave.specs.Refusals.{Blames}
 use Rattle.fb_wave.specs.Waves.{FailsWave, IsWave, WritesFront}
 use Rattle.fb_wave.specs.Writing.{HasShown}
-use Rattle.fb_wave.specs.declared.copy.Progress.{Progress}
 use Rattle.fb_wave.specs.declared.truncation.Cut.{Cut}
 use Rattle.fb_wave.specs.declared.truncation.Cut.TheVariants as cut
-use Rattle.fb_wave.specs.declared.error.WaveError.{WaveError}
-use Rattle.fb_wave.specs.declared.error.WaveError.TheVariants.{Refused, Names, Memory, Read, Write}
 use Rattle.fb_wave.specs.Pages.{IsCutShort}
 use Rattle.fb_wave.specs.declared.page.Page.{Page}
 use Rattle.fb_wave.specs.declared.page.PageFault.{PageFault}

@@ -1,19 +1,11 @@
 -- What one more line sets, and how the text grows.
-use Rattle.std.proofs.Common.{◌≡◌, ℕ, Bool, cond, List, [], ◌∷◌, ◌++◌, refl, sym, ap, subst, ◌∙◌, append_assoc, append-nil}
-use Rattle.std.proofs.lemmas.Grind.{flat_map-append}
-use Rattle.std.proofs.lemmas.List.{map-append}
-use Rattle.fb_types.specs.Systems.{System}
-use Rattle.fb_types.specs.declared.run.Line.{Line}
-use Rattle.fb_types.specs.declared.value.Value.{Value}
-use Rattle.fb_wave.specs.Levels.{AreLevels}
+use Rattle.fb_wave.proofs.lemmas.Common.{◌≡◌, ℕ, Bool, cond, List, [], ◌∷◌, ◌++◌, refl, sym, ap, subst, ◌∙◌, append_assoc, append-nil, System, Line, Value, eq-eqb, ne_eqb, Ending, AreLevels, sizes_of, last_tick, fires_of, has_signal, touches_of}
+use Rattle.fb_types.proofs.Common.{flat_map-append, map-append}
 use Rattle.fb_wave.specs.declared.levels.Levels.{Levels}
-use Rattle.std.proofs.lemmas.Bool.{eq-eqb, ne_eqb}
-use Rattle.fb_types.specs.Simulation.{Ending}
 use Rattle.fb_wave.specs.Changes.{changes, time_text}
 use Rattle.fb_wave.specs.Scopes.{head_text}
-use Rattle.fb_wave.specs.Signals.{sizes_of}
-use Rattle.fb_wave.specs.Dumps.{dump_text, end_text, last_tick, tick_changes, ticks_text}
-use Rattle.fb_wave.specs.LineSignals.{fired, set_by, touched, fires_of, has_signal, touches_of}
+use Rattle.fb_wave.specs.Dumps.{dump_text, end_text, tick_changes, ticks_text}
+use Rattle.fb_wave.specs.LineSignals.{fired, set_by, touched}
 use Rattle.fb_wave.specs.Writing.{Shows, Turns}
 
 pub fires-one : (sys : System) (ls : List Line) (l : Line) → fires_of sys (ls ++ l ∷ []) ≡ fires_of sys ls ++ fired sys l ∷ []

@@ -1,9 +1,8 @@
 -- The digits of a number, written from the last to the first.
-use Rattle.std.proofs.Common.{◌≡◌, ℕ, ◌+◌, ◌-◌, ◌/◌, ◌%◌, ◌<◌, ◌≤◌, Bool, true, false, List, [], ◌∷◌, length, drop, set, sym, ap, ◌∙◌, arith, length-set, cond, zero, suc, refl}
-use Rattle.std.specs.Fmt.{digits, digits_onto, digit_glyph}
-use Rattle.std.proofs.lemmas.List.{drop-set, drop_all}
+use Rattle.fb_types.proofs.Common.{◌≡◌, ℕ, ◌+◌, ◌-◌, ◌/◌, ◌%◌, ◌<◌, ◌≤◌, Bool, true, false, List, [], ◌∷◌, length, drop, set, sym, ap, ◌∙◌, arith, length-set, cond, zero, suc, refl, digits, drop_all, eqb}
+use Rattle.std.specs.Fmt.{digits_onto, digit_glyph}
+use Rattle.std.proofs.lemmas.List.{drop-set}
 use borrow.Author.Tests.{eq-eqb, ne_eqb, lt-ltb}
-use lib.Dec.{eqb}
 use native.Mathlib.Nat.{mod-lt}
 
 -- The digits from an index on, after those of the rest, are the digits of the number.

@@ -1,11 +1,7 @@
 -- The changes of a tick are put one after another, and each signal's note goes.
-use Rattle.std.proofs.Common.{◌≡◌, ◌≢◌, ℕ, ◌+◌, ◌<◌, ◌≤◌, Bool, true, false, ◌||◌, ◌&&◌, List, [], ◌∷◌, ◌++◌, length, take, drop, get_or, set, refl, sym, ap, subst, ◌∙◌, arith, append_assoc, append-nil}
-use Rattle.std.specs.Prelude.{All, not}
+use Rattle.fb_types.proofs.Common.{◌≡◌, ◌≢◌, ℕ, ◌+◌, ◌<◌, ◌≤◌, Bool, true, false, ◌||◌, ◌&&◌, List, [], ◌∷◌, ◌++◌, length, take, drop, get_or, set, refl, sym, ap, subst, ◌∙◌, arith, append_assoc, append-nil, All, not, drop_more, take_more, take_all, drop_all, get_or_default, length-set, All-head, All-tail, Value}
 use Rattle.std.specs.List.{flat_map}
-use Rattle.std.proofs.lemmas.List.{drop_more, take_more, take_all, drop_all, get_or_default, length-set}
-use Rattle.std.proofs.lemmas.List.Elements.{All-head, All-tail}
 use borrow.Author.Tests.{eq-eqb, ne_eqb}
-use Rattle.fb_types.specs.declared.value.Value.{Value}
 use Rattle.fb_wave.proofs.lemmas.Noting.{at_set, is_in-more}
 use Rattle.fb_wave.specs.Changes.{changed, changes}
 use Rattle.fb_wave.specs.Levels.{shown_of, is_in, marked, IsCell, AreLevels}

@@ -1,26 +1,11 @@
 -- What keeps a text from being that of a line.
-use Rattle.std.proofs.Common.{◌≡◌, ℕ, ◌+◌, ◌<◌, ◌≤◌, ◌^◌, Bool, true, false, List, [], ◌∷◌, ◌++◌, length, map, decimal, refl, sym, ap, subst, ◌∙◌, arith}
-use Rattle.std.proofs.lemmas.List.{length-map}
-use Rattle.fb_types.specs.Blocks.{inputs_with, outputs_with, variable_names}
-use Rattle.fb_types.specs.Headline.{system_of}
-use Rattle.fb_types.specs.Names.{Name}
-use Rattle.fb_types.specs.Numbers.{event_at, pair_up, path_at, ports_at}
-use Rattle.fb_types.specs.Repeated.{Twice}
-use Rattle.fb_types.specs.Systems.{System}
-use Rattle.fb_types.specs.Text.{values_text}
-use Rattle.fb_types.specs.declared.key.Key.{Key}
-use Rattle.fb_types.specs.declared.library.Variable.{Variable}
-use Rattle.fb_types.specs.declared.run.Form.{Form}
-use Rattle.fb_types.specs.declared.run.Form.TheVariants.{One, Two}
-use Rattle.fb_types.specs.declared.run.Line.{Line}
-use Rattle.fb_types.specs.declared.value.Value.{Value}
-use Rattle.fb_system.specs.IndexLists.{AreIndexes, variable_at}
-use Rattle.fb_wave.specs.Lines.{AreInRange, AreNoValuesOf, AreValuesOf, HasNoHead, IsHead, IsInRange, IsLineOf, IsNoTextOf, IsTextOf}
-use Rattle.fb_wave.specs.Named.{HasNames}
+use Rattle.fb_wave.proofs.lemmas.Common.{◌≡◌, ℕ, ◌+◌, ◌<◌, ◌≤◌, ◌^◌, Bool, true, false, List, [], ◌∷◌, ◌++◌, length, map, decimal, refl, sym, ap, subst, ◌∙◌, arith, length-map, inputs_with, outputs_with, variable_names, system_of, Name, event_at, pair_up, path_at, ports_at, Twice, System, values_text, Variable, Form, One, Two, Line, Value, AreIndexes, AreValuesOf, IsLineOf, IsTextOf, HasNames, AreRead, number_text, Port}
+use Rattle.fb_types.proofs.Common.{Key}
+use Rattle.fb_system.specs.IndexLists.{variable_at}
+use Rattle.fb_wave.specs.Lines.{AreInRange, AreNoValuesOf, HasNoHead, IsHead, IsInRange, IsNoTextOf}
 use Rattle.fb_wave.specs.Ports.{BeginsWith, HasNoPort}
-use Rattle.fb_wave.specs.Reading.{AreRead, AreUnread, HasNoNumber, fit_each, number_text, type_at}
+use Rattle.fb_wave.specs.Reading.{AreUnread, HasNoNumber, fit_each, type_at}
 use Rattle.fb_wave.specs.declared.line.Parts.{Parts}
-use Rattle.fb_wave.specs.declared.ports.Port.{Port}
 use Rattle.fb_wave.specs.declared.table.PortTable.{PortTable}
 use Rattle.fb_wave.proofs.lemmas.Finding.{begins_once, same_port}
 use Rattle.fb_wave.proofs.lemmas.Gluing.{port_at}

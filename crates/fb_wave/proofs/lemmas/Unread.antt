@@ -1,15 +1,8 @@
 -- A reader that fails writes nothing and refuses nothing.
-use Rattle.std.proofs.Common.{ℕ, List, refl}
-use Rattle.std.specs.Prelude.{Option}
-use Rattle.fb_types.specs.Systems.{System}
-use Rattle.fb_trace.specs.declared.last.Outcome.{Outcome}
+use Rattle.fb_wave.proofs.lemmas.Common.{ℕ, List, refl, Option, System, Outcome, IsRefusedLine, Progress, WaveError, Memory, Read}
 use Rattle.fb_wave.specs.Copying.{IsNoWriteError, IsRefusedAt, IsUnfinished, RefusesEnd}
-use Rattle.fb_wave.specs.CurrentLines.{IsRefusedLine}
 use Rattle.fb_wave.specs.Faults.{IsReadFault}
-use Rattle.fb_wave.specs.declared.copy.Progress.{Progress}
 use Rattle.fb_wave.specs.declared.current_line.CurrentLine.{CurrentLine}
-use Rattle.fb_wave.specs.declared.error.WaveError.{WaveError}
-use Rattle.fb_wave.specs.declared.error.WaveError.TheVariants.{Memory, Read}
 
 pub read_writes_none : (e : WaveError) → IsReadFault e → IsNoWriteError e
 read_writes_none Memory fault = tt

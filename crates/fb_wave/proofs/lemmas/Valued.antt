@@ -1,18 +1,6 @@
 -- Values, and variables with values, that are read from a text.
-use Rattle.std.proofs.Common.{◌≡◌, ℕ, ℤ, suc, zero, pos, negsuc, neg_ℤ, ◌+◌, ◌^◌, ◌<◌, ◌≤◌, Bool, true, false, List, [], ◌∷◌, ◌++◌, length, map, take, drop, get_or, min, decimal, codes, refl, sym, ap, ◌∙◌, arith, append_assoc, append-nil}
-use Rattle.std.specs.Prelude.{◌&&◌, int_le, int_lt, MatchOption, Option, Some, None}
-use Rattle.std.proofs.lemmas.Bool.{and_parts, and_from, ltb-true, leb-true, false≢true}
-use Rattle.std.proofs.lemmas.List.{append_cancel_left, take_more, take_all, drop_all, get_or-map, length-map, map-append, length-take-le, length_push}
-use Rattle.std.proofs.lemmas.Option.{slice_get-map, slice_get-get_or}
-use Rattle.fb_types.specs.Blocks.{Bound}
-use Rattle.fb_types.specs.Names.{Name}
-use Rattle.fb_types.specs.Numbers.{pair_up}
-use Rattle.fb_types.specs.Text.{value_text, values_text}
-use Rattle.fb_types.specs.Values.{fits}
-use Rattle.fb_types.specs.declared.library.Variable.{Variable}
-use Rattle.fb_types.specs.declared.value.Ty.{Ty}
+use Rattle.fb_types.proofs.Common.{◌≡◌, ℕ, ℤ, suc, zero, pos, negsuc, neg_ℤ, ◌+◌, ◌^◌, ◌<◌, ◌≤◌, Bool, true, false, List, [], ◌∷◌, ◌++◌, length, map, take, drop, get_or, min, decimal, codes, refl, sym, ap, ◌∙◌, arith, append_assoc, append-nil, ◌&&◌, int_le, int_lt, MatchOption, Option, Some, None, and_parts, and_from, ltb-true, leb-true, false≢true, append_cancel_left, take_more, take_all, drop_all, get_or-map, length-map, map-append, length-take-le, length_push, slice_get-map, slice_get-get_or, Bound, Name, pair_up, value_text, values_text, fits, Variable, Ty, Value}
 use Rattle.fb_types.specs.declared.value.Ty.TheVariants.{Sint, Int, Dint, Lint, Usint, Uint, Udint, Ulint, Time, Bool as Boolean}
-use Rattle.fb_types.specs.declared.value.Value.{Value}
 use Rattle.fb_types.specs.declared.value.Value.TheVariants as value
 use Rattle.fb_wave.proofs.lemmas.Cutting.{cut_once, uncut, word_once}
 use Rattle.fb_wave.proofs.lemmas.Numerals.{digits_of, decimal_once}

@@ -1,7 +1,6 @@
 -- Places of findings in the deployment and in the stimuli.
-use Rattle.std.proofs.Common.{◌≡◌, Bor, List, Option, Some, None, Result, Ok, Err, Vec, sym, subst}
-use Rattle.std.specs.List.{AllZip}
-use Rattle.std.specs.Prelude.{IfOk, option_map, unwrap_or}
+use Rattle.fb_types.proofs.Common.{◌≡◌, Bor, List, Option, Some, None, Result, Ok, Err, sym, subst, AllZip, IfOk, option_map, unwrap_or}
+use Rattle.std.proofs.Common.{Vec}
 use Rattle.fb_read.specs.declared.token.Span.{Span}
 use Rattle.fb_inputs.specs.NearSpans.{IsNearInStimuli}
 use Rattle.fb_inputs.specs.declared.position.StimuliPosition.{StimuliPosition}

@@ -1,8 +1,6 @@
 -- Two lists that are related index by index.
-use Rattle.std.proofs.Common.{◌≡◌, ℕ, zero, suc, ◌+◌, ◌<◌, List, [], ◌∷◌, ◌++◌, get_or, length, map, take, sym, ◌∙◌, subst, arith}
-use Rattle.std.proofs.lemmas.List.{length-map, take_more}
+use Rattle.fb_types.proofs.Common.{◌≡◌, ℕ, zero, suc, ◌+◌, ◌<◌, List, [], ◌∷◌, ◌++◌, get_or, length, map, take, sym, ◌∙◌, subst, arith, length-map, take_more, AllZip}
 use Rattle.std.proofs.lemmas.Slice.Zip.{AllZip-long, all_zipped_more}
-use Rattle.std.specs.List.{AllZip}
 
 module _ {A B : Type 0} (R : A → B → Type 0) where
   pub none_paired : (ys : List B) → ys ≡ [] → AllZip R [] ys

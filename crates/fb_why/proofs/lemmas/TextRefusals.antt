@@ -1,6 +1,5 @@
 -- The stimuli that a refusal is about, and refusals of a text.
-use Rattle.std.proofs.Common.{◌≡◌, ℕ, List, Option, Some, None, Result, Ok, Err, refl, sym, subst, ◌∙◌, inl, inr}
-use Rattle.std.specs.Prelude.{IfOk, IfSome, MatchOption}
+use Rattle.fb_types.proofs.Common.{◌≡◌, ℕ, List, Option, Some, None, Result, Ok, Err, refl, sym, subst, ◌∙◌, inl, inr, IfOk, IfSome, MatchOption}
 use Rattle.std.proofs.lemmas.Option.{MatchOption-at_none, MatchOption-at_some}
 use Rattle.fb_read.specs.Errors.{fault_number}
 use Rattle.fb_why.proofs.lemmas.TextReadings.{finds-numbered}

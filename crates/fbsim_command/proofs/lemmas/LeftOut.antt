@@ -1,17 +1,11 @@
 -- The warnings that are left out, and the lines of the others, one after another.
-use Rattle.std.proofs.Common.{◌≡◌, ◌⊎◌, ℕ, zero, suc, ◌+◌, ◌<◌, ◌≤◌, ◌&&◌, ◌||◌, nat_le, nat_lt, Bool, true, false, List, [], ◌∷◌, ◌++◌, append-nil, get_or, length, take, sum, Option, if◌then◌else◌, inl, inr, refl, sym, ◌∙◌, ap, ap₂, subst, arith}
-use Rattle.std.proofs.lemmas.Bool.{cases_lt, le-leb, le-ltb, lt-leb, lt-ltb}
-use Rattle.std.proofs.lemmas.List.{take_more, take_all}
-use Rattle.std.proofs.lemmas.List.Folds.{list_any-append}
-use Rattle.std.proofs.lemmas.List.Sums.{sum_by-cons, sum_by_more}
-use Rattle.std.specs.List.{list_any}
-use Rattle.fb_types.specs.declared.deploy.Stimulus.{Stimulus}
-use Rattle.fb_types.specs.declared.library.Library.{Library}
+use Rattle.fbsim_command.proofs.lemmas.Common.{◌≡◌, ◌⊎◌, ℕ, zero, suc, ◌+◌, ◌<◌, ◌≤◌, ◌&&◌, ◌||◌, nat_lt, Bool, true, false, List, [], ◌∷◌, ◌++◌, append-nil, get_or, length, take, Option, if◌then◌else◌, inl, inr, refl, sym, ◌∙◌, ap, subst, arith, take_more, take_all, Library, Place, Given}
+use Rattle.fb_types.proofs.Common.{nat_le, ap₂, cases_lt, le-leb, le-ltb, lt-leb, lt-ltb, list_any-append, sum_by-cons, list_any, Stimulus}
+use Rattle.std.proofs.Common.{sum}
+use Rattle.std.proofs.lemmas.List.Sums.{sum_by_more}
 use Rattle.fb_lint.specs.Positions.{position_of}
 use Rattle.fb_lint.specs.declared.warning.Warning.{Warning}
 use Rattle.fb_read_positions.specs.Places.{IsPlaceFor}
-use Rattle.fb_read_positions.specs.declared.places.Place.{Place}
-use Rattle.fb_sim.specs.Given.{Given}
 use Rattle.fbsim_command.specs.Joining.{IsLineOf}
 use Rattle.fbsim_command.specs.Selecting.{is_selected}
 use Rattle.fbsim_command.specs.WarningLines.{AreKept, AreLines, AreSorted, IsAdded, Naming, is_left_out}

@@ -1,10 +1,7 @@
 -- Warnings that texts name.
-use Rattle.std.proofs.Common.{◌≡◌, ℕ, ◌+◌, ◌<◌, Bor, List, ◌++◌, drop, get_or, length, map, take, None, sym, ◌∙◌, ap}
-use Rattle.std.proofs.lemmas.List.{drop_more, map-append, take-append-drop}
+use Rattle.fbsim_command.proofs.lemmas.Common.{◌≡◌, ℕ, ◌+◌, ◌<◌, Bor, List, ◌++◌, drop, get_or, length, map, take, None, sym, ◌∙◌, ap, drop_more, map-append, take-append-drop, Failure, Refused, RefusedTrace, File, Write, Memory, Line, BadOption}
 use Rattle.clap.specs.Words.{Text}
 use Rattle.fbsim_command.specs.Selecting.{AreUnknown, IsUnknown, selector_of}
-use Rattle.fbsim_command.specs.declared.failure.Failure.{Failure}
-use Rattle.fbsim_command.specs.declared.failure.Failure.TheVariants.{Refused, RefusedTrace, File, Write, Memory, Line, BadOption}
 
 abbrev now : Bor Text → Text
 now t = t.now

@@ -1,20 +1,13 @@
 -- How a call that talks to a session ends.
-use Rattle.std.proofs.Common.{◌≡◌, ℕ, Option, Some, None, Result, Ok, Err, inl, inr, refl}
-use Rattle.fb_types.specs.Headline.{Inputs}
-use Rattle.fb_read.specs.declared.error.ReadError.{ReadError}
+use Rattle.fbsim_command.proofs.lemmas.Common.{◌≡◌, ℕ, Option, Some, None, Result, Ok, Err, inl, inr, refl, Inputs, ReadError, Given, Declares, IsRefusal, IsRightly, RunError, failure_of, numbered_input, Held}
 use Rattle.fb_read.specs.declared.error.ReadError.TheVariants as read
 use Rattle.fb_check.specs.Refusals as check
 use Rattle.fb_inputs.specs.Refusals as input
-use Rattle.fb_sim.specs.Given.{Given}
-use Rattle.fb_sim.specs.Serial.{Declares, IsRefusal, IsRightly}
 use Rattle.fb_sim.specs.declared.outcome.Refusal as sim
 use Rattle.fb_sim.specs.declared.outcome.Refusal.TheVariants as of
-use Rattle.fb_sim.specs.declared.outcome.RunError.{RunError}
 use Rattle.fb_sim.specs.declared.outcome.RunError.TheVariants as run
 use Rattle.fb_trace.specs.declared.last.Outcome.{Outcome}
 use Rattle.fb_trace.specs.declared.last.Outcome.TheVariants as outcome
-use Rattle.fbsim_command.specs.Failures.{failure_of, numbered_input}
-use Rattle.fbsim_command.specs.Outcomes.{Held}
 use Rattle.fbsim_command.specs.Sessions.{Answers, end_of_talk}
 use Rattle.fbsim_line.specs.declared.session_line.SessionCall.{SessionCall}
 use Rattle.fbsim_session.specs.Talks.{Talks}

@@ -1,10 +1,5 @@
 -- The type of the first variable with a name.
-use Rattle.std.proofs.Common.{◌≡◌, ℕ, ◌+◌, ◌<◌, ◌≤◌, Bool, true, false, cond, List, get_or, length, drop, Option, Some, None, option_map, sym, ◌∙◌, ap}
-use Rattle.std.specs.List.{find}
-use Rattle.std.proofs.lemmas.List.{drop_all, drop_more}
-use Rattle.fb_types.specs.Names.{Name, same_name}
-use Rattle.fb_types.specs.declared.library.Variable.{Variable}
-use Rattle.fb_types.specs.declared.value.Ty.{Ty}
+use Rattle.fb_types.proofs.Common.{◌≡◌, ℕ, ◌+◌, ◌<◌, ◌≤◌, Bool, true, false, cond, List, get_or, length, drop, Option, Some, None, option_map, sym, ◌∙◌, ap, find, drop_all, drop_more, Name, same_name, Variable, Ty}
 use Rattle.fbsim_command.specs.Possible.{type_of}
 
 module _ (vs : List Variable) (name : Name) (i : ℕ) (d : Variable) where

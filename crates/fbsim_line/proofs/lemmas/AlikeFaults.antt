@@ -1,9 +1,8 @@
 -- How a parse may fail, where the parsers of values are others that answer alike.
-use Rattle.std.proofs.Common.{◌≡◌, ◌∙◌, ◌+◌, ◌&&◌, ◌||◌, ℕ, Bool, false, zero, suc, not, refl, ap, ap₂, List, [], ◌∷◌, map, length, min, drop, is_some, Option, Some, None, option_map}
-use Rattle.std.specs.Prelude.{if◌then◌else◌, encode_utf8, slice_get}
-use Rattle.std.specs.List.{find, list_any}
+use Rattle.fb_types.proofs.Common.{◌≡◌, ◌∙◌, ◌+◌, ◌&&◌, ◌||◌, ℕ, Bool, false, zero, suc, not, refl, ap, ap₂, List, [], ◌∷◌, map, length, min, drop, is_some, Option, Some, None, option_map, if◌then◌else◌, slice_get, find, list_any, bytes_eq}
+use Rattle.std.specs.Prelude.{encode_utf8}
 use Rattle.std.specs.Option.{option_map_or}
-use Rattle.std.specs.Str.{bytes_eq, chars}
+use Rattle.std.specs.Str.{chars}
 use Rattle.clap.specs.Lexer.{long_of, short_of}
 use Rattle.clap.specs.Matches.{count_text}
 use Rattle.clap.specs.Facts.{explicit_source, parser_of_value, unwrap_or_range}

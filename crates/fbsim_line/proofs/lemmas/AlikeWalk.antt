@@ -1,9 +1,8 @@
 -- What a parse makes of the words, where the parsers of values are others that answer alike.
-use Rattle.std.proofs.Common.{◌≡◌, ◌∙◌, ◌==◌, ◌&&◌, ◌||◌, ℕ, Bool, false, zero, suc, not, refl, sym, ap, ap₂, List, [], ◌∷◌, map, length, drop, is_some, Option, Some, None, option_map}
-use Rattle.std.specs.Prelude.{if◌then◌else◌, encode_utf8, slice_get}
-use Rattle.std.specs.List.{fold}
+use Rattle.fb_types.proofs.Common.{◌≡◌, ◌∙◌, ◌==◌, ◌&&◌, ◌||◌, ℕ, Bool, false, zero, suc, not, refl, sym, ap, ap₂, List, [], ◌∷◌, map, length, drop, is_some, Option, Some, None, option_map, if◌then◌else◌, slice_get, fold, bytes_eq}
+use Rattle.std.specs.Prelude.{encode_utf8}
 use Rattle.std.specs.Option.{option_map_or}
-use Rattle.std.specs.Str.{bytes_eq, chars}
+use Rattle.std.specs.Str.{chars}
 use Rattle.clap.specs.Lexer.{long_of, short_of}
 use Rattle.clap.specs.Values.{reading_of, refused_kind}
 use Rattle.clap.specs.ValueTests.{accepts}

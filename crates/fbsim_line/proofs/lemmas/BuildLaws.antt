@@ -1,7 +1,6 @@
 -- Commands that are made argument by argument, none of them global.
-use Rattle.std.proofs.Common.{◌≡◌, ◌||◌, ◌<◌, ◌≤◌, ◌+◌, ℕ, Bool, List, Some, false, true, ap, ap₂, drop, get_or, length, refl, sym, ◌∙◌}
+use Rattle.fb_types.proofs.Common.{◌≡◌, ◌||◌, ◌<◌, ◌≤◌, ◌+◌, ℕ, Bool, List, Some, false, true, ap, ap₂, drop, get_or, length, refl, sym, ◌∙◌, drop_all, drop_more}
 use Rattle.std.specs.Borrow.{Bor}
-use Rattle.std.proofs.lemmas.List.{drop_all, drop_more}
 use Rattle.clap.specs.Words.{App, Rule, Text, AddsArg, AddsSubcommand, app_of, rule_of, with_rule, with_subcommand}
 use Rattle.clap.specs.declared.builder.action.ArgAction.{ArgAction}
 use Rattle.clap.specs.declared.builder.arg.Arg.{Arg}

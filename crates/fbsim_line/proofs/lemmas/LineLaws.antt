@@ -1,15 +1,9 @@
 -- Where the words name no call.
-use Rattle.std.proofs.Common.{◌≡◌, ℕ, Bool, Bor, Option, Some, None, Result, Ok, Err, List, false, true, map, option_map, refl, sym, ap, ◌∙◌, subst, inl, inr, codes}
-use Rattle.std.specs.Global.{Vec}
-use Rattle.std.specs.Str.{bytes_eq}
-use Rattle.std.proofs.lemmas.Slice.Eq.{bytes_eq-Decides}
-use Rattle.std.specs.Prelude.{◌≢◌, IfNone, IfOk, IfErr, IfSome, OnOk, []}
+use Rattle.fb_types.proofs.Common.{◌≡◌, ℕ, Bool, Bor, Option, Some, None, Result, Ok, Err, List, false, true, map, option_map, refl, sym, ap, ◌∙◌, subst, inl, inr, codes, Vec, bytes_eq, bytes_eq-Decides, ◌≢◌, IfNone, IfOk, IfErr, IfSome, OnOk, [], Form, One, Two}
 use Rattle.clap.specs.Words.{App, Row, Text, HasKind, IsAmong, all_of, first_of, fault_of, kind_of, is_simple, is_simple_and_free, takes, matches_of, subcommand_of}
 use Rattle.clap.specs.declared.error.Error.{Error}
 use Rattle.clap.specs.declared.error.kind.ErrorKind.{ErrorKind}
 use Rattle.clap.specs.declared.error.kind.ErrorKind.TheVariants.{DisplayHelp, DisplayVersion, OutOfMemory}
-use Rattle.fb_types.specs.declared.run.Form.{Form}
-use Rattle.fb_types.specs.declared.run.Form.TheVariants.{One, Two}
 use Rattle.clap.specs.declared.builder.value_parser.ValueParser.{ValueParser}
 use Rattle.fbsim_line.specs.Line.{AreCall, AreLevels, AreNoCall, IsNoTask, MayBeNumber, warns, AskHelp, IsTaken, NameNoCall, IsForm, AsksCoverage, AsksDiff, AsksDraw, AsksExpect, AsksInspect, AsksSession, AsksWave, IsNumber, IsAction, IsCall, IsCallOf, IsFault, IsFlag, IsText, command_name, call_name, declares_nothing, or_none, AreForms, simulator, simulator_with}
 use Rattle.fbsim_line.proofs.lemmas.FormLaws.{same_fault, same_subcommand, same_takes}

@@ -1,12 +1,7 @@
 -- Words of a line, and what they ask for.
-use Rattle.std.proofs.Common.{◌≡◌, ℕ, ◌+◌, ◌-◌, ◌^◌, ◌<◌, ◌≤◌, Bool, true, false, [], ◌∷◌, ◌++◌, length, take, drop, get_or, Option, Some, None, refl, sym, ap, ◌∙◌, subst, arith}
-use Rattle.std.proofs.lemmas.Bool.{eqb-true}
-use Rattle.std.proofs.lemmas.List.{take_more}
-use Rattle.std.proofs.Math.Seq.{drop-cons}
+use Rattle.fb_types.proofs.Common.{◌≡◌, ℕ, ◌+◌, ◌-◌, ◌^◌, ◌<◌, ◌≤◌, Bool, true, false, [], ◌∷◌, ◌++◌, length, take, drop, get_or, Option, Some, None, refl, sym, ap, ◌∙◌, subst, arith, eqb-true, take_more, drop-cons, ◌==◌, if◌then◌else◌, min, nat_lt, nat_le, option_map, ◌&&◌, nat_tests}
 use Rattle.std.proofs.Math.Numerals.{add-one}
-use Rattle.std.specs.Prelude.{◌==◌, if◌then◌else◌, min, nat_lt, nat_le, option_map, ◌&&◌}
 use Rattle.fb_inputs.specs.Words.{Text}
-use Rattle.std.proofs.lemmas.Bool.Decides.{nat_tests}
 use Rattle.fbsim_session.specs.Commands.{after_blanks, before_blanks, before_text, Clear, clear_by, tick_by, Wrong}
 use Rattle.fbsim_session.specs.declared.command.Usage.TheVariants as usage
 

@@ -1,10 +1,6 @@
 -- Pieces one after another, and the bytes that a writer got of them.
-use Rattle.std.proofs.Common.{◌≡◌, ◌⊎◌, ℕ, ◌+◌, List, [], ◌∷◌, ◌++◌, length, take, Option, Some, None, Err, refl, sym, ap, ◌∙◌, subst, arith, append_assoc, append-nil, suc}
-use Rattle.std.specs.Io.KnownBytes.{Appends, Keeps}
-use Rattle.std.proofs.KnownBytes.{Appends-trans}
-use Rattle.std.proofs.lemmas.List.Elements.{All-nil, All-push}
-use Rattle.fb_types.specs.Headline.{IsTrace}
-use Rattle.fb_types.specs.Machines.{Each}
+use Rattle.fb_types.proofs.Common.{◌≡◌, ◌⊎◌, ℕ, ◌+◌, List, [], ◌∷◌, ◌++◌, length, take, Option, Some, None, Err, refl, sym, ap, ◌∙◌, subst, arith, append_assoc, append-nil, suc, Appends, Appends-trans, All-nil, All-push, IsTrace, Each}
+use Rattle.std.specs.Io.KnownBytes.{Keeps}
 use Rattle.fb_trace.specs.End.{ending_of}
 use Rattle.fb_trace.specs.declared.last.Outcome.{Outcome}
 use Rattle.fb_session.specs.Pasts.{with_rows}

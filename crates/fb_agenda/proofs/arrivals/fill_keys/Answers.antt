@@ -1,9 +1,4 @@
-use Rattle.std.proofs.Common.{◌≡◌, ◌++◌, ◌∷◌, [], length, sym, ap, subst, ◌∙◌, append_assoc, append-nil, arith}
-use Rattle.std.specs.Map.{lookup}
-use Rattle.std.specs.Prelude.{IsSome}
-use Rattle.std.specs.Vec.Iter.{into_iter_items}
-use Rattle.std.proofs.lemmas.List.{map-append, nil_from_length}
-use Rattle.fb_types.specs.Keys.{found, or_else, same_key}
+use Rattle.fb_types.proofs.Common.{◌≡◌, ◌++◌, ◌∷◌, [], length, sym, ap, subst, ◌∙◌, append_assoc, append-nil, arith, lookup, IsSome, into_iter_items, map-append, nil_from_length, found, or_else, same_key}
 use Rattle.fb_agenda.specs.Arrivals.{arrival_at, arrivals_at}
 use Rattle.fb_agenda.proofs.lemmas.Orders.{either_some}
 use Rattle.fb_agenda.proofs.lemmas.MessagesPut.{filled_more, found_there}

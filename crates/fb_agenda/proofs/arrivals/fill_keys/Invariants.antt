@@ -1,8 +1,4 @@
-use Rattle.std.proofs.Common.{◌≡◌, ◌++◌, length}
-use Rattle.std.specs.Map.{lookup}
-use Rattle.std.specs.Vec.Iter.{into_iter_items, into_iter_len}
-use Rattle.fb_types.specs.Keys.{found, or_else, same_key}
-use Rattle.fb_types.specs.declared.key.Key.{Key}
+use Rattle.fb_types.proofs.Common.{◌≡◌, ◌++◌, length, lookup, into_iter_items, into_iter_len, found, or_else, same_key, Key}
 use Rattle.fb_agenda.specs.Arrivals.{arrivals_at}
 use Rattle.fb_agenda.proofs.arrivals.fill_keys.Given as goal
 

@@ -1,7 +1,4 @@
-use Rattle.std.proofs.Common.{◌≡◌, take, refl, sym, ap, subst, ◌∙◌, None, arith}
-use Rattle.fb_types.specs.declared.key.Key.{Key}
-use Rattle.fb_agenda.specs.Arrivals.{KeepsOthers, LacksKeys, arrival_at, arrivals_at}
-use Rattle.fb_agenda.specs.Lists.{Sets}
+use Rattle.fb_agenda.proofs.lemmas.Common.{◌≡◌, take, refl, sym, ap, subst, ◌∙◌, None, arith, Key, KeepsOthers, LacksKeys, arrival_at, arrivals_at, Sets}
 use Rattle.fb_agenda.proofs.lemmas.MessagesPut.{arrivals_more, keeps_more, lacks_more}
 use Rattle.fb_agenda.proofs.arrivals.release_keys.Goals as goal
 

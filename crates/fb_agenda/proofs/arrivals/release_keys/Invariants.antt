@@ -1,5 +1,4 @@
-use Rattle.std.proofs.Common.{◌≡◌, take}
-use Rattle.fb_agenda.specs.Arrivals.{KeepsOthers, LacksKeys, arrivals_at}
+use Rattle.fb_agenda.proofs.lemmas.Common.{◌≡◌, take, KeepsOthers, LacksKeys, arrivals_at}
 use Rattle.fb_agenda.proofs.arrivals.release_keys.Given as goal
 
 abbrev pub invariant-loop-message : goal.invariant-loop-message

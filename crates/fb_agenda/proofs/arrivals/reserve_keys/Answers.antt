@@ -1,9 +1,5 @@
-use Rattle.std.proofs.Common.{◌≡◌, take, refl, sym, ap, subst, ◌∙◌, Some, arith}
-use Rattle.fb_types.specs.declared.key.Key.{Key}
-use Rattle.fb_agenda.specs.Arrivals.{HasKeys, KeepsOthers, arrival_at, arrivals_at}
-use Rattle.fb_agenda.specs.Laters.{Pending}
+use Rattle.fb_agenda.proofs.lemmas.Common.{◌≡◌, take, refl, sym, ap, subst, ◌∙◌, Some, arith, Key, HasKeys, KeepsOthers, arrival_at, arrivals_at, Pending, Sets}
 use Rattle.fb_types.specs.declared.run.Event.TheVariants.{Stimulus}
-use Rattle.fb_agenda.specs.Lists.{Sets}
 use Rattle.fb_agenda.proofs.lemmas.MessagesPut.{arrivals_more, has_more, keeps_all, keeps_more}
 use Rattle.fb_agenda.proofs.arrivals.reserve_keys.Goals as goal
 

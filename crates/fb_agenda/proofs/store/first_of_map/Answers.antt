@@ -1,6 +1,4 @@
-use Rattle.std.proofs.Common.{ap}
-use Rattle.std.specs.Prelude.{is_some}
-use Rattle.fb_types.specs.Keys.{key_cmp}
+use Rattle.fb_types.proofs.Common.{ap, is_some, key_cmp}
 use Rattle.fb_types.proofs.lemmas.events.KeyLaws.{before_least}
 use Rattle.std.specs.BTreeMap as tree
 use Rattle.fb_agenda.proofs.store.first_of_map.Goals as goal

@@ -1,5 +1,4 @@
-use Rattle.std.proofs.Common.{◌≡◌, deque_len, length, arith, rules}
-use Rattle.std.proofs.lemmas.List.Sorted.{answers_always}
+use Rattle.fb_types.proofs.Common.{◌≡◌, deque_len, length, arith, rules, answers_always}
 use Rattle.fb_agenda.proofs.lemmas.Lists.{index_found, index_none}
 use Rattle.fb_agenda.proofs.store.index_of.Goals as goal
 

@@ -1,10 +1,4 @@
-use Rattle.std.proofs.Common.{◌≡◌, ◌-◌, Bool, true, false, deque_len, refl, sym, ap, subst, ◌∙◌, arith}
-use mathlib.Core.Bool.{false≢true}
-use Rattle.std.specs.Bool.{OnTrue}
-use Rattle.std.specs.Ordering.{is_lt}
-use Rattle.std.specs.declared.cmp.Ordering.{Ordering}
-use Rattle.std.specs.declared.cmp.Ordering.TheVariants.{Less, Equal, Greater}
-use Rattle.fb_types.specs.Keys.{Precedes, key_cmp}
+use Rattle.fb_types.proofs.Common.{◌≡◌, ◌-◌, Bool, true, false, deque_len, refl, sym, ap, subst, ◌∙◌, arith, false≢true, OnTrue, is_lt, Ordering, Less, Equal, Greater, Precedes, key_cmp}
 use Rattle.fb_agenda.proofs.lemmas.Orders.{all_before, all_before_none, less_is}
 use Rattle.fb_agenda.proofs.store.is_past.Goals as goal
 

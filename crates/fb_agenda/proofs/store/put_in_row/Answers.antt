@@ -1,6 +1,4 @@
-use Rattle.std.proofs.Common.{List, [], ◌∷◌, ◌++◌, ap, ◌∙◌}
-use Rattle.fb_types.specs.declared.key.Key.{Key}
-use Rattle.fb_types.specs.declared.run.Event.{Event}
+use Rattle.fb_agenda.proofs.lemmas.Common.{List, [], ◌∷◌, ◌++◌, ap, ◌∙◌, Key, Event}
 use Rattle.fb_agenda.proofs.lemmas.Lists.{absent_past, err_known}
 use Rattle.fb_agenda.proofs.lemmas.Orders.{put_last}
 use Rattle.fb_agenda.proofs.store.put_in_row.Goals as goal

@@ -1,5 +1,4 @@
-use Rattle.std.proofs.Common.{◌∙◌, arith, rules}
-use Rattle.std.proofs.lemmas.List.Sorted.{answers_always}
+use Rattle.fb_types.proofs.Common.{◌∙◌, arith, rules, answers_always}
 use Rattle.fb_agenda.proofs.lemmas.Lists.{absent_between, err_known}
 use Rattle.fb_agenda.proofs.lemmas.Orders.{put_over, put_between, searchable}
 use Rattle.fb_agenda.proofs.store.put_within.Goals as goal

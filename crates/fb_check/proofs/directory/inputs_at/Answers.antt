@@ -1,9 +1,5 @@
-use Rattle.std.proofs.Common.{Option, None, ap, sym, ◌∙◌, subst}
-use Rattle.std.specs.Option.{option_copied}
-use Rattle.std.specs.Prelude.{slice_get}
-use Rattle.fb_types.specs.Blocks.{event_block_named}
-use Rattle.fb_check.specs.Directory.{IsFound}
-use Rattle.fb_check.specs.declared.directory_making.TypeInputs.{TypeInputs}
+use Rattle.fb_check.proofs.lemmas.Common.{Option, None, ap, sym, ◌∙◌, subst, option_copied, slice_get, IsFound, TypeInputs}
+use Rattle.fb_types.proofs.Common.{event_block_named}
 use Rattle.fb_check.proofs.lemmas.DirectoryEntries.{ports_named, found_event, found_none, found_declared, found_instance, missing_instance}
 use Rattle.fb_check.proofs.directory.inputs_at.Goals as goal
 

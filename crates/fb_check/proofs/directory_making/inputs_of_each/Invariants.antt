@@ -1,5 +1,4 @@
-use Rattle.std.proofs.Common.{map, take}
-use Rattle.fb_check.specs.Directory.{AreInputs}
+use Rattle.fb_check.proofs.lemmas.Common.{map, take, AreInputs}
 use Rattle.fb_check.proofs.directory_making.inputs_of_each.Given as goal
 
 abbrev pub invariant-loop-each : goal.invariant-loop-each

@@ -1,5 +1,4 @@
-use Rattle.std.proofs.Common.{take}
-use Rattle.fb_check.specs.Directory.{AreTargets}
+use Rattle.fb_check.proofs.lemmas.Common.{take, AreTargets}
 use Rattle.fb_check.proofs.directory_making.targets_of.Given as goal
 
 abbrev pub invariant-loop-connection : goal.invariant-loop-connection

@@ -1,6 +1,4 @@
-use Rattle.std.proofs.Common.{refl, sym, ◌∙◌}
-use Rattle.fb_types.specs.Names.{Name}
-use Rattle.fb_types.specs.declared.library.Variable.{Variable}
+use Rattle.fb_types.proofs.Common.{refl, sym, ◌∙◌, Name, Variable}
 use Rattle.fb_check.specs.Directory.{input_of}
 use Rattle.fb_check.proofs.lemmas.FilledByName.{at_name, first_none, first_kept, first_more}
 use Rattle.fb_check.proofs.directory_making.variables_of.Goals as goal

@@ -1,7 +1,4 @@
-use Rattle.std.proofs.Common.{List, refl, subst}
-use Rattle.std.proofs.lemmas.List.{take_all}
-use Rattle.fb_types.specs.declared.library.EventPort.{EventPort}
-use Rattle.fb_check.specs.Directory.{AreWiths}
+use Rattle.fb_check.proofs.lemmas.Common.{List, refl, subst, take_all, EventPort, AreWiths}
 use Rattle.fb_check.proofs.lemmas.FilledByName.{withs_none, withs_more}
 use Rattle.fb_check.proofs.directory_making.withs_of.Goals as goal
 

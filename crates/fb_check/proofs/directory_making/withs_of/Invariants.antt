@@ -1,5 +1,4 @@
-use Rattle.std.proofs.Common.{take}
-use Rattle.fb_check.specs.Directory.{AreWiths}
+use Rattle.fb_check.proofs.lemmas.Common.{take, AreWiths}
 use Rattle.fb_check.proofs.directory_making.withs_of.Given as goal
 
 abbrev pub invariant-loop-event : goal.invariant-loop-event

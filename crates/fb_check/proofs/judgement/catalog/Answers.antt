@@ -1,11 +1,10 @@
-use Rattle.std.proofs.Common.{rules, ◌≡◌, List, ◌++◌, map, sym, ap, ◌∙◌}
+use Rattle.fb_check.proofs.lemmas.Common.{rules, ◌≡◌, List, ◌++◌, map, sym, ap, ◌∙◌, inputs_in}
 use Rattle.fb_check_names.proofs.lemmas.Listing.{some_says}
 use Rattle.fb_check_names.specs.declared.twice.GivenTwice.{GivenTwice}
 use Rattle.fb_check_names.specs.Twice.{IsTwiceAt}
 use Rattle.fb_check_names.specs.TwiceLists.{twice_all}
 use Rattle.fb_check_names.proofs.lemmas.twice.AllTwice.{each_twice, none_twice}
 use Rattle.fb_check_names.proofs.lemmas.numbers.Applying.{twice_applies}
-use Rattle.fb_check.specs.Refusals.{inputs_in}
 use Rattle.fb_check.specs.declared.fault.Fault.TheVariants as of
 use Rattle.fb_check.specs.declared.location.Location.TheVariants as at
 use Rattle.fb_check.proofs.lemmas.Verdict.{first, least_20, made_so, refused_so}

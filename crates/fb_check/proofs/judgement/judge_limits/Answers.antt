@@ -1,5 +1,4 @@
-use Rattle.std.proofs.Common.{◌<◌, length, inl, inr, refl, arith}
-use Rattle.fb_types.specs.Flat.{paths_of}
+use Rattle.fb_types.proofs.Common.{◌<◌, length, inl, inr, refl, arith, paths_of}
 use Rattle.fb_check.specs.Refusals.{inputs_in}
 use Rattle.fb_check.specs.declared.fault.Fault.TheVariants as of
 use Rattle.fb_check.specs.declared.location.Limit.TheVariants as limit

@@ -1,9 +1,6 @@
-use Rattle.std.proofs.Common.{rules, refl, arith}
+use Rattle.fb_check.proofs.lemmas.Common.{rules, refl, arith, StimulusLocation, IsBadAt, inputs_in}
 use Rattle.fb_check_names.proofs.lemmas.Listing.{some_says}
-use Rattle.fb_check.specs.declared.location.StimulusLocation.{StimulusLocation}
-use Rattle.fb_check.specs.Stimuli.{IsBadAt}
 use Rattle.fb_check.proofs.lemmas.GoodStimuli.{bad_applies}
-use Rattle.fb_check.specs.Refusals.{inputs_in}
 use Rattle.fb_check.specs.declared.fault.Fault.TheVariants as of
 use Rattle.fb_check.specs.declared.location.Location.TheVariants as at
 use Rattle.fb_check.proofs.lemmas.Verdict.{known, least_29, made_so, passes_29, refused_so}

@@ -1,11 +1,7 @@
-use Rattle.std.proofs.Common.{rules, ◌≡◌, List, ◌++◌, map, sym, ap, ◌∙◌}
+use Rattle.fb_check.proofs.lemmas.Common.{rules, ◌≡◌, List, ◌++◌, map, sym, ap, ◌∙◌, UnknownName, IsUnknownAt, unknown_all, inputs_in}
 use Rattle.fb_check_names.proofs.lemmas.Listing.{some_says}
-use Rattle.fb_check_names.specs.declared.location.UnknownName.{UnknownName}
-use Rattle.fb_check.specs.types.Unknown.{IsUnknownAt}
-use Rattle.fb_check.specs.types.Unknowns.{unknown_all}
 use Rattle.fb_check.proofs.lemmas.types.UnknownApplies.{unknown_applies}
 use Rattle.fb_check.proofs.lemmas.types.UnknownWitnesses.{each_unknown}
-use Rattle.fb_check.specs.Refusals.{inputs_in}
 use Rattle.fb_check.specs.declared.fault.Fault.TheVariants as of
 use Rattle.fb_check.specs.declared.location.Location.TheVariants as at
 use Rattle.fb_check.proofs.lemmas.Verdict.{first, least_21, made_so, passes_20, refused_so}

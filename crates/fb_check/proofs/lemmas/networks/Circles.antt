@@ -1,26 +1,15 @@
 -- Composite types that lead back to themselves, or too far down, by number.
-use Rattle.std.proofs.Common.{◌≡◌, ℕ, zero, suc, Bool, List, Option, Some, None, refl, sym, ◌∙◌, ap, subst, inl, inr}
-use Rattle.std.specs.Prelude.{All, MatchOption, slice_get, option_map, option_and_then, position}
-use Rattle.fb_types.specs.Blocks.{Composite}
-use Rattle.fb_types.specs.Flat.{kind_of}
-use Rattle.fb_types.specs.Joined.{Holds, Descends, TooHigh}
-use Rattle.fb_types.specs.declared.library.Library.{Library}
-use Rattle.fb_types.specs.declared.library.BlockType.{BlockType}
+use Rattle.fb_check.proofs.lemmas.Common.{◌≡◌, ℕ, zero, suc, Bool, List, Option, Some, None, refl, sym, ◌∙◌, ap, subst, inl, inr, All, slice_get, option_map, option_and_then, position, kind_of, TooHigh, Library, BlockType, CompositeType, Instance, Plan, TypeNumber, NetworkNumbers, Resolved, IsNetwork, IsResolved, kind_of_number, type_number, HoldsNone, is_marked}
+use Rattle.fb_types.proofs.Common.{MatchOption, Composite}
+use Rattle.fb_types.specs.Joined.{Holds, Descends}
 use Rattle.fb_types.specs.declared.library.BlockType.TheVariants as block
-use Rattle.fb_types.specs.declared.library.CompositeType.{CompositeType}
-use Rattle.fb_types.specs.declared.library.Instance.{Instance}
-use Rattle.fb_types.specs.declared.deploy.Plan.{Plan}
 use Rattle.fb_types.proofs.lemmas.lists.ByIndex.{element_of_index}
-use Rattle.fb_check_names.specs.declared.numbers.TypeNumber.{TypeNumber}
 use Rattle.fb_check_names.specs.declared.numbers.TypeNumber.TheVariants as number
-use Rattle.fb_check_names.specs.declared.numbers.NetworkNumbers.{NetworkNumbers}
-use Rattle.fb_check_names.specs.declared.numbers.Resolved.{Resolved}
-use Rattle.fb_check_names.specs.Numbers.{IsNetwork, IsResolved, kind_of_number, type_number}
 use Rattle.fb_check_names.proofs.lemmas.Each.{each_from}
 use Rattle.fb_check_names.specs.declared.location.TooHighAt.{TooHighAt}
 use Rattle.fb_check_names.specs.declared.location.TooHighAt.TheVariants.{Circle, Height}
 use Rattle.fb_check.specs.networks.Applies.{TooHighApplies}
-use Rattle.fb_check.specs.networks.Heights.{HoldsNone, IsTooHighIn, IsHeld, IsPart, IsTooHighAt, LeadsBack, LeadsTo, Steps, below, declared_index, is_marked, first_marked_component, marks_after, type_inside}
+use Rattle.fb_check.specs.networks.Heights.{IsTooHighIn, IsHeld, IsPart, IsTooHighAt, LeadsBack, LeadsTo, Steps, below, declared_index, first_marked_component, marks_after, type_inside}
 use Rattle.fb_check.proofs.lemmas.networks.Lists.{past_both}
 use Rattle.fb_check.proofs.lemmas.networks.SearchLoops.{position_at}
 use Rattle.fb_check.proofs.lemmas.networks.Marked.{AreMarks, leads_from_marked, marks_right, none_high}

@@ -1,25 +1,9 @@
 -- E30 by number: the instances that are counted after a number of rounds are those with paths at most that deep.
-use Rattle.std.proofs.Common.{◌≡◌, ℕ, zero, suc, ◌+◌, ◌<◌, List, [], ◌∷◌, map, length, Option, Some, None, refl, sym, ◌∙◌, ap, subst, arith, min}
-use Rattle.std.specs.Prelude.{slice_get, option_map, option_and_then, unwrap_or, flat_map, nat_lt, ◌↔◌, IsTrue}
+use Rattle.fb_check.proofs.lemmas.Common.{◌≡◌, ℕ, zero, suc, ◌+◌, ◌<◌, List, [], ◌∷◌, map, length, Option, Some, None, refl, sym, ◌∙◌, ap, subst, arith, slice_get, option_map, option_and_then, unwrap_or, flat_map, ◌↔◌, IsTrue, nat_tests, slice_get-map, kind_of, Library, BlockType, CompositeType, Instance, Plan, TypeNumber, NetworkNumbers, Resolved, IsNetwork, IsResolved, each_or_none, type_number, kind_of_number}
+use Rattle.fb_types.proofs.Common.{min, nat_lt, length-append, sum_by-cons, Path, network_of, inside, paths_inside, paths_of, Network}
 use Rattle.std.specs.List.{sum_by}
-use Rattle.std.proofs.lemmas.Bool.Decides.{nat_tests}
-use Rattle.std.proofs.lemmas.List.{length-append}
-use Rattle.std.proofs.lemmas.List.Sums.{sum_by-cons}
-use Rattle.std.proofs.lemmas.Option.{slice_get-map}
-use Rattle.fb_types.specs.Names.{Path}
-use Rattle.fb_types.specs.Flat.{kind_of, network_of, inside, paths_inside, paths_of}
-use Rattle.fb_types.specs.declared.library.Library.{Library}
-use Rattle.fb_types.specs.declared.library.BlockType.{BlockType}
 use Rattle.fb_types.specs.declared.library.BlockType.TheVariants as block
-use Rattle.fb_types.specs.declared.library.CompositeType.{CompositeType}
-use Rattle.fb_types.specs.declared.library.Instance.{Instance}
-use Rattle.fb_types.specs.declared.library.Network.{Network}
-use Rattle.fb_types.specs.declared.deploy.Plan.{Plan}
-use Rattle.fb_check_names.specs.declared.numbers.TypeNumber.{TypeNumber}
 use Rattle.fb_check_names.specs.declared.numbers.TypeNumber.TheVariants as number
-use Rattle.fb_check_names.specs.declared.numbers.NetworkNumbers.{NetworkNumbers}
-use Rattle.fb_check_names.specs.declared.numbers.Resolved.{Resolved}
-use Rattle.fb_check_names.specs.Numbers.{IsNetwork, IsResolved, each_or_none, type_number, kind_of_number}
 use Rattle.fb_check.specs.networks.Counts.{inside_count, count_of, count_inside, no_count, counts_after}
 use Rattle.fb_check_names.proofs.lemmas.Each.{each_parts}
 use Rattle.fb_check.proofs.lemmas.networks.Lists.{past_both}

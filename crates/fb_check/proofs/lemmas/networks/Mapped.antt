@@ -1,32 +1,18 @@
 -- Instances of the application that are mapped, and names that are mapped twice.
-use Rattle.std.proofs.Common.{◌≡◌, true, false, cond, List, [], ◌∷◌, ◌++◌, map, None, Contains, sym, ◌∙◌, ap, subst, inl, inr}
-use Rattle.std.specs.Prelude.{All, position, flat_map, unwrap_or}
-use Rattle.std.specs.List.{list_all}
-use Rattle.std.proofs.lemmas.Bool.{true≢false}
-use Rattle.std.proofs.lemmas.List.{append-nil}
-use Rattle.std.proofs.lemmas.List.Elements.{All-append, All-contains, All-map, All-weaker, Contains-append_left, Contains-append_right}
+use Rattle.fb_check.proofs.lemmas.Common.{◌≡◌, true, false, cond, List, [], ◌∷◌, ◌++◌, map, None, Contains, sym, ◌∙◌, ap, subst, inl, inr, All, position, flat_map, unwrap_or, list_all, true≢false, append-nil, All-append, Contains-append_left, Contains-append_right, Name, same_name, among, resource_names_of, Twice, NameTwice, networks, networks_in, basics, interfaces, block_type_names, port_names, algorithm_names, state_names, instance_names, with_lists, parameter_lists, Library, Instance, Plan, ResourceEntry, each_at, NotMappedAt, Again, owners_in}
+use Rattle.fb_types.proofs.Common.{All-contains, All-map, All-weaker}
 use Rattle.std.proofs.lemmas.List.Sums.{AllPass-from_list_all}
-use Rattle.fb_types.specs.Names.{Name, same_name}
-use Rattle.fb_types.specs.Blocks.{among}
-use Rattle.fb_types.specs.Flat.{resource_names_of}
-use Rattle.fb_types.specs.Repeated.{Twice, NameTwice, networks, networks_in, basics, interfaces, block_type_names, port_names, algorithm_names, state_names, instance_names, with_lists, parameter_lists}
 use Rattle.fb_types.specs.Mapped.{NotMapped, mapped}
-use Rattle.fb_types.specs.declared.library.Library.{Library}
-use Rattle.fb_types.specs.declared.library.Instance.{Instance}
-use Rattle.fb_types.specs.declared.deploy.Plan.{Plan}
-use Rattle.fb_types.specs.declared.deploy.ResourceEntry.{ResourceEntry}
 use Rattle.fb_types.proofs.lemmas.lists.ByIndex.{element_of_index}
 use Rattle.fb_types.proofs.lemmas.names.NameLaws.{contains_from_any, any_from_contains, same_name-Decides}
 use Rattle.fb_types.proofs.lemmas.lists.Elements.{Contains-here, Contains-map}
-use Rattle.fb_check_names.specs.Listed.{each_at}
 use Rattle.fb_check_names.specs.Repeats.{IsPair, repeats}
-use Rattle.fb_check_names.specs.declared.location.NotMappedAt.{NotMappedAt}
-use Rattle.fb_check_names.specs.declared.location.NotMappedAt.TheVariants.{Again, Unlisted}
+use Rattle.fb_check_names.specs.declared.location.NotMappedAt.TheVariants.{Unlisted}
 use Rattle.fb_check_names.proofs.lemmas.Listing.{all_each, all_unless, none_each, none_left, none_right, none_said, none_unless}
 use Rattle.fb_check_names.proofs.lemmas.twice.Repeating.{each_pair, none_mapped, once_of, pair_twice}
 use Rattle.fb_check.specs.networks.Applies.{NotMappedApplies}
 use Rattle.fb_check_names.specs.Indexes.{AreLastIndexes}
-use Rattle.fb_check.specs.networks.Mapping.{IsMapping, owned, owners_in}
+use Rattle.fb_check.specs.networks.Mapping.{IsMapping, owned}
 use Rattle.fb_check.specs.networks.NotMapped.{IsNotMappedAmong, IsNotMappedAt, unlisted_at, not_mapped_all, not_mapped_among}
 use Rattle.fb_check.specs.declared.networks.mapping.Listed.{Listed}
 use Rattle.fb_check.specs.declared.networks.mapping.Mapping.TheVariants as mapping

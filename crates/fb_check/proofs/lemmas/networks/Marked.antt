@@ -1,26 +1,11 @@
 -- E25 by number: what is marked after a number of rounds leads that number of steps down.
-use Rattle.std.proofs.Common.{◌≡◌, ℕ, zero, suc, ◌+◌, Bool, true, false, List, map, Option, Some, None, refl, sym, ◌∙◌, ap, subst, inl, inr, arith}
-use Rattle.std.specs.Prelude.{All, slice_get, option_map, unwrap_or, is_some}
-use Rattle.std.specs.Bool.{Decides}
-use Rattle.std.proofs.lemmas.Bool.{true≢false}
-use Rattle.std.proofs.lemmas.Option.{slice_get-map}
-use Rattle.std.proofs.lemmas.List.Elements.{All-contains}
+use Rattle.fb_check.proofs.lemmas.Common.{◌≡◌, ℕ, zero, suc, ◌+◌, Bool, true, false, List, map, Option, Some, None, refl, sym, ◌∙◌, ap, subst, inl, inr, arith, All, slice_get, option_map, unwrap_or, is_some, Decides, true≢false, slice_get-map, Kind, kind_of, TooHigh, Library, BlockType, CompositeType, Instance, Plan, TypeNumber, NetworkNumbers, Resolved, IsNetwork, IsResolved, type_number, kind_of_number, HoldsNone, is_marked}
+use Rattle.fb_types.proofs.Common.{All-contains, Composite}
 use Rattle.fb_types.proofs.lemmas.lists.Positions.{is_some-position}
-use Rattle.fb_types.specs.Blocks.{Kind, Composite}
-use Rattle.fb_types.specs.Flat.{kind_of}
-use Rattle.fb_types.specs.Joined.{Holds, Descends, TooHigh}
-use Rattle.fb_types.specs.declared.library.Library.{Library}
-use Rattle.fb_types.specs.declared.library.BlockType.{BlockType}
+use Rattle.fb_types.specs.Joined.{Holds, Descends}
 use Rattle.fb_types.specs.declared.library.BlockType.TheVariants as block
-use Rattle.fb_types.specs.declared.library.CompositeType.{CompositeType}
-use Rattle.fb_types.specs.declared.library.Instance.{Instance}
-use Rattle.fb_types.specs.declared.deploy.Plan.{Plan}
-use Rattle.fb_check_names.specs.declared.numbers.TypeNumber.{TypeNumber}
 use Rattle.fb_check_names.specs.declared.numbers.TypeNumber.TheVariants as number
-use Rattle.fb_check_names.specs.declared.numbers.NetworkNumbers.{NetworkNumbers}
-use Rattle.fb_check_names.specs.declared.numbers.Resolved.{Resolved}
-use Rattle.fb_check_names.specs.Numbers.{IsNetwork, IsResolved, type_number, kind_of_number}
-use Rattle.fb_check.specs.networks.Heights.{HoldsNone, holds_marked, is_marked, marks_after}
+use Rattle.fb_check.specs.networks.Heights.{holds_marked, marks_after}
 use Rattle.fb_check_names.proofs.lemmas.Each.{each_at, each_from}
 use Rattle.fb_types.proofs.lemmas.lists.ByIndex.{element_of_index, index_of_element}
 use Rattle.fb_check.proofs.lemmas.networks.Lists.{any_at, any_from, past_both}

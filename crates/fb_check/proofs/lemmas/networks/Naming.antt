@@ -1,25 +1,12 @@
 -- What the numbers of types and the indexes of ports say of the names that they represent.
-use Rattle.std.proofs.Common.{◌≡◌, ℕ, zero, suc, List, [], ◌∷◌, ◌++◌, map, Some, None, Contains, refl, ◌∙◌, ap, subst, inl, inr}
-use Rattle.std.specs.Prelude.{slice_get, option_map, option_and_then, flat_map}
-use Rattle.std.proofs.lemmas.List.Elements.{Contains-append_left, Contains-append_right}
-use Rattle.fb_types.specs.Names.{Name}
-use Rattle.fb_types.specs.Blocks.{Kind, Event, event_names, variable_names, ports_of, ports_of_event_block}
-use Rattle.fb_types.specs.Flat.{kind_of, type_named, resource_names_of}
-use Rattle.fb_types.specs.Repeated.{Twice, OwnedNetwork, NameTwice, networks, networks_in, port_names, internals_of, name_spaces, block_type_names, algorithm_names, state_names, basics, instance_names, with_lists, interfaces, parameter_lists}
-use Rattle.fb_types.specs.declared.library.Library.{Library}
-use Rattle.fb_types.specs.declared.library.BlockType.{BlockType}
+use Rattle.fb_check.proofs.lemmas.Common.{◌≡◌, ℕ, zero, suc, List, [], ◌∷◌, ◌++◌, map, Some, None, Contains, refl, ◌∙◌, ap, subst, inl, inr, slice_get, option_map, option_and_then, flat_map, Contains-append_left, Contains-append_right, Name, Kind, Event, event_names, variable_names, ports_of, ports_of_event_block, kind_of, type_named, resource_names_of, Twice, OwnedNetwork, NameTwice, networks, networks_in, port_names, block_type_names, algorithm_names, state_names, basics, instance_names, with_lists, interfaces, parameter_lists, Library, BlockType, CompositeType, Ports, EventKind, Plan, TypeNumber, type_number, kind_of_number}
+use Rattle.fb_types.proofs.Common.{internals_of, name_spaces}
 use Rattle.fb_types.specs.declared.library.BlockType.TheVariants as block
-use Rattle.fb_types.specs.declared.library.CompositeType.{CompositeType}
-use Rattle.fb_types.specs.declared.library.Ports.{Ports}
-use Rattle.fb_types.specs.declared.event_kind.EventKind.{EventKind}
-use Rattle.fb_types.specs.declared.deploy.Plan.{Plan}
 use Rattle.fb_types.proofs.lemmas.lists.TwiceLaws.{Twice-append_left, Twice-both}
 use Rattle.fb_types.proofs.lemmas.lists.Elements.{Contains-nil, Contains-cons_cases, Contains-here, Contains-there, Contains-map}
 use Rattle.fb_types.proofs.lemmas.lists.ByIndex.{element_of_index}
 use Rattle.fb_types.proofs.lemmas.events.EventNames.{variables_once}
-use Rattle.fb_check_names.specs.declared.numbers.TypeNumber.{TypeNumber}
 use Rattle.fb_check_names.specs.declared.numbers.TypeNumber.TheVariants as number
-use Rattle.fb_check_names.specs.Numbers.{type_number, kind_of_number}
 use Rattle.fb_check_names.proofs.lemmas.numbers.Lookups.{type_named-number}
 
 -- ---- Types

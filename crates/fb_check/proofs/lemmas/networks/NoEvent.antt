@@ -1,28 +1,13 @@
 -- Data connections that no event serves.
-use Rattle.std.proofs.Common.{◌≡◌, ◌≢◌, ◌&&◌, ◌||◌, ℕ, Bool, true, false, List, [], ◌∷◌, Option, Some, None, Contains, Bor, refl, sym, ◌∙◌, ap, subst, inl, inr, arith}
-use Rattle.std.specs.Prelude.{All, is_some, nat_eq}
-use Rattle.std.specs.List.{list_any}
-use Rattle.std.specs.Bool.{Decides}
+use Rattle.fb_check.proofs.lemmas.Common.{◌≡◌, ◌≢◌, ◌&&◌, ◌||◌, ℕ, Bool, true, false, List, [], ◌∷◌, Option, Some, None, Contains, Bor, refl, sym, ◌∙◌, ap, subst, inl, inr, arith, All, is_some, nat_eq, list_any, Decides, true≢false, false_from_ne_true, and_parts, nat_tests, Name, Port, same_name, Kind, ports_of, event_names, variable_names, port_in, NameTwice, Twice, data_outs, Library, Connection, PortName, Plan, IsNetwork, NetworkNumbers}
+use Rattle.fb_types.proofs.Common.{same_path, outputs_with, resource_of, kind_at}
 use Rattle.std.specs.BTreeSet as set
-use Rattle.std.proofs.lemmas.Bool.{true≢false, false_from_ne_true, and_parts}
-use Rattle.std.proofs.lemmas.Bool.Decides.{nat_tests}
-use Rattle.fb_types.specs.Names.{Name, Port, same_name, same_path}
-use Rattle.fb_types.specs.Blocks.{Kind, ports_of, outputs_with, event_names, variable_names}
-use Rattle.fb_types.specs.Flat.{port_in, resource_of, kind_at}
-use Rattle.fb_types.specs.Repeated.{NameTwice, Twice}
-use Rattle.fb_types.specs.Unknown.{data_outs}
 use Rattle.fb_types.specs.Mapped.{IsCrossing, IsServed, NoEvent}
-use Rattle.fb_types.specs.declared.library.Library.{Library}
-use Rattle.fb_types.specs.declared.library.Connection.{Connection}
-use Rattle.fb_types.specs.declared.library.PortName.{PortName}
-use Rattle.fb_types.specs.declared.deploy.Plan.{Plan}
 use Rattle.fb_types.proofs.lemmas.lists.ByIndex.{element_of_index}
 use Rattle.fb_types.proofs.lemmas.lists.ListTests.{passes_at, passes_somewhere}
 use Rattle.fb_types.proofs.lemmas.lists.Positions.{is_some-position}
 use Rattle.fb_types.proofs.lemmas.names.NameLaws.{any_from_contains, contains_from_any}
 use Rattle.fb_types.proofs.lemmas.names.PathLaws.{same_path_is, same_path_itself}
-use Rattle.fb_check_names.specs.Numbers.{IsNetwork}
-use Rattle.fb_check_names.specs.declared.numbers.NetworkNumbers.{NetworkNumbers}
 use Rattle.fb_check_names.proofs.lemmas.Listing.{all_each, all_unless, none_each, none_unless}
 use Rattle.fb_check_names.proofs.lemmas.twice.Repeating.{same_Decides}
 use Rattle.fb_check.specs.networks.Mapping.{IsHolding, resource_in}

@@ -1,35 +1,20 @@
 -- Connections between two resources, and the links for them.
-use Rattle.std.proofs.Common.{◌≡◌, ◌≢◌, ◌&&◌, ◌||◌, ℕ, Bool, true, false, List, [], ◌∷◌, ◌++◌, map, Some, None, Contains, Bor, refl, sym, ◌∙◌, ap, subst, inl, inr, arith}
-use Rattle.std.specs.Prelude.{All, is_some, nat_eq, slice_get}
-use Rattle.std.specs.List.{list_all, list_any}
-use Rattle.std.specs.Bool.{Decides}
+use Rattle.fb_check.proofs.lemmas.Common.{◌≡◌, ◌≢◌, ◌&&◌, ◌||◌, ℕ, Bool, true, false, List, [], ◌∷◌, ◌++◌, map, Some, None, Contains, Bor, refl, sym, ◌∙◌, ap, subst, inl, inr, arith, All, is_some, nat_eq, slice_get, list_all, list_any, Decides, true≢false, false_from_ne_true, nat_tests, All-append, Contains-append_left, Contains-append_right, Name, Port, same_name, port_in, Library, Connection, PortName, Plan, Link, each_at, connections_of, FlowKind, Data, Events, no_link_at}
+use Rattle.fb_types.proofs.Common.{Contains-append_cases, resource_of, NoLink}
 use Rattle.std.specs.BTreeSet as set
-use Rattle.std.proofs.lemmas.Bool.{true≢false, false_from_ne_true}
-use Rattle.std.proofs.lemmas.Bool.Decides.{nat_tests}
-use Rattle.std.proofs.lemmas.List.Elements.{All-append, Contains-append_left, Contains-append_right, Contains-append_cases}
-use Rattle.fb_types.specs.Names.{Name, Port, same_name}
-use Rattle.fb_types.specs.Flat.{port_in, resource_of, link_between, name_of_resource}
-use Rattle.fb_types.specs.Mapped.{NoLink, IsCrossing, event_pairs_of, data_pairs_of}
-use Rattle.fb_types.specs.declared.library.Library.{Library}
-use Rattle.fb_types.specs.declared.library.Connection.{Connection}
-use Rattle.fb_types.specs.declared.library.PortName.{PortName}
-use Rattle.fb_types.specs.declared.deploy.Plan.{Plan}
-use Rattle.fb_types.specs.declared.deploy.Link.{Link}
+use Rattle.fb_types.specs.Flat.{link_between, name_of_resource}
+use Rattle.fb_types.specs.Mapped.{IsCrossing, event_pairs_of, data_pairs_of}
 use Rattle.fb_types.proofs.lemmas.lists.ByIndex.{element_of_index}
 use Rattle.fb_types.proofs.lemmas.lists.ListTests.{passes_at}
 use Rattle.fb_types.proofs.lemmas.lists.Positions.{is_some-position}
 use Rattle.fb_types.proofs.lemmas.names.NameLaws.{same_name-Decides, same_from_same_name}
 use Rattle.fb_types.proofs.lemmas.lists.Options.{none_from_is_some}
 use Rattle.fb_types.proofs.lemmas.lists.Elements.{Contains-map, map-Contains}
-use Rattle.fb_check_names.specs.Listed.{each_at}
-use Rattle.fb_check_names.specs.Sites.{connections_of}
-use Rattle.fb_check_names.specs.declared.location.FlowKind.{FlowKind}
-use Rattle.fb_check_names.specs.declared.location.FlowKind.TheVariants.{Data, Events}
 use Rattle.fb_check_names.specs.declared.location.NoLinkAt.{NoLinkAt}
 use Rattle.fb_check_names.proofs.lemmas.Listing.{all_each, all_unless, none_each, none_left, none_right, none_unless}
 use Rattle.fb_check_names.proofs.lemmas.twice.Repeating.{same_Decides}
 use Rattle.fb_check.specs.networks.Mapping.{IsHolding, resource_in, holder_in}
-use Rattle.fb_check.specs.networks.Links.{AreWays, IsNoLinkAt, are_linked, is_joining, is_linked, names_of_link, pair_of, no_link_all, no_link_at}
+use Rattle.fb_check.specs.networks.Links.{AreWays, IsNoLinkAt, are_linked, is_joining, is_linked, names_of_link, pair_of, no_link_all}
 use Rattle.fb_check.specs.declared.networks.mapping.Mapping.{Mapping}
 use Rattle.fb_check.proofs.lemmas.networks.ListElements.{any-Decides}
 use Rattle.fb_check.proofs.lemmas.networks.SetsOfSeen.{Has, Pair, pair_cmp, pair_view}

@@ -1,10 +1,6 @@
 -- Lists along the numbers of a list.
-use Rattle.std.proofs.Common.{◌≡◌, ℕ, ◌+◌, List, [], ◌∷◌, ◌++◌, Option, Some, sym, ◌∙◌, ap}
-use Rattle.std.specs.Prelude.{option_map}
-use Rattle.std.proofs.lemmas.Option.{same_Some}
+use Rattle.fb_check.proofs.lemmas.Common.{◌≡◌, ℕ, ◌+◌, List, [], ◌∷◌, ◌++◌, Option, Some, sym, ◌∙◌, ap, option_map, same_Some, each_or_none, each_at, each_from}
 use Rattle.fb_types.proofs.lemmas.lists.Options.{and_then_parts, map_parts}
-use Rattle.fb_check_names.specs.Numbers.{each_or_none}
-use Rattle.fb_check_names.specs.Listed.{each_at, each_from}
 
 numbered_from :
     {A B C : Type 0} (f : A → Option B) (g : ℕ → B → List C) (h : ℕ → A → List C) (xs : List A) (ys : List B) (k : ℕ) → each_or_none f xs ≡ Some ys

@@ -1,25 +1,9 @@
 -- What the numbers of a network's connections represent.
-use Rattle.std.proofs.Common.{◌≡◌, ℕ, ◌<◌, List, [], ◌∷◌, length, map, get_or, Option, Some, None, Contains, refl, sym, ◌∙◌, ap, subst}
-use Rattle.std.specs.Prelude.{slice_get, option_map, option_and_then}
-use Rattle.std.proofs.lemmas.Option.{slice_get_read}
-use Rattle.fb_types.specs.Names.{Name, Port}
-use Rattle.fb_types.specs.Blocks.{Kind, Event, named, event_blocks, ports_of}
-use Rattle.fb_types.specs.Flat.{kind_of, kind_of_instance, kind_at, type_name, type_named, port_in}
-use Rattle.fb_types.specs.Repeated.{instance_names}
-use Rattle.fb_types.specs.Unknown.{event_ins, event_outs, data_ins, data_outs}
-use Rattle.fb_types.specs.declared.event_kind.EventKind.{EventKind}
-use Rattle.fb_types.specs.declared.library.Library.{Library}
-use Rattle.fb_types.specs.declared.library.Connection.{Connection}
-use Rattle.fb_types.specs.declared.library.EventPort.{EventPort}
-use Rattle.fb_types.specs.declared.library.Instance.{Instance}
-use Rattle.fb_types.specs.declared.library.PortName.{PortName}
-use Rattle.fb_types.specs.declared.library.Ports.{Ports}
-use Rattle.fb_check_names.specs.Numbers.{IsNetwork, type_number, kind_of_number, index_of, ports_at_index, end_at, end_number, event_wire, data_wire}
-use Rattle.fb_check_names.specs.declared.numbers.TypeNumber.{TypeNumber}
+use Rattle.fb_check.proofs.lemmas.Common.{◌≡◌, ℕ, ◌<◌, List, [], ◌∷◌, length, map, get_or, Option, Some, None, Contains, refl, sym, ◌∙◌, ap, subst, slice_get, option_map, option_and_then, slice_get_read, Name, Port, Kind, Event, named, event_blocks, ports_of, kind_of, kind_of_instance, type_name, type_named, port_in, instance_names, event_ins, data_ins, data_outs, EventKind, Library, Connection, EventPort, Instance, PortName, Ports, IsNetwork, type_number, kind_of_number, index_of, end_at, end_number, TypeNumber, ConnectionEnd, NetworkNumbers}
+use Rattle.fb_types.proofs.Common.{kind_at, event_outs}
+use Rattle.fb_check_names.specs.Numbers.{ports_at_index, event_wire, data_wire}
 use Rattle.fb_check_names.specs.declared.numbers.TypeNumber.TheVariants as number
-use Rattle.fb_check_names.specs.declared.numbers.ConnectionEnd.{ConnectionEnd}
 use Rattle.fb_check_names.specs.declared.numbers.NumberedConnection.{NumberedConnection}
-use Rattle.fb_check_names.specs.declared.numbers.NetworkNumbers.{NetworkNumbers}
 use Rattle.fb_check_names.proofs.lemmas.Each.{each_at}
 use Rattle.fb_types.proofs.lemmas.lists.Positions.{named-position}
 use Rattle.fb_types.proofs.lemmas.lists.Options.{and_then_parts, map_parts}

@@ -1,25 +1,16 @@
 -- The resources that list names, by the indexes of the names in all lists.
-use Rattle.std.proofs.Common.{◌≡◌, ◌||◌, ℕ, zero, suc, ◌+◌, Bool, true, false, cond, List, [], ◌∷◌, ◌++◌, length, map, Option, Some, None, Bor, refl, sym, ◌∙◌, ap, arith}
-use Rattle.std.specs.Prelude.{flat_map, is_some, option_map, position, slice_get}
-use Rattle.std.specs.List.{list_any}
+use Rattle.fb_check.proofs.lemmas.Common.{◌≡◌, ◌||◌, ℕ, zero, suc, ◌+◌, Bool, true, false, cond, List, [], ◌∷◌, ◌++◌, length, map, Option, Some, None, Bor, refl, sym, ◌∙◌, ap, arith, flat_map, is_some, option_map, position, slice_get, list_any, true≢false, Name, same_name, among, Twice, Instance, ResourceEntry, each_at, each_from, unless, owners_in}
 use Rattle.std.specs.BTreeMap as tree
-use Rattle.std.proofs.lemmas.Bool.{true≢false}
-use Rattle.fb_types.specs.Names.{Name, same_name}
-use Rattle.fb_types.specs.Blocks.{among}
-use Rattle.fb_types.specs.Repeated.{Twice}
-use Rattle.fb_types.specs.declared.library.Instance.{Instance}
-use Rattle.fb_types.specs.declared.deploy.ResourceEntry.{ResourceEntry}
 use Rattle.fb_types.proofs.lemmas.names.NameLaws.{contains_from_any}
 use Rattle.fb_types.proofs.lemmas.lists.Options.{none_from_is_some}
 use Rattle.fb_types.proofs.lemmas.lists.Positions.{position-cons}
 use Rattle.fb_types.proofs.lemmas.lists.TwiceLaws.{Twice-append_right, Twice-both}
-use Rattle.fb_check_names.specs.Listed.{each_at, each_from, unless}
 use Rattle.fb_check_names.specs.Repeats.{further, last_index, later}
 use Rattle.fb_check_names.specs.declared.location.NotMappedAt.TheVariants.{Unlisted}
 use Rattle.fb_check_names.proofs.lemmas.Listing.{alike}
 use Rattle.fb_check_names.proofs.lemmas.twice.Repeating.{at_last_index}
 use Rattle.fb_check_names.specs.Indexes.{AreLastIndexes}
-use Rattle.fb_check.specs.networks.Mapping.{owned, owners_in, unlisted_by}
+use Rattle.fb_check.specs.networks.Mapping.{owned, unlisted_by}
 use Rattle.fb_check.specs.networks.NotMapped.{unlisted_at}
 
 -- ---- The last index

@@ -1,48 +1,23 @@
 -- E23 by number: a data connection to a type that does not contain all values of the source type.
-use Rattle.std.proofs.Common.{◌≡◌, ℕ, true, false, not, List, [], ◌∷◌, ◌++◌, Option, Some, None, Contains, refl, sym, ◌∙◌, ap, subst, cond, inl, inr}
-use Rattle.std.specs.Prelude.{All, slice_get, option_map, option_and_then, position, flat_map}
-use Rattle.std.specs.List.{list_all}
-use Rattle.std.proofs.lemmas.Bool.{true≢false}
-use Rattle.fb_types.specs.Names.{Name, same_name}
-use Rattle.fb_types.specs.Blocks.{Kind, named, ports_of, variable_names, type_at}
-use Rattle.fb_types.specs.Flat.{kind_of_instance, instance_in}
-use Rattle.fb_types.specs.Joined.{OutOfRange, IsWithin, type_among, type_at_end}
-use Rattle.fb_types.specs.Repeated.{OwnedNetwork, NameTwice, networks, networks_in, instance_names}
-use Rattle.fb_types.specs.declared.value.Ty.{Ty}
-use Rattle.fb_types.specs.declared.library.Library.{Library}
-use Rattle.fb_types.specs.declared.library.BlockType.{BlockType}
+use Rattle.fb_check.proofs.lemmas.Common.{◌≡◌, ℕ, true, false, not, List, [], ◌∷◌, ◌++◌, Option, Some, None, Contains, refl, sym, ◌∙◌, ap, subst, cond, inl, inr, All, slice_get, option_map, option_and_then, position, flat_map, list_all, true≢false, Name, same_name, Kind, named, ports_of, variable_names, kind_of_instance, OwnedNetwork, NameTwice, networks, networks_in, instance_names, Ty, Library, BlockType, CompositeType, Connection, Instance, PortName, Ports, Variable, Plan, TypeNumber, ConnectionEnd, NetworkNumbers, Resolved, IsNetwork, IsResolved, index_of, type_number, kind_of_number, end_at, end_number, each_at, unless, inside_of, network_at, OutOfRangeAt, Site, Application, Inside, out_at_index}
+use Rattle.fb_types.proofs.Common.{type_at, instance_in, OutOfRange}
+use Rattle.fb_types.specs.Joined.{IsWithin, type_among, type_at_end}
 use Rattle.fb_types.specs.declared.library.BlockType.TheVariants as block
-use Rattle.fb_types.specs.declared.library.CompositeType.{CompositeType}
-use Rattle.fb_types.specs.declared.library.Connection.{Connection}
-use Rattle.fb_types.specs.declared.library.Instance.{Instance}
-use Rattle.fb_types.specs.declared.library.PortName.{PortName}
-use Rattle.fb_types.specs.declared.library.Ports.{Ports}
-use Rattle.fb_types.specs.declared.library.Variable.{Variable}
-use Rattle.fb_types.specs.declared.deploy.Plan.{Plan}
 use Rattle.fb_types.proofs.lemmas.lists.Positions.{named-position, position_is, slice_get-Contains}
 use Rattle.fb_types.proofs.lemmas.lists.Elements.{Contains-cons_cases}
-use Rattle.fb_check_names.specs.declared.numbers.TypeNumber.{TypeNumber}
-use Rattle.fb_check_names.specs.declared.numbers.ConnectionEnd.{ConnectionEnd}
 use Rattle.fb_check_names.specs.declared.numbers.NumberedConnection.{NumberedConnection}
-use Rattle.fb_check_names.specs.declared.numbers.NetworkNumbers.{NetworkNumbers}
-use Rattle.fb_check_names.specs.declared.numbers.Resolved.{Resolved}
-use Rattle.fb_check_names.specs.Numbers.{IsNetwork, IsResolved, index_of, type_number, kind_of_number, ports_at_index, end_at, end_number, both_ends, data_wire}
+use Rattle.fb_check_names.specs.Numbers.{ports_at_index, both_ends, data_wire}
 use Rattle.fb_check.specs.networks.Ranges.{is_within}
 use Rattle.fb_check.specs.networks.Variables.{source_type, target_type}
 use Rattle.fb_types.proofs.lemmas.lists.Options.{and_then_parts, map_parts}
 use Rattle.fb_check_names.proofs.lemmas.Each as numbered
 use Rattle.fb_types.proofs.lemmas.lists.ByIndex.{element_of_index}
 use Rattle.fb_types.proofs.lemmas.lists.ListTests.{passes_at}
-use Rattle.fb_check_names.specs.Listed.{each_at, unless}
-use Rattle.fb_check_names.specs.Sites.{inside_of, network_at}
-use Rattle.fb_check_names.specs.declared.location.OutOfRangeAt.{OutOfRangeAt}
-use Rattle.fb_check_names.specs.declared.location.Site.{Site}
-use Rattle.fb_check_names.specs.declared.location.Site.TheVariants.{Application, Inside}
 use Rattle.fb_check_names.proofs.lemmas.Listing.{alike, all_each, all_unless, none_each, none_unless}
 use Rattle.fb_check_names.proofs.lemmas.unknown.InNetworks.{all_in_networks, none_in_networks, site_network}
 use Rattle.fb_check.specs.networks.Networks.{boundary}
 use Rattle.fb_check.specs.networks.Joins.{is_out}
-use Rattle.fb_check.specs.networks.OutOfRange.{IsOutOfRangeAt, is_joined, out_of_range_at, out_of_range_all, out_of_range_in, out_at, out_at_index, out_in, out_inside}
+use Rattle.fb_check.specs.networks.OutOfRange.{IsOutOfRangeAt, is_joined, out_of_range_at, out_of_range_all, out_of_range_in, out_at, out_in, out_inside}
 use Rattle.fb_check.proofs.lemmas.networks.Naming.{IsApart, type_by_number, composite_at, kind_apart, composite_apart}
 use Rattle.fb_check.proofs.lemmas.networks.NumberedLists.{numbered_list}
 use Rattle.fb_check.proofs.lemmas.networks.Placing.{application_in, inside_in}

@@ -1,9 +1,6 @@
 -- Loops that look for an element that passes a test.
-use Rattle.std.proofs.Common.{◌≡◌, ℕ, suc, ◌<◌, ◌≤◌, ◌+◌, Bool, true, false, List, [], ◌∷◌, drop, get_or, length, Option, Some, None, refl, sym, ◌∙◌, ap, arith}
-use Rattle.std.specs.Prelude.{option_map, position, slice_get}
-use Rattle.std.proofs.lemmas.List.{at_drop_all, at_drop_more}
+use Rattle.fb_types.proofs.Common.{◌≡◌, ℕ, suc, ◌<◌, ◌≤◌, ◌+◌, Bool, true, false, List, [], ◌∷◌, drop, get_or, length, Option, Some, None, refl, sym, ◌∙◌, ap, arith, option_map, position, slice_get, at_drop_all, at_drop_more, slice_get_read}
 use Rattle.fb_types.proofs.lemmas.lists.Positions.{position-first, position-later}
-use Rattle.std.proofs.lemmas.Option.{slice_get_read}
 
 -- ---- Where the loop is
 

@@ -1,15 +1,10 @@
 -- Sets of what was seen so far, by their keys.
-use Rattle.std.proofs.Common.{◌≡◌, ◌⊎◌, ℕ, ◌<◌, ◌+◌, Bool, true, false, cond, List, [], ◌∷◌, ◌++◌, length, map, take, get_or, Option, Some, None, Contains, Ordering, Bor, refl, sym, ◌∙◌, ap, subst, inl, inr}
-use Rattle.std.specs.List.{list_any}
-use Rattle.std.specs.Bool.{Decides}
-use Rattle.std.specs.Ordering.{nat_cmp, is_eq, ordering_then}
+use Rattle.fb_types.proofs.Common.{◌≡◌, ◌⊎◌, ℕ, ◌<◌, ◌+◌, Bool, true, false, cond, List, [], ◌∷◌, ◌++◌, length, map, take, get_or, Option, Some, None, Contains, Bor, refl, sym, ◌∙◌, ap, subst, inl, inr, list_any, Decides, nat_cmp, is_eq, ordering_then, true≢false, Contains-append_left, Contains-push, Contains-push_cases, Name, Port}
+use Rattle.std.proofs.Common.{Ordering}
 use Rattle.std.specs.Cmp.Lexicographic.{slice_cmp}
 use Rattle.std.specs.Option.{option_cmp}
 use Rattle.std.specs.declared.cmp.Ordering.TheVariants as order
 use Rattle.std.specs.BTreeSet as set
-use Rattle.std.proofs.lemmas.Bool.{true≢false}
-use Rattle.std.proofs.lemmas.List.Elements.{Contains-append_left, Contains-push, Contains-push_cases}
-use Rattle.fb_types.specs.Names.{Name, Port}
 use Rattle.fb_types.proofs.lemmas.lists.LoopSteps.{more_of_part}
 use Rattle.fb_types.proofs.lemmas.names.NameOrders.{name_cmp-Decides, slice_cmp-Decides}
 use Rattle.fb_check_names.proofs.lemmas.comparisons.DecidedSame.{IsExact}

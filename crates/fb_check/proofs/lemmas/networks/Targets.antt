@@ -1,15 +1,8 @@
 -- E24: ports to which two data connections lead.
-use Rattle.std.proofs.Common.{◌≡◌, List, [], ◌∷◌, map, Ordering, refl, sym, ◌∙◌, ap, subst}
-use Rattle.std.specs.Prelude.{All}
-use Rattle.std.specs.Ordering.{is_eq, ordering_then}
+use Rattle.fb_types.proofs.Common.{◌≡◌, List, [], ◌∷◌, map, refl, sym, ◌∙◌, ap, subst, All, is_eq, ordering_then, All-map, All-weaker, Port, same_port, pairs_in, Twice, OwnedNetwork, Connection, Library}
+use Rattle.std.proofs.Common.{Ordering}
 use Rattle.std.specs.declared.cmp.Ordering.TheVariants as order
-use Rattle.std.proofs.lemmas.List.Elements.{All-map, All-weaker}
-use Rattle.fb_types.specs.Names.{Port, same_port}
-use Rattle.fb_types.specs.Flat.{pairs_in}
 use Rattle.fb_types.specs.Joined.{TwoSources}
-use Rattle.fb_types.specs.Repeated.{Twice, OwnedNetwork}
-use Rattle.fb_types.specs.declared.library.Connection.{Connection}
-use Rattle.fb_types.specs.declared.library.Library.{Library}
 use Rattle.fb_check_names.specs.Ends.{End, end_port}
 use Rattle.fb_check_names.proofs.lemmas.comparisons.DecidedSame.{IsExact, pair_cmp-exact}
 use Rattle.fb_check_names.proofs.lemmas.comparisons.DecidedSame as seen

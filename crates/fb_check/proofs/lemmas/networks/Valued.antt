@@ -1,26 +1,12 @@
 -- E22 by number: parameters that are not values of their inputs' types.
-use Rattle.std.proofs.Common.{◌≡◌, ℕ, ◌+◌, Bool, true, false, not, List, [], ◌∷◌, Option, Some, None, refl, sym, ◌∙◌, ap}
-use Rattle.std.specs.Prelude.{slice_get, option_map, option_and_then}
-use Rattle.fb_types.specs.Values.{fits}
-use Rattle.fb_types.specs.Blocks.{Kind, named, ports_of, type_at}
-use Rattle.fb_types.specs.Flat.{kind_of_instance}
+use Rattle.fb_check.proofs.lemmas.Common.{◌≡◌, ℕ, ◌+◌, Bool, true, false, not, List, [], ◌∷◌, Option, Some, None, refl, sym, ◌∙◌, ap, slice_get, option_map, option_and_then, fits, Kind, named, ports_of, kind_of_instance, OwnedNetwork, data_ins, Library, Instance, Parameter, Variable, TypeNumber, NetworkNumbers, IsNetwork, each_or_none, index_of, type_number, kind_of_number, each_at, each_from, unless, KindWrongAt, Site, kind_wrong_parameters}
+use Rattle.fb_types.proofs.Common.{type_at}
 use Rattle.fb_types.specs.Kinds.{parameter_right}
-use Rattle.fb_types.specs.Repeated.{OwnedNetwork}
-use Rattle.fb_types.specs.Unknown.{data_ins}
-use Rattle.fb_types.specs.declared.library.Library.{Library}
-use Rattle.fb_types.specs.declared.library.Instance.{Instance}
-use Rattle.fb_types.specs.declared.library.Parameter.{Parameter}
-use Rattle.fb_types.specs.declared.library.Variable.{Variable}
 use Rattle.fb_types.proofs.lemmas.lists.Positions.{named-position}
-use Rattle.fb_check_names.specs.declared.numbers.TypeNumber.{TypeNumber}
-use Rattle.fb_check_names.specs.declared.numbers.NetworkNumbers.{NetworkNumbers}
-use Rattle.fb_check_names.specs.Numbers.{IsNetwork, each_or_none, index_of, type_number, kind_of_number, parameter_numbers}
+use Rattle.fb_check_names.specs.Numbers.{parameter_numbers}
 use Rattle.fb_check_names.proofs.lemmas.Each as each
-use Rattle.fb_check_names.specs.Listed.{each_at, each_from, unless}
-use Rattle.fb_check_names.specs.declared.location.KindWrongAt.{KindWrongAt}
 use Rattle.fb_check_names.specs.declared.location.KindWrongAt.TheVariants as kind_wrong
-use Rattle.fb_check_names.specs.declared.location.Site.{Site}
-use Rattle.fb_check.specs.networks.Parameters.{is_wrong, kind_wrong_parameters}
+use Rattle.fb_check.specs.networks.Parameters.{is_wrong}
 use Rattle.fb_check.proofs.lemmas.networks.Naming.{type_by_number}
 
 -- one parameter

@@ -1,14 +1,6 @@
 -- Declarations and deployments in which each name is known.
-use Rattle.std.proofs.Common.{◌≡◌, ◌&&◌, true, List, [], ◌∷◌, Some, None, Contains, refl, sym, subst, inl, inr}
-use Rattle.std.specs.Prelude.{flat_map, All}
-use Rattle.std.specs.List.{list_all}
-use Rattle.std.proofs.lemmas.List.Elements.{All-contains}
-use Rattle.fb_types.specs.Repeated.{OwnedNetwork, networks_in}
-use Rattle.fb_types.specs.Unknown.{NameUnknown}
-use Rattle.fb_types.specs.declared.library.BlockType.{BlockType}
+use Rattle.fb_types.proofs.Common.{◌≡◌, ◌&&◌, true, List, [], ◌∷◌, Some, None, Contains, refl, sym, subst, inl, inr, flat_map, All, list_all, All-contains, OwnedNetwork, networks_in, NameUnknown, BlockType, Library, Plan}
 use Rattle.fb_types.specs.declared.library.BlockType.TheVariants as block
-use Rattle.fb_types.specs.declared.library.Library.{Library}
-use Rattle.fb_types.specs.declared.deploy.Plan.{Plan}
 use Rattle.fb_types.proofs.lemmas.lists.Elements.{Contains-nil, Contains-cons_cases, Contains-here, Contains-there, flat_map-Contains}
 use Rattle.fb_check.specs.types.Checks.{is_known_block}
 use Rattle.fb_check.proofs.lemmas.types.Checks.{known_answer}

@@ -1,51 +1,17 @@
 -- No location at which a name is unknown is left out of the list of all.
-use Rattle.std.proofs.Common.{◌≡◌, ℕ, true, false, List, ◌++◌, Option, Some, None, Contains, refl, sym, ◌∙◌, ap, subst}
-use Rattle.std.specs.Prelude.{slice_get, option_map, option_and_then}
-use Rattle.std.proofs.lemmas.List.Elements.{Contains-append_left, Contains-append_right}
-use Rattle.std.proofs.lemmas.Option.{same_Some}
-use Rattle.fb_types.specs.Blocks.{among}
-use Rattle.fb_types.specs.Flat.{resource_names_of}
-use Rattle.fb_types.specs.Names.{Name}
-use Rattle.fb_types.specs.Repeated.{OwnedNetwork, instance_names}
-use Rattle.fb_types.specs.Syntax.{body_of}
-use Rattle.fb_types.specs.Unknown.{Mention, Required, is_known, mentions_body, required_parameters}
-use Rattle.fb_types.specs.declared.library.Action.{Action}
-use Rattle.fb_types.specs.declared.library.Algorithm.{Algorithm}
-use Rattle.fb_types.specs.declared.library.BasicType.{BasicType}
-use Rattle.fb_types.specs.declared.library.BlockType.{BlockType}
+use Rattle.fb_check.proofs.lemmas.Common.{◌≡◌, ℕ, true, false, List, ◌++◌, Option, Some, None, Contains, refl, sym, ◌∙◌, ap, subst, slice_get, option_map, option_and_then, Contains-append_left, Contains-append_right, same_Some, among, resource_names_of, Name, OwnedNetwork, instance_names, body_of, Mention, Required, is_known, mentions_body, required_parameters, Action, Algorithm, BasicType, BlockType, EventPort, Instance, Library, Transition, Link, Plan, ResourceEntry, State, guard_mentions, is_met, ports_of_block, Naming, Direction, Input, Output, FlowKind, Events, Data, Side, From, To, Site, Application, Inside, UnknownName, each_at, unless, basic_at, connections_of, network_at, IsUnknownAt, Unmet, events_of, is_instance, is_resource, is_side_known, is_type_met, required_action, required_transition, variables_for, mention_in, unknown_all, unknown_ends, unknown_in_action, unknown_in_block, unknown_in_body, unknown_in_instance, unknown_in_network, unknown_in_state, unknown_in_transition, unknown_mentions, unknown_parameters, unknown_variables, unknown_withs}
 use Rattle.fb_types.specs.declared.library.BlockType.TheVariants as block
-use Rattle.fb_types.specs.declared.library.EventPort.{EventPort}
-use Rattle.fb_types.specs.declared.library.Instance.{Instance}
-use Rattle.fb_types.specs.declared.library.Library.{Library}
-use Rattle.fb_types.specs.declared.library.State.{State}
-use Rattle.fb_types.specs.declared.library.Transition.{Transition}
-use Rattle.fb_types.specs.declared.deploy.Link.{Link}
-use Rattle.fb_types.specs.declared.deploy.Plan.{Plan}
-use Rattle.fb_types.specs.declared.deploy.ResourceEntry.{ResourceEntry}
 use Rattle.fb_types.proofs.lemmas.names.NameLaws.{contains_from_any}
 use Rattle.fb_types.proofs.lemmas.lists.Options.{map_parts}
-use Rattle.fb_check.specs.types.Checks.{guard_mentions, is_met}
-use Rattle.fb_check_names.specs.Types.{ports_of_block}
-use Rattle.fb_check.specs.declared.types.basics.Naming.{Naming}
 use Rattle.fb_check.specs.declared.types.basics.Naming.TheVariants as naming
 use Rattle.fb_check_names.specs.declared.location.ActionPart.{ActionPart}
 use Rattle.fb_check_names.specs.declared.location.ActionPart.TheVariants as actions
-use Rattle.fb_check_names.specs.declared.location.Direction.{Direction}
-use Rattle.fb_check_names.specs.declared.location.Direction.TheVariants.{Input, Output}
-use Rattle.fb_check_names.specs.declared.location.FlowKind.{FlowKind}
-use Rattle.fb_check_names.specs.declared.location.FlowKind.TheVariants.{Events, Data}
-use Rattle.fb_check_names.specs.declared.location.Side.{Side}
-use Rattle.fb_check_names.specs.declared.location.Side.TheVariants.{From, To}
-use Rattle.fb_check_names.specs.declared.location.Site.{Site}
-use Rattle.fb_check_names.specs.declared.location.Site.TheVariants.{Application, Inside}
 use Rattle.fb_check_names.specs.declared.location.TransitionPart.{TransitionPart}
 use Rattle.fb_check_names.specs.declared.location.TransitionPart.TheVariants as part
-use Rattle.fb_check_names.specs.declared.location.UnknownName.{UnknownName}
 use Rattle.fb_check_names.specs.declared.location.UnknownName.TheVariants as location
-use Rattle.fb_check_names.specs.Listed.{each_at, unless}
-use Rattle.fb_check_names.specs.Sites.{basic_at, basic_inside, connections_of, instance_at, network_at, network_inside}
-use Rattle.fb_check.specs.types.Unknown.{IsUnknownAt, IsUnknownEnd, IsUnknownMention, Unmet, body_at, events_of, guard_at, is_instance, is_resource, is_side_known, is_type_met, link_required, mapped_required, parameter_required, required_action, required_transition, side_of, type_required, variables_for, with_required}
-use Rattle.fb_check.specs.types.Unknowns.{mention_in, unknown_all, unknown_ends, unknown_in_action, unknown_in_block, unknown_in_body, unknown_in_chart, unknown_in_deployment, unknown_in_instance, unknown_in_network, unknown_in_state, unknown_in_transition, unknown_inside, unknown_mapped, unknown_mentions, unknown_names, unknown_parameters, unknown_sides, unknown_variables, unknown_withs, unmet_at}
+use Rattle.fb_check_names.specs.Sites.{basic_inside, instance_at, network_inside}
+use Rattle.fb_check.specs.types.Unknown.{IsUnknownEnd, IsUnknownMention, body_at, guard_at, link_required, mapped_required, parameter_required, side_of, type_required, with_required}
+use Rattle.fb_check.specs.types.Unknowns.{unknown_in_chart, unknown_in_deployment, unknown_inside, unknown_mapped, unknown_names, unknown_sides, unmet_at}
 use Rattle.fb_check_names.proofs.lemmas.Listing.{there_each, there_unless}
 use Rattle.fb_check.proofs.lemmas.types.NetworkLocations.{any_map}
 

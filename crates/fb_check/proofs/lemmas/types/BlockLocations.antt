@@ -1,26 +1,9 @@
 -- Block types in which a name is unknown, and those in which each is known.
-use Rattle.std.proofs.Common.{◌≡◌, ◌&&◌, ℕ, true, false, List, Some, Option, sym, ◌∙◌, ap}
-use Rattle.std.specs.Prelude.{slice_get, option_map, option_and_then}
-use Rattle.std.specs.List.{list_all}
-use Rattle.fb_types.specs.Names.{Name}
-use Rattle.fb_types.specs.Blocks.{among}
-use Rattle.fb_types.specs.Unknown.{required_withs, required_chart, Mention}
-use Rattle.fb_types.specs.declared.library.Action.{Action}
-use Rattle.fb_types.specs.declared.library.BasicType.{BasicType}
-use Rattle.fb_types.specs.declared.library.BlockType.{BlockType}
-use Rattle.fb_types.specs.declared.library.EventPort.{EventPort}
-use Rattle.fb_types.specs.declared.library.Library.{Library}
-use Rattle.fb_types.specs.declared.library.Ports.{Ports}
-use Rattle.fb_types.specs.declared.library.State.{State}
-use Rattle.fb_types.specs.declared.library.Transition.{Transition}
-use Rattle.fb_check.specs.types.Checks.{all_met, with_inputs, with_outputs, transition_met, actions_met}
+use Rattle.fb_check.proofs.lemmas.Common.{◌≡◌, ◌&&◌, ℕ, true, false, List, Some, Option, sym, ◌∙◌, ap, slice_get, option_map, option_and_then, list_all, Name, among, required_withs, required_chart, Mention, Action, BasicType, BlockType, EventPort, Library, Ports, Transition, State, all_met, with_inputs, with_outputs, transition_met, actions_met, ports_of_block, Direction, basic_at, Unmet, events_of, variables_for, required_transition, required_action}
 use Rattle.fb_check.proofs.lemmas.types.Checks.{withs_met, chart_met}
-use Rattle.fb_check_names.specs.Types.{ports_of_block}
 use Rattle.fb_check_names.specs.declared.location.ActionPart.{ActionPart}
-use Rattle.fb_check_names.specs.declared.location.Direction.{Direction}
 use Rattle.fb_check_names.specs.declared.location.TransitionPart.{TransitionPart}
-use Rattle.fb_check_names.specs.Sites.{basic_at}
-use Rattle.fb_check.specs.types.Unknown.{Unmet, UnknownAmong, IsUnknownMention, events_of, variables_for, with_required, required_transition, required_action}
+use Rattle.fb_check.specs.types.Unknown.{UnknownAmong, IsUnknownMention, with_required}
 use Rattle.fb_check.proofs.lemmas.types.NetworkLocations.{unmet_is}
 
 -- ---- WITH lists

@@ -1,22 +1,14 @@
 -- The networks of the first block types by numbers.
-use Rattle.std.proofs.Common.{◌≡◌, ℕ, zero, suc, ◌<◌, ◌+◌, List, [], ◌∷◌, ◌++◌, length, get_or, Some, Option, refl, sym, ◌∙◌, ap, subst, length-append, arith}
-use Rattle.std.specs.Prelude.{slice_get}
-use Rattle.std.proofs.lemmas.Option.{slice_get_within, slice_get_read, same_Some}
-use Rattle.fb_types.specs.Repeated.{instance_names}
-use Rattle.fb_types.specs.declared.library.BlockType.{BlockType}
+use Rattle.fb_check.proofs.lemmas.Common.{◌≡◌, ℕ, zero, suc, ◌<◌, ◌+◌, List, [], ◌∷◌, ◌++◌, length, get_or, Some, Option, refl, sym, ◌∙◌, ap, subst, arith, slice_get, slice_get_read, same_Some, instance_names, BlockType, CompositeType, Library, IsIndex, NetworkNumbers, each_at, each_from}
+use Rattle.fb_types.proofs.Common.{length-append, slice_get_within}
 use Rattle.fb_types.specs.declared.library.BlockType.TheVariants as block
-use Rattle.fb_types.specs.declared.library.CompositeType.{CompositeType}
-use Rattle.fb_types.specs.declared.library.Library.{Library}
-use Rattle.fb_check_names.specs.Indexes.{IsIndex}
 use Rattle.fb_check_names.specs.declared.catalog.BlockIndexes.{BlockIndexes}
 use Rattle.fb_check_names.specs.declared.catalog.Catalog.{Catalog}
 use Rattle.fb_check_names.specs.PortKinds.{AreIndexesOf}
 use Rattle.fb_check_names.specs.Types.{HasTypes}
 use Rattle.fb_check_names.specs.Unknown.{AreBlocks, IsBlockNumbers}
-use Rattle.fb_check_names.specs.declared.numbers.NetworkNumbers.{NetworkNumbers}
 use Rattle.fb_types.proofs.lemmas.lists.ByIndex.{slice_get-push, element_at}
 use Rattle.fb_check_names.proofs.lemmas.numbers.Lookups.{block_indexes}
-use Rattle.fb_check_names.specs.Listed.{each_at, each_from}
 use Rattle.fb_check_names.proofs.lemmas.Listing.{none_left, none_right}
 
 -- those of the first n types

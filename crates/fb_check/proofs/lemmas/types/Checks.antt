@@ -1,23 +1,10 @@
 -- What the tests of each block type say of the whole declaration.
-use Rattle.std.proofs.Common.{◌≡◌, ◌⊎◌, ◌&&◌, Bool, true, false, not, List, [], ◌∷◌, map, Some, None, refl, sym, ◌∙◌, inl, inr}
-use Rattle.std.specs.Prelude.{flat_map, ◌↔◌, IsTrue}
-use Rattle.std.specs.List.{list_all}
-use Rattle.std.proofs.lemmas.Bool.{true≢false, and_parts}
-use Rattle.std.proofs.lemmas.List.Folds.{list_all-append, list_all-map}
-use Rattle.fb_types.specs.Names.{Name}
-use Rattle.fb_types.specs.Syntax.{Expr, Stmts, expr_of, body_of}
-use Rattle.fb_types.specs.Blocks.{among, variable_names, ports_of}
-use Rattle.fb_types.specs.Flat.{kind_of, variables_in}
-use Rattle.fb_types.specs.Repeated.{basics, basics_in, interfaces}
-use Rattle.fb_types.specs.Unknown.{all_of, required_withs, required_transition, required_actions, required_chart, Mention, mentions, mentions_body, mentioned, is_known, guards_of}
-use Rattle.fb_types.specs.Kinds.{context_in, is_condition, body_right, declared_right, ChartWrong}
-use Rattle.fb_types.specs.declared.library.Library.{Library}
-use Rattle.fb_types.specs.declared.library.BlockType.{BlockType}
+use Rattle.fb_types.proofs.Common.{◌≡◌, ◌⊎◌, ◌&&◌, Bool, true, false, not, List, [], ◌∷◌, map, Some, None, refl, sym, ◌∙◌, inl, inr, flat_map, ◌↔◌, IsTrue, list_all, true≢false, and_parts, list_all-append, Name, Stmts, expr_of, body_of, among, variable_names, ports_of, kind_of, variables_in, basics, basics_in, interfaces, all_of, required_withs, required_chart, Mention, mentions, mentions_body, mentioned, is_known, context_in, is_condition, declared_right, Library, BlockType, BasicType, EventPort, Ports, Transition}
+use Rattle.std.proofs.lemmas.List.Folds.{list_all-map}
+use Rattle.fb_types.specs.Syntax.{Expr}
+use Rattle.fb_types.specs.Unknown.{required_transition, required_actions, guards_of}
+use Rattle.fb_types.specs.Kinds.{body_right, ChartWrong}
 use Rattle.fb_types.specs.declared.library.BlockType.TheVariants as block
-use Rattle.fb_types.specs.declared.library.BasicType.{BasicType}
-use Rattle.fb_types.specs.declared.library.EventPort.{EventPort}
-use Rattle.fb_types.specs.declared.library.Ports.{Ports}
-use Rattle.fb_types.specs.declared.library.Transition.{Transition}
 use Rattle.fb_check_names.specs.Parts.{required_parts, ArePartsKnown, PartWrong}
 use Rattle.fb_types.proofs.lemmas.names.NameLaws.{contains_from_any, any_from_contains}
 use Rattle.fb_types.proofs.lemmas.lists.ListTests.{list_all-flat_map, list_all-agree, fails_at, passes_at, passes_from}

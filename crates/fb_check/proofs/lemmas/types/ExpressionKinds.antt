@@ -1,16 +1,8 @@
 -- The kinds of expressions, each by its parts.
-use Rattle.std.proofs.Common.{◌≡◌, ◌≤◌, ◌<◌, List, [], ◌∷◌, get_or, length, Option, Some, None, refl, sym, ◌∙◌, ap, arith}
-use Rattle.std.specs.Prelude.{option_and_then}
-use Rattle.fb_types.specs.Names.{Name}
+use Rattle.fb_types.proofs.Common.{◌≡◌, ◌≤◌, ◌<◌, List, [], ◌∷◌, get_or, length, Option, Some, None, refl, sym, ◌∙◌, ap, arith, option_and_then, Name, expr_of, Types, function_named, Function, BinaryOperator, Expr, UnaryOperator}
 use Rattle.fb_types.specs.Kinds.{binary_value_kind, function_value_kind, value_kind_of, value_kind_of_type, value_kinds_of, unary_value_kind}
-use Rattle.fb_types.specs.Syntax.{expr_of}
-use Rattle.fb_types.specs.Values.{Types, function_named}
-use Rattle.fb_types.specs.declared.function.Function.{Function}
 use Rattle.fb_types.specs.declared.value_kind.ValueKind.{ValueKind}
-use Rattle.fb_types.specs.declared.text.BinaryOperator.{BinaryOperator}
 use Rattle.fb_types.specs.declared.text.Expr as expr
-use Rattle.fb_types.specs.declared.text.Expr.{Expr}
-use Rattle.fb_types.specs.declared.text.UnaryOperator.{UnaryOperator}
 use Rattle.fb_check.specs.types.Trees.{arguments_of}
 use Rattle.fb_check.proofs.lemmas.types.Meanings.{binary_says, call_says, group_says, unary_says, variable_says}
 use Rattle.fb_check.proofs.lemmas.types.Arguments.{put}

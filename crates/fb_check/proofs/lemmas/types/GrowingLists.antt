@@ -1,9 +1,6 @@
 -- Lists to which functions add, one after another.
-use Rattle.std.proofs.Common.{◌≡◌, ℕ, ◌+◌, ◌<◌, ◌≤◌, List, [], ◌∷◌, ◌++◌, drop, get_or, length, map, Result, Ok, Err, append_assoc, sym, subst, ◌∙◌, ap}
-use Rattle.std.specs.Prelude.{IfOk}
+use Rattle.fb_types.proofs.Common.{◌≡◌, ℕ, ◌+◌, ◌<◌, ◌≤◌, List, [], ◌∷◌, ◌++◌, drop, get_or, length, map, Result, Ok, Err, append_assoc, sym, subst, ◌∙◌, ap, IfOk, append-nil, at_drop_all, at_drop_more, map-append, IfOk-equal}
 use Rattle.std.specs.Result.{result_and}
-use Rattle.std.proofs.lemmas.List.{append-nil, at_drop_all, at_drop_more, map-append}
-use Rattle.std.proofs.lemmas.Result.{IfOk-equal}
 
 -- what holds of no value
 pub in_any_case : {T E P : Type 0} (r : Result T E) → P → IfOk r (λ _. P)

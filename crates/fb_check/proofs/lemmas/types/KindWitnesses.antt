@@ -1,40 +1,21 @@
 -- The list of all locations at which a kind is wrong: each is such a one, and if there is none, all is right.
-use Rattle.std.proofs.Common.{◌≡◌, ◌&&◌, ℕ, suc, ◌+◌, Bool, true, false, not, List, [], ◌++◌, Option, Some, None, refl, sym, ◌∙◌, subst, arith}
-use Rattle.std.specs.Prelude.{All, slice_get}
-use Rattle.std.specs.List.{list_all}
-use Rattle.std.proofs.lemmas.List.Elements.{All-append, All-nil}
-use Rattle.std.proofs.lemmas.List.Folds.{list_all-append}
-use Rattle.fb_types.specs.Blocks.{Kind, ports_of}
-use Rattle.fb_types.specs.Flat.{kind_of, kind_of_instance, variables_in}
-use Rattle.fb_types.specs.Kinds.{Context, KindWrong, declared_right, is_condition, is_value_kind, is_whole, parameter_right, parameters_right, same_value_kind, value_kind_of, value_kind_of_type}
-use Rattle.fb_types.specs.Names.{Name}
-use Rattle.fb_types.specs.Repeated.{OwnedNetwork}
-use Rattle.fb_types.specs.Syntax.{Assign, Case, Choices, Empty, Exit, For, If, Repeat, Return, Stmt, While, body_of, no_choice, then_choices}
-use Rattle.fb_types.specs.declared.library.Algorithm.{Algorithm}
-use Rattle.fb_types.specs.declared.library.BasicType.{BasicType}
-use Rattle.fb_types.specs.declared.library.BlockType.{BlockType}
+use Rattle.fb_check.proofs.lemmas.Common.{◌≡◌, ◌&&◌, ℕ, suc, ◌+◌, Bool, true, false, not, List, [], ◌++◌, Option, Some, None, refl, sym, ◌∙◌, subst, arith, All, slice_get, list_all, All-append, list_all-append, Kind, ports_of, kind_of, kind_of_instance, KindWrong, declared_right, is_condition, Name, OwnedNetwork, Assign, Case, For, If, Repeat, While, body_of, Algorithm, BasicType, BlockType, Instance, Library, Parameter, Variable, value_kind_of, value_kind_of_type, is_guard_right, KindWrongAt, Site, Application, Inside, each_at, unless, kind_wrong_parameters, kind_wrong_guard, kind_wrong_initial, kinds_wrong_in_block, kinds_wrong_in_body, kinds_wrong_in_statement, part_at, IsKindWrongAt, basic_at, network_at, each_in_body}
+use Rattle.fb_types.proofs.Common.{All-nil, variables_in, Choices, Empty, Exit, Return, Stmt, no_choice, then_choices}
+use Rattle.fb_types.specs.Kinds.{Context, is_value_kind, is_whole, parameter_right, parameters_right, same_value_kind}
 use Rattle.fb_types.specs.declared.library.BlockType.TheVariants as block
-use Rattle.fb_types.specs.declared.library.Instance.{Instance}
-use Rattle.fb_types.specs.declared.library.Library.{Library}
-use Rattle.fb_types.specs.declared.library.Parameter.{Parameter}
-use Rattle.fb_types.specs.declared.library.Variable.{Variable}
 use Rattle.fb_types.specs.declared.value_kind.ValueKind.TheVariants.{WholeNumber}
-use Rattle.fb_check.specs.types.Checks.{algorithm_right, chart_right, in_place, is_guard_right, is_right_chart}
+use Rattle.fb_check.specs.types.Checks.{algorithm_right, chart_right, in_place, is_right_chart}
 use Rattle.fb_check.proofs.lemmas.types.Checks.{chart_right_met}
-use Rattle.fb_check_names.specs.declared.location.KindWrongAt.{KindWrongAt}
 use Rattle.fb_check_names.specs.declared.location.KindWrongAt.TheVariants as kind_wrong
-use Rattle.fb_check_names.specs.declared.location.Site.{Site}
-use Rattle.fb_check_names.specs.declared.location.Site.TheVariants.{Application, Inside}
 use Rattle.fb_check_names.specs.declared.location.StatementPart.{StatementPart}
 use Rattle.fb_check_names.specs.declared.location.StatementPart.TheVariants as part
 use Rattle.fb_check_names.specs.declared.location.Variables.{Variables}
 use Rattle.fb_check_names.specs.declared.location.Variables.TheVariants.{Inputs, Internals, Outputs}
-use Rattle.fb_check_names.specs.Listed.{each_at, unless}
-use Rattle.fb_check.specs.networks.Parameters.{kind_wrong_parameters, kinds_wrong_in_network}
-use Rattle.fb_check.specs.types.KindWrongLists.{kind_wrong_guard, kind_wrong_initial, kinds_wrong_all, kinds_wrong_in_block, kinds_wrong_in_body, kinds_wrong_in_statement, kinds_wrong_initial, kinds_wrong_inside, part_at, wrong_choices, wrong_control, wrong_parts}
-use Rattle.fb_check.specs.types.KindsWrong.{IsKindWrongAt, are_set_right_inside, is_all_right}
-use Rattle.fb_check_names.specs.Sites.{basic_at, network_at, variables_at}
-use Rattle.fb_check.specs.types.Statements.{choice_right, conditions_right, each_in_body, own_right, part_right, stands_right}
+use Rattle.fb_check.specs.networks.Parameters.{kinds_wrong_in_network}
+use Rattle.fb_check.specs.types.KindWrongLists.{kinds_wrong_all, kinds_wrong_initial, kinds_wrong_inside, wrong_choices, wrong_control, wrong_parts}
+use Rattle.fb_check.specs.types.KindsWrong.{are_set_right_inside, is_all_right}
+use Rattle.fb_check_names.specs.Sites.{variables_at}
+use Rattle.fb_check.specs.types.Statements.{choice_right, conditions_right, own_right, part_right, stands_right}
 use Rattle.fb_check.proofs.lemmas.types.Bodies.{body_each}
 use Rattle.fb_check_names.proofs.lemmas.Listing.{all_each, all_unless, none_each, none_left, none_right, none_unless}
 use Rattle.fb_check.proofs.lemmas.types.RightKinds.{none_wrong}

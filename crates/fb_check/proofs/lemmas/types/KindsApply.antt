@@ -1,33 +1,23 @@
 -- What is reported of a location makes its number apply.
-use Rattle.std.proofs.Common.{◌≡◌, ℕ, Bool, true, false, ◌++◌, Option, Some, None, Contains, refl, sym, ◌∙◌, ap, inl, inr}
-use Rattle.std.specs.List.{list_all}
-use Rattle.std.proofs.lemmas.Bool.{and_left, and_right}
-use Rattle.std.proofs.lemmas.List.Elements.{Contains-append_left, Contains-append_right}
-use Rattle.fb_types.specs.Blocks.{Kind, ports_of}
-use Rattle.fb_types.specs.Flat.{kind_of, variables_in}
-use Rattle.fb_types.specs.Kinds.{KindWrong, declared_right, parameter_right}
-use Rattle.fb_types.specs.Syntax.{body_of}
-use Rattle.fb_types.specs.declared.library.BasicType.{BasicType}
-use Rattle.fb_types.specs.declared.library.BlockType.{BlockType}
+use Rattle.fb_check.proofs.lemmas.Common.{◌≡◌, ℕ, Bool, true, false, ◌++◌, Option, Some, None, Contains, refl, sym, ◌∙◌, ap, inl, inr, list_all, Contains-append_left, Contains-append_right, Kind, ports_of, kind_of, KindWrong, declared_right, body_of, BasicType, BlockType, Library, Variable, is_guard_right, KindWrongAt, Site, IsKindWrongAt, basic_at, each_in_body}
+use Rattle.fb_types.proofs.Common.{and_right, variables_in}
+use Rattle.std.proofs.lemmas.Bool.{and_left}
+use Rattle.fb_types.specs.Kinds.{parameter_right}
 use Rattle.fb_types.specs.declared.library.BlockType.TheVariants as block
-use Rattle.fb_types.specs.declared.library.Library.{Library}
-use Rattle.fb_types.specs.declared.library.Variable.{Variable}
 use Rattle.fb_types.proofs.lemmas.lists.ListTests.{fails_from}
 use Rattle.fb_types.proofs.lemmas.lists.ByIndex.{element_of_index}
 use Rattle.fb_types.proofs.lemmas.lists.Elements.{Contains-nil}
-use Rattle.fb_check.specs.types.Checks.{algorithm_right, chart_right, in_place, is_guard_right, is_right_block}
+use Rattle.fb_check.specs.types.Checks.{algorithm_right, chart_right, in_place, is_right_block}
 use Rattle.fb_check.proofs.lemmas.types.UnknownApplies.{basic_among}
 use Rattle.fb_check.proofs.lemmas.types.Checks.{chart_right_met, wrong_answer}
-use Rattle.fb_check_names.specs.declared.location.KindWrongAt.{KindWrongAt}
 use Rattle.fb_check_names.specs.declared.location.KindWrongAt.TheVariants as kind_wrong
 use Rattle.fb_check_names.specs.declared.location.StatementPart.{StatementPart}
-use Rattle.fb_check_names.specs.declared.location.Site.{Site}
 use Rattle.fb_check_names.specs.declared.location.Variables.{Variables}
 use Rattle.fb_check_names.specs.declared.location.Variables.TheVariants.{Inputs, Outputs, Internals}
-use Rattle.fb_check.specs.types.KindsWrong.{IsGuardKindWrong, IsInitialKindWrong, IsKindWrongAt, IsParameterKindWrong, IsStatementKindWrong}
-use Rattle.fb_check_names.specs.Sites.{basic_at, variables_at}
+use Rattle.fb_check.specs.types.KindsWrong.{IsGuardKindWrong, IsInitialKindWrong, IsParameterKindWrong, IsStatementKindWrong}
+use Rattle.fb_check_names.specs.Sites.{variables_at}
 use Rattle.fb_check_names.proofs.lemmas.unknown.InNetworks.{site_network}
-use Rattle.fb_check.specs.types.Statements.{each_in_body, stands_right}
+use Rattle.fb_check.specs.types.Statements.{stands_right}
 use Rattle.fb_check.proofs.lemmas.types.Bodies.{body_each}
 use Rattle.fb_check.proofs.lemmas.types.StatementParts.{part_fails}
 

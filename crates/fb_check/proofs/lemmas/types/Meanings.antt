@@ -1,17 +1,14 @@
 -- What the expressions and statements that were read mean, each by its parts (IEC 61131-3, 7.3).
-use Rattle.std.proofs.Common.{◌≡◌, List, Option, refl, rules}
-use Rattle.fb_types.specs.Names.{Name}
-use Rattle.fb_types.specs.Syntax.{Variable, Unary, Binary, Call, Assign, If, Case, For, While, Repeat, expr_of, step_of, stmt_of}
-use Rattle.fb_types.specs.declared.text.BinaryOperator.{BinaryOperator}
+use Rattle.fb_types.proofs.Common.{◌≡◌, List, Option, refl, rules, Name, Binary, Assign, If, Case, For, While, Repeat, expr_of, step_of, stmt_of, BinaryOperator, Expr, UnaryOperator, Branch, out-Branch, Choice, out-Choice}
+use Rattle.fb_types.specs.Syntax.{Variable, Unary, Call}
 use Rattle.fb_types.specs.declared.text.Expr as expr
-use Rattle.fb_types.specs.declared.text.Expr.{Expr, fold-roll-Expr}
+use Rattle.fb_types.specs.declared.text.Expr.{fold-roll-Expr}
 use Rattle.fb_types.specs.declared.text.Expr.TheVariants as expr_variants
 use Rattle.fb_types.specs.declared.text.Stmt as read
 use Rattle.fb_types.specs.declared.text.Stmt.{fold-roll-Stmt}
 use Rattle.fb_types.specs.declared.text.Stmt.TheVariants as variants
-use Rattle.fb_types.specs.declared.text.UnaryOperator.{UnaryOperator}
-use Rattle.fb_types.specs.declared.text.Branch.{Branch, fold_out-Branch, out-Branch}
-use Rattle.fb_types.specs.declared.text.Choice.{Choice, fold_out-Choice, out-Choice}
+use Rattle.fb_types.specs.declared.text.Branch.{fold_out-Branch}
+use Rattle.fb_types.specs.declared.text.Choice.{fold_out-Choice}
 use Rattle.fb_check.specs.types.Trees.{all_of, arguments_of, branch_of, branches_of, choice_of, choices_of}
 
 pub variable_says : (n : Name) → expr_of (expr.Variable n) ≡ Variable n

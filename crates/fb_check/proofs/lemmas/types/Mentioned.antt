@@ -1,23 +1,11 @@
 -- What expressions and statements name, each by its parts.
-use Rattle.std.proofs.Common.{◌≡◌, List, [], ◌∷◌, ◌++◌, Option, None, Some, sym, ◌∙◌, ap}
-use Rattle.fb_types.specs.Names.{Name}
-use Rattle.fb_types.specs.Syntax.{expr_of, stmt_of}
-use Rattle.fb_types.specs.Unknown.{Mention, OfFunction, OfVariable, is_known, mentions, mentions_all, mentions_body, mentions_branches, mentions_choices, mentions_in}
-use Rattle.fb_types.specs.declared.library.BasicType.{BasicType}
-use Rattle.fb_types.specs.declared.text.BinaryOperator.{BinaryOperator}
+use Rattle.fb_check.proofs.lemmas.Common.{◌≡◌, List, [], ◌∷◌, ◌++◌, Option, None, Some, sym, ◌∙◌, ap, Name, expr_of, stmt_of, Mention, is_known, mentions, mentions_body, BasicType, Expr, Branch, Choice, Stmt, all_of, arguments_of, branch_of, branches_of, choice_of, choices_of, Naming, each_at, unless, meant, meant_all, mention_in, unknown_mentions}
+use Rattle.fb_types.proofs.Common.{BinaryOperator, UnaryOperator, out-Branch, out-Choice}
+use Rattle.fb_types.specs.Unknown.{OfFunction, OfVariable, mentions_all, mentions_branches, mentions_choices, mentions_in}
 use Rattle.fb_types.specs.declared.text.Expr as expr
-use Rattle.fb_types.specs.declared.text.Expr.{Expr}
 use Rattle.fb_types.specs.declared.text.Stmt as read
-use Rattle.fb_types.specs.declared.text.Stmt.{Stmt}
-use Rattle.fb_types.specs.declared.text.UnaryOperator.{UnaryOperator}
-use Rattle.fb_types.specs.declared.text.Branch.{Branch, out-Branch}
-use Rattle.fb_types.specs.declared.text.Choice.{Choice, out-Choice}
-use Rattle.fb_check.specs.types.Trees.{all_of, arguments_of, branch_of, branches_of, choice_of, choices_of}
-use Rattle.fb_check.specs.declared.types.basics.Naming.{Naming}
 use Rattle.fb_check.specs.declared.types.mentions.Mention as gathered
-use Rattle.fb_check_names.specs.Listed.{each_at, unless}
-use Rattle.fb_check.specs.types.Mentions.{meant, meant_all, mentions_of_control}
-use Rattle.fb_check.specs.types.Unknowns.{mention_in, unknown_mentions}
+use Rattle.fb_check.specs.types.Mentions.{mentions_of_control}
 use Rattle.fb_check_names.proofs.lemmas.Listing.{each_from-map}
 use Rattle.fb_check.proofs.lemmas.types.Meanings.{assign_says, binary_says, branch_says, call_says, case_says, choice_says, for_says, group_says, if_says, repeat_says, unary_says, variable_says, while_says}
 

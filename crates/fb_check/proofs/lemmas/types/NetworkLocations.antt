@@ -1,37 +1,14 @@
 -- Networks in which a name is unknown, and networks in which each is known.
-use Rattle.std.proofs.Common.{◌≡◌, ◌&&◌, ◌||◌, ℕ, true, false, List, [], ◌∷◌, ◌++◌, map, Some, None, Option, Contains, refl, sym, ◌∙◌, ap, inl, inr}
-use Rattle.std.specs.Prelude.{flat_map, slice_get, option_map, option_and_then}
-use Rattle.std.specs.List.{list_all, list_any}
-use Rattle.std.proofs.lemmas.Bool.{true≢false}
-use Rattle.std.proofs.lemmas.Option.{same_Some}
-use Rattle.std.proofs.lemmas.List.{append-nil}
-use Rattle.std.proofs.lemmas.List.Elements.{Contains-append_cases}
-use Rattle.fb_types.specs.Names.{Name, same_name}
-use Rattle.fb_types.specs.Blocks.{Kind, among, ports_of}
-use Rattle.fb_types.specs.Flat.{kind_of_instance}
-use Rattle.fb_types.specs.Repeated.{OwnedNetwork, block_type_names}
-use Rattle.fb_types.specs.Unknown.{Required, all_of, required_types, required_parameters, data_ins}
-use Rattle.fb_types.specs.declared.library.Connection.{Connection}
-use Rattle.fb_types.specs.declared.library.Instance.{Instance}
-use Rattle.fb_types.specs.declared.library.Library.{Library}
-use Rattle.fb_types.specs.declared.library.Parameter.{Parameter}
-use Rattle.fb_types.specs.declared.library.Ports.{Ports}
+use Rattle.fb_check.proofs.lemmas.Common.{◌≡◌, ◌&&◌, ◌||◌, ℕ, true, false, List, [], ◌∷◌, ◌++◌, map, Some, None, Option, Contains, refl, sym, ◌∙◌, ap, inl, inr, flat_map, slice_get, option_map, option_and_then, list_all, list_any, true≢false, same_Some, append-nil, Name, same_name, Kind, among, ports_of, kind_of_instance, OwnedNetwork, block_type_names, Required, required_parameters, data_ins, Connection, Instance, Library, Parameter, Ports, is_met, FlowKind, Events, Data, Side, Site, UnknownName, each_at, unless, network_at, connections_of, unknown_in_instance, unknown_parameters, Unmet, is_type_met, is_side_known}
+use Rattle.fb_types.proofs.Common.{Contains-append_cases, all_of, required_types}
 use Rattle.fb_types.proofs.lemmas.names.NameLaws.{any_from_contains}
-use Rattle.fb_check.specs.types.Checks.{is_met}
 use Rattle.fb_types.proofs.lemmas.lists.ListTests.{list_all-map, list_all-flat_map}
 use Rattle.fb_check_names.specs.Unknown.{NetworkUnknown}
 use Rattle.fb_check_names.proofs.lemmas.unknown.NetworkUnknown.{met, met_required, list_all-all_of}
-use Rattle.fb_check_names.specs.declared.location.FlowKind.{FlowKind}
-use Rattle.fb_check_names.specs.declared.location.FlowKind.TheVariants.{Events, Data}
-use Rattle.fb_check_names.specs.declared.location.Side.{Side}
-use Rattle.fb_check_names.specs.declared.location.Site.{Site}
-use Rattle.fb_check_names.specs.declared.location.UnknownName.{UnknownName}
 use Rattle.fb_check_names.specs.declared.location.UnknownName.TheVariants as location
-use Rattle.fb_check_names.specs.Listed.{each_at, unless}
-use Rattle.fb_check_names.specs.Sites.{network_at, instance_at, connections_of}
-use Rattle.fb_check.specs.types.Unknowns.{unknown_in_instance, unknown_parameters}
+use Rattle.fb_check_names.specs.Sites.{instance_at}
 use Rattle.fb_check_names.proofs.lemmas.Listing.{each_from-map}
-use Rattle.fb_check.specs.types.Unknown.{Unmet, UnmetParameter, IsUnknownEnd, type_required, parameter_required, is_type_met, are_parameters_met, is_side_known, are_ends_known}
+use Rattle.fb_check.specs.types.Unknown.{UnmetParameter, IsUnknownEnd, type_required, parameter_required, are_parameters_met, are_ends_known}
 
 -- ---- Names that are required
 

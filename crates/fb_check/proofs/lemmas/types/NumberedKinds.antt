@@ -1,15 +1,6 @@
 -- The numbers of the networks inside block types.
-use Rattle.std.proofs.Common.{◌≡◌, ℕ, Option, Some, None, refl, subst}
-use Rattle.std.specs.Prelude.{slice_get}
-use Rattle.fb_types.specs.Repeated.{OwnedNetwork}
-use Rattle.fb_types.specs.declared.deploy.Plan.{Plan}
-use Rattle.fb_types.specs.declared.library.BlockType.{BlockType}
+use Rattle.fb_check.proofs.lemmas.Common.{◌≡◌, ℕ, Option, Some, None, refl, subst, slice_get, OwnedNetwork, Plan, BlockType, CompositeType, Library, IsNetwork, IsResolved, NetworkNumbers, Resolved}
 use Rattle.fb_types.specs.declared.library.BlockType.TheVariants as block
-use Rattle.fb_types.specs.declared.library.CompositeType.{CompositeType}
-use Rattle.fb_types.specs.declared.library.Library.{Library}
-use Rattle.fb_check_names.specs.Numbers.{IsNetwork, IsResolved}
-use Rattle.fb_check_names.specs.declared.numbers.NetworkNumbers.{NetworkNumbers}
-use Rattle.fb_check_names.specs.declared.numbers.Resolved.{Resolved}
 use Rattle.fb_check.specs.types.Insides.{AreAllInside, AreInside}
 
 pub all_inside : (lib : Library) (plan : Plan) (r : Resolved) → IsResolved lib plan r → AreAllInside lib r.blocks

@@ -1,49 +1,19 @@
 -- The numbers of names, if none is unknown.
-use Rattle.std.proofs.Common.{◌≡◌, ◌&&◌, ℕ, zero, suc, ◌+◌, true, false, List, [], ◌∷◌, ◌++◌, length, map, Option, Some, None, Bor, append_assoc, refl, sym, ◌∙◌, ap}
-use Rattle.std.specs.Prelude.{is_some, slice_get, option_map, option_and_then}
-use Rattle.std.specs.List.{list_all, list_any}
-use Rattle.std.specs.BTreeMap.{BTreeMap}
-use Rattle.std.proofs.lemmas.Bool.{true≢false, and_from}
-use Rattle.fb_types.specs.Blocks.{Kind, among, ports_of}
-use Rattle.fb_types.specs.Flat.{kind_of, kind_of_instance, resource_names_of, type_named}
-use Rattle.fb_types.specs.Names.{Name, same_name}
-use Rattle.fb_types.specs.Repeated.{OwnedNetwork, instance_names}
-use Rattle.fb_types.specs.Unknown.{data_ins}
-use Rattle.fb_types.specs.declared.deploy.Link.{Link}
-use Rattle.fb_types.specs.declared.deploy.Plan.{Plan}
-use Rattle.fb_types.specs.declared.deploy.ResourceEntry.{ResourceEntry}
-use Rattle.fb_types.specs.declared.library.Connection.{Connection}
-use Rattle.fb_types.specs.declared.library.Instance.{Instance}
-use Rattle.fb_types.specs.declared.library.Library.{Library}
-use Rattle.fb_types.specs.declared.library.Parameter.{Parameter}
-use Rattle.fb_types.specs.declared.library.PortName.{PortName}
-use Rattle.fb_types.specs.declared.library.Ports.{Ports}
+use Rattle.fb_check.proofs.lemmas.Common.{◌≡◌, ◌&&◌, ℕ, zero, suc, ◌+◌, true, false, List, [], ◌∷◌, ◌++◌, length, map, Option, Some, None, Bor, append_assoc, refl, sym, ◌∙◌, ap, is_some, slice_get, option_map, option_and_then, list_all, list_any, true≢false, Kind, among, ports_of, kind_of, kind_of_instance, resource_names_of, type_named, Name, same_name, OwnedNetwork, instance_names, data_ins, Link, Plan, ResourceEntry, Connection, Instance, Library, Parameter, PortName, Ports, IsIndex, index_in, IsNetwork, IsResolved, each_or_none, end_at, index_of, kind_of_number, type_number, port_number, ConnectionEnd, NetworkNumbers, TypeNumber, each_at, unless, FlowKind, Events, Data, Side, From, To, Site, Application, UnknownName, connection_number, number_in, each_some, mapped_unless, sides_unless, some_of, is_instance, is_resource, is_side_known, is_type_met, unknown_all, unknown_ends, unknown_in_block, unknown_in_instance, unknown_in_network, unknown_parameters}
+use Rattle.fb_types.proofs.Common.{BTreeMap, and_from}
 use Rattle.fb_types.proofs.lemmas.lists.Positions.{is_some-position, position_is}
-use Rattle.fb_check_names.specs.Indexes.{IsIndex, index_in}
-use Rattle.fb_check_names.specs.Numbers.{IsNetwork, IsResolved, each_or_none, end_at, held_numbers, index_of, kind_of_number, link_ends, parameter_numbers, ports_at_index, type_number}
-use Rattle.fb_check_names.specs.Types.{port_number}
+use Rattle.fb_check_names.specs.Numbers.{held_numbers, link_ends, parameter_numbers, ports_at_index}
 use Rattle.fb_check_names.specs.Unknown.{AreBlocks}
-use Rattle.fb_check_names.specs.declared.numbers.ConnectionEnd.{ConnectionEnd}
 use Rattle.fb_check_names.specs.declared.numbers.LinkEnds.{LinkEnds}
-use Rattle.fb_check_names.specs.declared.numbers.NetworkNumbers.{NetworkNumbers}
-use Rattle.fb_check_names.specs.declared.numbers.TypeNumber.{TypeNumber}
 use Rattle.fb_check_names.proofs.lemmas.Each.{is_some-each}
 use Rattle.fb_check_names.proofs.lemmas.numbers.Lookups.{kind_known, kind_of_numbered, no_parameters, parameters_are, type_named-number}
 use Rattle.fb_check_names.proofs.lemmas.unknown.NetworkUnknown.{end_known, instance_met, type_met, wire_known}
-use Rattle.fb_check_names.specs.Listed.{each_at, unless}
-use Rattle.fb_check_names.specs.declared.location.FlowKind.{FlowKind}
-use Rattle.fb_check_names.specs.declared.location.FlowKind.TheVariants.{Events, Data}
-use Rattle.fb_check_names.specs.declared.location.Side.{Side}
-use Rattle.fb_check_names.specs.declared.location.Side.TheVariants.{From, To}
-use Rattle.fb_check_names.specs.declared.location.Site.{Site}
-use Rattle.fb_check_names.specs.declared.location.Site.TheVariants.{Application}
-use Rattle.fb_check_names.specs.declared.location.UnknownName.{UnknownName}
 use Rattle.fb_check_names.specs.declared.location.UnknownName.TheVariants as location
 use Rattle.fb_check_names.proofs.lemmas.Listing.{alike, none_each, none_left, none_right, none_unless}
-use Rattle.fb_check.specs.types.Scopes.{AreTyped, component_number, connection_number, inputs_in, inputs_of_type, number_in, number_or, number_past, side_number}
-use Rattle.fb_check.specs.types.Present.{each_some, ends_in, mapped_unless, sides_unless, some_of}
-use Rattle.fb_check.specs.types.Unknown.{inputs_of, is_instance, is_resource, is_side_known, is_type_met, outputs_of}
-use Rattle.fb_check.specs.types.Unknowns.{unknown_all, unknown_ends, unknown_in_block, unknown_in_deployment, unknown_in_instance, unknown_in_network, unknown_mapped, unknown_parameters, unknown_sides}
+use Rattle.fb_check.specs.types.Scopes.{AreTyped, component_number, inputs_in, inputs_of_type, number_or, number_past, side_number}
+use Rattle.fb_check.specs.types.Present.{ends_in}
+use Rattle.fb_check.specs.types.Unknown.{inputs_of, outputs_of}
+use Rattle.fb_check.specs.types.Unknowns.{unknown_in_deployment, unknown_mapped, unknown_sides}
 use Rattle.fb_check.proofs.lemmas.types.NetworkLocations.{any_map, parameters_of}
 use Rattle.fb_check.proofs.lemmas.types.UnknownWitnesses.{none_in_ends, none_in_instance, none_in_parameters, none_unknown}
 

@@ -1,8 +1,5 @@
 -- Names that may be required.
-use Rattle.std.proofs.Common.{◌≡◌, Bool, Option, Some, None, sym, ap}
-use Rattle.fb_types.specs.Unknown.{Required}
-use Rattle.fb_check_names.specs.declared.location.UnknownName.{UnknownName}
-use Rattle.fb_check_names.specs.Listed.{unless}
+use Rattle.fb_check.proofs.lemmas.Common.{◌≡◌, Bool, Option, Some, None, sym, ap, Required, UnknownName, unless}
 use Rattle.fb_check.specs.types.Unknowns.{is_optional_met, unmet_at}
 
 pub unmet_is : (o : Option Required) (b : Bool) (p : UnknownName) → b ≡ is_optional_met o → unmet_at o p ≡ unless b p

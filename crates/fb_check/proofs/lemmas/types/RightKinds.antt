@@ -1,9 +1,6 @@
 -- Declarations in which each kind is right.
-use Rattle.std.proofs.Common.{◌≡◌, true, sym, ◌∙◌, inl, inr}
-use Rattle.std.specs.List.{list_all}
-use Rattle.std.proofs.lemmas.Bool.{true≢false, and_parts}
-use Rattle.fb_types.specs.Kinds.{KindWrong, parameters_right}
-use Rattle.fb_types.specs.declared.library.Library.{Library}
+use Rattle.fb_types.proofs.Common.{◌≡◌, true, sym, ◌∙◌, inl, inr, list_all, true≢false, and_parts, KindWrong, Library}
+use Rattle.fb_types.specs.Kinds.{parameters_right}
 use Rattle.fb_check_names.specs.Parts.{PartWrong}
 use Rattle.fb_types.proofs.lemmas.lists.ListTests.{list_all-both, passes_at}
 use Rattle.fb_check.specs.types.Checks.{is_right_block}

@@ -1,9 +1,7 @@
 -- A statement that is right by itself is right in each of its parts.
-use Rattle.std.proofs.Common.{◌≡◌, ℕ, zero, suc, Bool, true, false, not, ◌&&◌, refl, sym, ◌∙◌}
-use Rattle.std.proofs.lemmas.Bool.{and_parts, true≢false}
-use Rattle.fb_types.specs.Kinds.{Context, is_condition, is_value_kind, is_whole, same_value_kind, value_kind_of, value_kind_of_type}
-use Rattle.fb_types.specs.Names.{Name}
-use Rattle.fb_types.specs.Syntax.{Expr, Stmt, Empty, Exit, Return, Assign, If, Case, For, While, Repeat, no_stmt, Choices, no_choice, then_choices}
+use Rattle.fb_types.proofs.Common.{◌≡◌, ℕ, zero, suc, Bool, true, false, not, ◌&&◌, refl, sym, ◌∙◌, and_parts, true≢false, is_condition, Name, Stmt, Empty, Exit, Return, Assign, If, Case, For, While, Repeat, no_stmt, Choices, no_choice, then_choices}
+use Rattle.fb_types.specs.Kinds.{Context, is_value_kind, is_whole, same_value_kind, value_kind_of, value_kind_of_type}
+use Rattle.fb_types.specs.Syntax.{Expr}
 use Rattle.fb_types.specs.declared.value_kind.ValueKind.TheVariants.{WholeNumber}
 use Rattle.fb_check_names.specs.declared.location.StatementPart.{StatementPart}
 use Rattle.fb_check_names.specs.declared.location.StatementPart.TheVariants as part

@@ -1,57 +1,25 @@
 -- Where a name is unknown, the number applies (E21).
-use Rattle.std.proofs.Common.{◌≡◌, ◌&&◌, ℕ, Bool, true, false, List, [], ◌∷◌, ◌++◌, map, Option, Some, None, Contains, refl, sym, ◌∙◌, ap, subst, inl, inr, ⊎_elim}
-use Rattle.std.specs.Prelude.{flat_map, slice_get, option_map, option_and_then}
-use Rattle.std.specs.List.{list_all}
-use Rattle.std.proofs.lemmas.Bool.{and_left, and_right, true≢false}
-use Rattle.std.proofs.lemmas.List.Elements.{Contains-append_left, Contains-append_right, Contains-append_cases}
-use Rattle.std.proofs.lemmas.List.Folds.{list_all-append}
-use Rattle.std.proofs.lemmas.Option.{same_Some}
-use Rattle.fb_types.specs.Blocks.{among, event_names}
-use Rattle.fb_types.specs.Flat.{resource_names_of}
-use Rattle.fb_types.specs.Names.{Name}
-use Rattle.fb_types.specs.Repeated.{OwnedNetwork, algorithm_names, basics, block_type_names, instance_names, interfaces, networks, state_names}
-use Rattle.fb_types.specs.Syntax.{body_of}
-use Rattle.fb_types.specs.Unknown.{Mention, NameUnknown, Required, all_of, event_ins, is_known, mentioned, mentions_body, optional, required, required_chart, required_deployment, required_parameters, required_types, required_withs}
-use Rattle.fb_types.specs.declared.deploy.Link.{Link}
-use Rattle.fb_types.specs.declared.deploy.Plan.{Plan}
-use Rattle.fb_types.specs.declared.deploy.ResourceEntry.{ResourceEntry}
-use Rattle.fb_types.specs.declared.library.Action.{Action}
-use Rattle.fb_types.specs.declared.library.Algorithm.{Algorithm}
-use Rattle.fb_types.specs.declared.library.BasicType.{BasicType}
-use Rattle.fb_types.specs.declared.library.BlockType.{BlockType}
+use Rattle.fb_check.proofs.lemmas.Common.{◌≡◌, ◌&&◌, ℕ, Bool, true, false, List, [], ◌∷◌, ◌++◌, map, Option, Some, None, Contains, refl, sym, ◌∙◌, ap, subst, inl, inr, flat_map, slice_get, option_map, option_and_then, list_all, true≢false, Contains-append_left, Contains-append_right, list_all-append, same_Some, among, event_names, resource_names_of, Name, OwnedNetwork, algorithm_names, basics, block_type_names, instance_names, interfaces, networks, state_names, body_of, Mention, NameUnknown, Required, event_ins, is_known, mentions_body, required_chart, required_parameters, required_withs, Link, Plan, ResourceEntry, Action, Algorithm, BasicType, BlockType, Connection, EventPort, Instance, Library, Ports, Transition, State, ports_of_block, basic_at, network_at, Direction, Input, Output, FlowKind, Events, Data, Side, From, To, Site, UnknownName, actions_met, all_met, guard_mentions, is_met, transition_met, with_inputs, with_outputs, IsUnknownAt, Unmet, events_of, is_side_known, required_action, required_transition, variables_for}
+use Rattle.fb_types.proofs.Common.{⊎_elim, and_right, Contains-append_cases, all_of, mentioned, required, required_deployment, required_types}
+use Rattle.std.proofs.lemmas.Bool.{and_left}
+use Rattle.fb_types.specs.Unknown.{optional}
 use Rattle.fb_types.specs.declared.library.BlockType.TheVariants as block
-use Rattle.fb_types.specs.declared.library.Connection.{Connection}
-use Rattle.fb_types.specs.declared.library.EventPort.{EventPort}
-use Rattle.fb_types.specs.declared.library.Instance.{Instance}
-use Rattle.fb_types.specs.declared.library.Library.{Library}
-use Rattle.fb_types.specs.declared.library.Ports.{Ports}
-use Rattle.fb_types.specs.declared.library.State.{State}
-use Rattle.fb_types.specs.declared.library.Transition.{Transition}
 use Rattle.fb_types.proofs.lemmas.lists.ByIndex.{element_of_index}
 use Rattle.fb_types.proofs.lemmas.lists.Elements.{Contains-flat_map, Contains-here, Contains-map, Contains-there}
 use Rattle.fb_types.proofs.lemmas.lists.ListTests.{fails_at, fails_from, passes_at}
 use Rattle.fb_types.proofs.lemmas.names.NameLaws.{any_from_contains, contains_from_any}
 use Rattle.fb_types.proofs.lemmas.lists.Options.{map_parts}
 use Rattle.fb_check_names.specs.Parts.{ArePartsKnown, required_parts}
-use Rattle.fb_check_names.specs.Types.{ports_of_block}
 use Rattle.fb_check_names.proofs.lemmas.unknown.Resolving.{of_deployment, of_network}
-use Rattle.fb_check_names.specs.Sites.{basic_at, basic_inside, instance_at, network_at}
+use Rattle.fb_check_names.specs.Sites.{basic_inside, instance_at}
 use Rattle.fb_check_names.specs.declared.location.ActionPart.{ActionPart}
 use Rattle.fb_check_names.specs.declared.location.ActionPart.TheVariants as actions
-use Rattle.fb_check_names.specs.declared.location.Direction.{Direction}
-use Rattle.fb_check_names.specs.declared.location.Direction.TheVariants.{Input, Output}
-use Rattle.fb_check_names.specs.declared.location.FlowKind.{FlowKind}
-use Rattle.fb_check_names.specs.declared.location.FlowKind.TheVariants.{Events, Data}
-use Rattle.fb_check_names.specs.declared.location.Side.{Side}
-use Rattle.fb_check_names.specs.declared.location.Side.TheVariants.{From, To}
-use Rattle.fb_check_names.specs.declared.location.Site.{Site}
 use Rattle.fb_check_names.specs.declared.location.TransitionPart.{TransitionPart}
 use Rattle.fb_check_names.specs.declared.location.TransitionPart.TheVariants as part
-use Rattle.fb_check_names.specs.declared.location.UnknownName.{UnknownName}
 use Rattle.fb_check_names.specs.declared.location.UnknownName.TheVariants as location
 use Rattle.fb_check_names.proofs.lemmas.unknown.InNetworks.{site_network}
-use Rattle.fb_check.specs.types.Checks.{action_met, actions_met, all_known, all_met, body_known, guard_known, guard_mentions, is_known_block, is_known_chart, is_met, transition_met, with_inputs, with_outputs}
-use Rattle.fb_check.specs.types.Unknown.{IsUnknownAt, IsUnknownEnd, IsUnknownMention, Unmet, are_ends_known, body_at, events_of, guard_at, is_side_known, link_required, mapped_required, parameter_required, required_action, required_transition, side_of, type_required, variables_for, with_required}
+use Rattle.fb_check.specs.types.Checks.{action_met, all_known, body_known, guard_known, is_known_block, is_known_chart}
+use Rattle.fb_check.specs.types.Unknown.{IsUnknownEnd, IsUnknownMention, are_ends_known, body_at, guard_at, link_required, mapped_required, parameter_required, side_of, type_required, with_required}
 use Rattle.fb_check.proofs.lemmas.types.AllUnknown.{not_met, not_met_of, then_some}
 use Rattle.fb_check.proofs.lemmas.types.Checks.{chart_met, known_answer, mentions_met, withs_met}
 

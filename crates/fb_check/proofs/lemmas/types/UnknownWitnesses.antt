@@ -1,48 +1,18 @@
 -- The list of all unknown names has exactly the locations at which a name is unknown.
-use Rattle.std.proofs.Common.{◌≡◌, ◌&&◌, ℕ, true, List, [], ◌++◌, Option, Some, None, refl, ◌∙◌, ap, subst}
-use Rattle.std.specs.Prelude.{All, slice_get, option_map, option_and_then}
-use Rattle.std.specs.List.{list_all}
-use Rattle.std.proofs.lemmas.List.Elements.{All-append, All-weaker}
-use Rattle.std.proofs.lemmas.List.Folds.{list_all-append}
-use Rattle.std.proofs.lemmas.Option.{same_Some}
-use Rattle.fb_types.specs.Blocks.{among}
-use Rattle.fb_types.specs.Names.{Name}
-use Rattle.fb_types.specs.Repeated.{OwnedNetwork, algorithm_names, state_names}
-use Rattle.fb_types.specs.Unknown.{Mention, NameUnknown, Required, all_of, data_ins, data_outs, event_ins, event_outs, is_known, mentioned, mentions_body, optional, required_chart, required_parameters, required_withs}
-use Rattle.fb_types.specs.Syntax.{body_of}
-use Rattle.fb_types.specs.declared.library.Action.{Action}
-use Rattle.fb_types.specs.declared.library.Algorithm.{Algorithm}
-use Rattle.fb_types.specs.declared.library.BasicType.{BasicType}
-use Rattle.fb_types.specs.declared.library.BlockType.{BlockType}
+use Rattle.fb_check.proofs.lemmas.Common.{◌≡◌, ◌&&◌, ℕ, true, List, [], ◌++◌, Option, Some, None, refl, ◌∙◌, ap, subst, All, slice_get, option_map, option_and_then, list_all, All-append, list_all-append, same_Some, among, Name, OwnedNetwork, algorithm_names, state_names, Mention, NameUnknown, Required, data_ins, data_outs, event_ins, is_known, mentions_body, required_chart, required_parameters, required_withs, body_of, Action, Algorithm, BasicType, BlockType, Connection, EventPort, Instance, Library, Transition, Plan, State, actions_met, all_met, guard_mentions, is_met, transition_met, with_inputs, with_outputs, ports_of_block, Naming, Direction, Input, Output, FlowKind, Events, Data, From, To, Site, Application, Inside, UnknownName, each_at, unless, basic_at, connections_of, network_at, IsUnknownAt, Unmet, events_of, is_instance, is_resource, is_side_known, is_type_met, required_action, required_transition, variables_for, mention_in, unknown_all, unknown_ends, unknown_in_action, unknown_in_block, unknown_in_body, unknown_in_instance, unknown_in_network, unknown_in_state, unknown_in_transition, unknown_mentions, unknown_parameters, unknown_variables, unknown_withs}
+use Rattle.fb_types.proofs.Common.{All-weaker, all_of, event_outs, mentioned}
+use Rattle.fb_types.specs.Unknown.{optional}
 use Rattle.fb_types.specs.declared.library.BlockType.TheVariants as block
-use Rattle.fb_types.specs.declared.library.Connection.{Connection}
-use Rattle.fb_types.specs.declared.library.EventPort.{EventPort}
-use Rattle.fb_types.specs.declared.library.Instance.{Instance}
-use Rattle.fb_types.specs.declared.library.Library.{Library}
-use Rattle.fb_types.specs.declared.library.State.{State}
-use Rattle.fb_types.specs.declared.library.Transition.{Transition}
-use Rattle.fb_types.specs.declared.deploy.Plan.{Plan}
-use Rattle.fb_check.specs.types.Checks.{action_met, actions_met, all_known, all_met, body_known, guard_known, guard_mentions, is_known_chart, is_met, transition_met, with_inputs, with_outputs}
+use Rattle.fb_check.specs.types.Checks.{action_met, all_known, body_known, guard_known, is_known_chart}
 use Rattle.fb_check.proofs.lemmas.types.Checks.{mentions_met}
-use Rattle.fb_check_names.specs.Types.{ports_of_block}
 use Rattle.fb_check_names.specs.Unknown.{DeploymentUnknown, NetworkUnknown}
-use Rattle.fb_check.specs.declared.types.basics.Naming.{Naming}
 use Rattle.fb_check.specs.declared.types.basics.Naming.TheVariants as naming
 use Rattle.fb_check_names.specs.declared.location.ActionPart.TheVariants as actions
-use Rattle.fb_check_names.specs.declared.location.Direction.{Direction}
-use Rattle.fb_check_names.specs.declared.location.Direction.TheVariants.{Input, Output}
-use Rattle.fb_check_names.specs.declared.location.FlowKind.{FlowKind}
-use Rattle.fb_check_names.specs.declared.location.FlowKind.TheVariants.{Events, Data}
-use Rattle.fb_check_names.specs.declared.location.Side.TheVariants.{From, To}
-use Rattle.fb_check_names.specs.declared.location.Site.{Site}
-use Rattle.fb_check_names.specs.declared.location.Site.TheVariants.{Application, Inside}
 use Rattle.fb_check_names.specs.declared.location.TransitionPart.TheVariants as part
-use Rattle.fb_check_names.specs.declared.location.UnknownName.{UnknownName}
 use Rattle.fb_check_names.specs.declared.location.UnknownName.TheVariants as location
-use Rattle.fb_check_names.specs.Listed.{each_at, unless}
-use Rattle.fb_check_names.specs.Sites.{basic_at, basic_inside, connections_of, network_at, network_inside}
-use Rattle.fb_check.specs.types.Unknown.{IsBlockKnown, IsUnknownAt, IsUnknownIn, Unmet, UnknownAmong, are_ends_known, are_mapped, are_parameters_met, are_sides_met, body_at, events_of, guard_at, is_instance, is_resource, is_side_known, is_type_met, required_action, required_transition, variables_for}
-use Rattle.fb_check.specs.types.Unknowns.{mention_in, unknown_all, unknown_ends, unknown_in_action, unknown_in_block, unknown_in_body, unknown_in_chart, unknown_in_deployment, unknown_in_instance, unknown_in_network, unknown_in_state, unknown_in_transition, unknown_inside, unknown_mapped, unknown_mentions, unknown_names, unknown_parameters, unknown_sides, unknown_variables, unknown_withs, unmet_at}
+use Rattle.fb_check_names.specs.Sites.{basic_inside, network_inside}
+use Rattle.fb_check.specs.types.Unknown.{IsBlockKnown, IsUnknownIn, UnknownAmong, are_ends_known, are_mapped, are_parameters_met, are_sides_met, body_at, guard_at}
+use Rattle.fb_check.specs.types.Unknowns.{unknown_in_chart, unknown_in_deployment, unknown_inside, unknown_mapped, unknown_names, unknown_sides, unmet_at}
 use Rattle.fb_check.proofs.lemmas.types.AllLocations.{in_declaration, name_known}
 use Rattle.fb_check.proofs.lemmas.types.BlockLocations.{action_location, chart_known, mention_location, transition_location, with_location, withs_known}
 use Rattle.fb_check.proofs.lemmas.types.DeploymentLocations.{deployment_known, link_location, mapped_location}

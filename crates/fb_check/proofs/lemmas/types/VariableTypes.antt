@@ -1,10 +1,6 @@
 -- The types of variables by their names.
-use Rattle.std.proofs.Common.{◌≡◌, ◌++◌, List, [], ◌∷◌, Some, None, cond, true, false, refl}
-use Rattle.std.specs.Prelude.{option_map, unwrap_or}
-use Rattle.fb_types.specs.Names.{Name, same_name}
-use Rattle.fb_types.specs.Blocks.{named, type_named}
-use Rattle.fb_types.specs.declared.library.Variable.{Variable}
-use Rattle.fb_types.specs.declared.value.Ty.{Ty}
+use Rattle.fb_types.proofs.Common.{◌≡◌, ◌++◌, List, [], ◌∷◌, Some, None, cond, true, false, refl, option_map, unwrap_or, Name, same_name, named, Variable, Ty}
+use Rattle.fb_types.specs.Blocks.{type_named}
 use Rattle.fb_types.specs.declared.value.Ty.TheVariants.{Bool as Boolean}
 
 pub type_front : (n : Name) (xs ys : List Variable) (t : Ty) → type_named xs n ≡ Some t → type_named (xs ++ ys) n ≡ Some t

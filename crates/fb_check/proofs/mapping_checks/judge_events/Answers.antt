@@ -1,8 +1,7 @@
-use Rattle.std.proofs.Common.{rules, ℕ, map, ap, arith}
+use Rattle.fb_check.proofs.lemmas.Common.{rules, ℕ, map, ap, arith, inputs_in}
 use Rattle.fb_check_names.proofs.lemmas.Listing.{some_says}
 use Rattle.fb_check.specs.networks.NoEvent.{IsNoEventAt}
 use Rattle.fb_check.proofs.lemmas.networks.NoEvent.{no_event_applies}
-use Rattle.fb_check.specs.Refusals.{inputs_in}
 use Rattle.fb_check.specs.declared.fault.Fault.TheVariants as of
 use Rattle.fb_check.specs.declared.location.Location.TheVariants as at
 use Rattle.fb_check.proofs.lemmas.Verdict.{least_28, made_so, once, passes_28, refused_so}

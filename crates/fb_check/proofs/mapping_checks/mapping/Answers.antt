@@ -1,9 +1,7 @@
-use Rattle.std.proofs.Common.{rules, ◌≡◌, List, ◌++◌, map, sym, ap, ◌∙◌, arith}
+use Rattle.fb_check.proofs.lemmas.Common.{rules, ◌≡◌, List, ◌++◌, map, sym, ap, ◌∙◌, arith, NotMappedAt, inputs_in}
 use Rattle.fb_check_names.proofs.lemmas.Listing.{some_says}
-use Rattle.fb_check_names.specs.declared.location.NotMappedAt.{NotMappedAt}
 use Rattle.fb_check.specs.networks.NotMapped.{IsNotMappedAt, not_mapped_all}
 use Rattle.fb_check.proofs.lemmas.networks.Mapped.{each_not_mapped, none_not_mapped, not_mapped_applies}
-use Rattle.fb_check.specs.Refusals.{inputs_in}
 use Rattle.fb_check.specs.declared.fault.Fault.TheVariants as of
 use Rattle.fb_check.specs.declared.location.Location.TheVariants as at
 use Rattle.fb_check.proofs.lemmas.Verdict.{least_26, made_so, once, passes_26, refused_so}

@@ -1,9 +1,6 @@
-use Rattle.std.proofs.Common.{rules, map, ap}
+use Rattle.fb_check.proofs.lemmas.Common.{rules, map, ap, KindWrongAt, IsKindWrongAt, inputs_in}
 use Rattle.fb_check_names.proofs.lemmas.Listing.{some_says}
-use Rattle.fb_check_names.specs.declared.location.KindWrongAt.{KindWrongAt}
-use Rattle.fb_check.specs.types.KindsWrong.{IsKindWrongAt}
 use Rattle.fb_check.proofs.lemmas.types.KindsApply.{kind_wrong_applies}
-use Rattle.fb_check.specs.Refusals.{inputs_in}
 use Rattle.fb_check.specs.declared.fault.Fault.TheVariants as of
 use Rattle.fb_check.specs.declared.location.Location.TheVariants as at
 use Rattle.fb_check.proofs.lemmas.Verdict.{least_22, made_so, passes_22, refused_so}

@@ -1,9 +1,7 @@
-use Rattle.std.proofs.Common.{rules, map, ap, arith}
+use Rattle.fb_check.proofs.lemmas.Common.{rules, map, ap, arith, OutOfRangeAt, inputs_in}
 use Rattle.fb_check_names.proofs.lemmas.Listing.{some_says}
-use Rattle.fb_check_names.specs.declared.location.OutOfRangeAt.{OutOfRangeAt}
 use Rattle.fb_check.specs.networks.OutOfRange.{IsOutOfRangeAt}
 use Rattle.fb_check.proofs.lemmas.networks.Ranges.{out_of_range_applies}
-use Rattle.fb_check.specs.Refusals.{inputs_in}
 use Rattle.fb_check.specs.declared.fault.Fault.TheVariants as of
 use Rattle.fb_check.specs.declared.location.Location.TheVariants as at
 use Rattle.fb_check.proofs.lemmas.Verdict.{least_23, made_so, once, passes_23, refused_so}

@@ -1,9 +1,8 @@
-use Rattle.std.proofs.Common.{rules, map, ap}
+use Rattle.fb_check.proofs.lemmas.Common.{rules, map, ap, inputs_in}
 use Rattle.fb_check_names.proofs.lemmas.Listing.{some_says}
 use Rattle.fb_check_names.specs.declared.location.TwoSourcesAt.{TwoSourcesAt}
 use Rattle.fb_check.specs.networks.Sources.{IsTwoSourcesAt}
 use Rattle.fb_check.proofs.lemmas.networks.Targets.{two_sources_applies}
-use Rattle.fb_check.specs.Refusals.{inputs_in}
 use Rattle.fb_check.specs.declared.fault.Fault.TheVariants as of
 use Rattle.fb_check.specs.declared.location.Location.TheVariants as at
 use Rattle.fb_check.proofs.lemmas.Verdict.{least_24, made_so, passes_24, refused_so}

@@ -1,6 +1,4 @@
-use Rattle.std.proofs.Common.{◌≡◌, ◌≢◌, ℕ, Bool, List, [], length, nat_eq, true, false, refl, sym, ap, ◌∙◌, vec_len}
-use Rattle.std.proofs.lemmas.Bool.{eqb-true, true≢false}
-use Rattle.std.proofs.lemmas.List.{nil_from_length}
+use Rattle.fb_types.proofs.Common.{◌≡◌, ◌≢◌, ℕ, Bool, List, [], length, nat_eq, true, false, refl, sym, ap, ◌∙◌, vec_len, eqb-true, true≢false, nil_from_length}
 use Rattle.fb_check.proofs.refusal.passed.Goals as goal
 
 -- what the test says of a list that it finds empty

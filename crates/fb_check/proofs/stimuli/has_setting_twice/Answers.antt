@@ -1,9 +1,4 @@
-use Rattle.std.proofs.Common.{◌↔◌, List, map, subst}
-use Rattle.std.specs.Prelude.{IsTrue}
-use Rattle.fb_types.specs.Names.{Name}
-use Rattle.fb_types.specs.Repeated.{Twice}
-use Rattle.fb_types.specs.declared.deploy.Setting.{Setting}
-use Rattle.fb_check_names.specs.Indexes.{IsIndex}
+use Rattle.fb_check.proofs.lemmas.Common.{◌↔◌, List, map, subst, IsTrue, Name, Twice, Setting, IsIndex}
 use Rattle.fb_check.proofs.lemmas.GoodStimuli.{none_exactly}
 use Rattle.fb_check.proofs.stimuli.has_setting_twice.Goals as goal
 

@@ -1,12 +1,6 @@
-use Rattle.std.proofs.Common.{ℕ, List, Option, Some, None, Result, refl, sym, ◌∙◌, ap, subst}
-use Rattle.std.specs.Option.{option_copied}
-use Rattle.std.specs.Prelude.{is_some}
-use Rattle.std.proofs.lemmas.Bool.{true≢false}
-use Rattle.fb_types.specs.Repeated.{instance_names}
-use Rattle.fb_types.specs.declared.run.InputValue.{InputValue}
+use Rattle.fb_check.proofs.lemmas.Common.{ℕ, List, Option, Some, None, Result, refl, sym, ◌∙◌, ap, subst, option_copied, is_some, true≢false, instance_names, InputValue, IsFound, slot_of, TypeInputs}
 use Rattle.fb_check.specs.Stimuli.{AreSlotsOr}
-use Rattle.fb_check.specs.Directory.{IsFound, ports_at_index, slot_of}
-use Rattle.fb_check.specs.declared.directory_making.TypeInputs.{TypeInputs}
+use Rattle.fb_check.specs.Directory.{ports_at_index}
 use Rattle.fb_check.proofs.lemmas.DirectoryEntries.{unknown_instance}
 use Rattle.fb_check.proofs.lemmas.GoodStimuli.{Known, found_at, no_event, no_instance, placed_at}
 use Rattle.fb_check.proofs.lemmas.StimulusRows.{slot_none, taken_is}

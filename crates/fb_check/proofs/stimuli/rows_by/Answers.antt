@@ -1,9 +1,6 @@
-use Rattle.std.proofs.Common.{List, sym, subst, arith}
-use Rattle.std.specs.Prelude.{All}
-use Rattle.std.proofs.lemmas.List.Elements.{All-nil}
-use Rattle.fb_check.specs.declared.location.StimulusLocation.{StimulusLocation}
+use Rattle.fb_check.proofs.lemmas.Common.{List, sym, subst, arith, All, StimulusLocation, IsBadAt}
+use Rattle.fb_types.proofs.Common.{All-nil}
 use Rattle.fb_check.proofs.lemmas.networks.SearchLoops.{at_element}
-use Rattle.fb_check.specs.Stimuli.{IsBadAt}
 use Rattle.fb_check.proofs.lemmas.GoodStimuli.{Known, none_bad}
 use Rattle.fb_check.proofs.lemmas.RefusedStimuli.{refused_none, refused_all}
 use Rattle.fb_check.proofs.lemmas.StimulusRows.{added_all, added_bad, added_rows, all_of, rows_none, rows_all}

@@ -1,5 +1,4 @@
-use Rattle.std.proofs.Common.{◌≡◌, ◌≤◌, [], length}
-use Rattle.std.specs.Prelude.{All}
+use Rattle.fb_types.proofs.Common.{◌≡◌, ◌≤◌, [], length, All}
 use Rattle.fb_check.specs.Stimuli.{AreAllBadUpTo, IsBadAt}
 use Rattle.fb_check.proofs.lemmas.StimulusRows.{AreGoodUpTo}
 use Rattle.fb_check.proofs.stimuli.rows_by.Given as goal

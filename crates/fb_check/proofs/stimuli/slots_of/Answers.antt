@@ -1,10 +1,6 @@
-use Rattle.std.proofs.Common.{List, sym, ◌∙◌, ap}
-use Rattle.std.specs.Prelude.{slice_get}
-use Rattle.fb_types.specs.declared.deploy.Setting.{Setting}
-use Rattle.fb_check_names.specs.Numbers.{each_or_none}
+use Rattle.fb_check.proofs.lemmas.Common.{List, sym, ◌∙◌, ap, slice_get, Setting, each_or_none, slot_of}
 use Rattle.fb_check_names.proofs.lemmas.Each.{each_more, each_all}
 use Rattle.fb_check.proofs.lemmas.networks.SearchLoops.{at_element}
-use Rattle.fb_check.specs.Directory.{slot_of}
 use Rattle.fb_check.proofs.stimuli.slots_of.Goals as goal
 
 pub returns-in-None : goal.returns-in-None

@@ -1,6 +1,4 @@
-use Rattle.std.proofs.Common.{◌≡◌, Some, take}
-use Rattle.fb_check_names.specs.Numbers.{each_or_none}
-use Rattle.fb_check.specs.Directory.{slot_of}
+use Rattle.fb_check.proofs.lemmas.Common.{◌≡◌, Some, take, each_or_none, slot_of}
 use Rattle.fb_check.proofs.stimuli.slots_of.Given as goal
 
 abbrev pub invariant-loop-index : goal.invariant-loop-index

@@ -1,10 +1,4 @@
-use Rattle.std.proofs.Common.{List, map, subst, sym}
-use Rattle.fb_types.specs.Blocks.{ports_of}
-use Rattle.fb_types.specs.EventPorts.{ArePortsOfKinds}
-use Rattle.fb_types.specs.Flat.{kind_of}
-use Rattle.fb_types.specs.declared.library.BlockType.{BlockType}
-use Rattle.fb_types.specs.declared.library.Connection.{Connection}
-use Rattle.fb_check.specs.Directory.{AreInputs, AreTargets}
+use Rattle.fb_check.proofs.lemmas.Common.{List, map, subst, sym, ports_of, ArePortsOfKinds, kind_of, BlockType, Connection, AreInputs, AreTargets}
 use Rattle.fb_check.proofs.lemmas.FilledByName.{event_inputs}
 use Rattle.fb_check.proofs.stimuli.stimulus_rows.Goals as goal
 

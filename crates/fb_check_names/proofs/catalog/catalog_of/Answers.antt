@@ -1,6 +1,4 @@
-use Rattle.std.proofs.Common.{List, ◌++◌, ◌∙◌, ap, map}
-use Rattle.fb_types.specs.Flat.{type_name}
-use Rattle.fb_types.specs.declared.library.BlockType.{BlockType}
+use Rattle.fb_types.proofs.Common.{List, ◌++◌, ◌∙◌, ap, map, type_name, BlockType}
 use Rattle.fb_check_names.specs.Listed.{each_at}
 use Rattle.fb_check_names.specs.declared.location.Site.TheVariants as site
 use Rattle.fb_check_names.specs.declared.twice.GivenTwice.{GivenTwice}

@@ -1,14 +1,9 @@
 -- The names at both ends of a connection, as the key of a table.
-use Rattle.std.proofs.Common.{◌≡◌, Bool, List, [], ◌∷◌, Option, Some, None, Ordering, Bor, refl, sym, ◌∙◌, ap}
-use Rattle.std.specs.Bool.{Decides}
+use Rattle.fb_types.proofs.Common.{◌≡◌, Bool, List, [], ◌∷◌, Option, Some, None, Bor, refl, sym, ◌∙◌, ap, Decides, option_copied, is_eq, ordering_then, true≢false, same_Some, Name, Path, Port, Connection}
+use Rattle.std.proofs.Common.{Ordering}
 use Rattle.std.specs.Cmp.Lexicographic.{slice_cmp}
-use Rattle.std.specs.Option.{option_cmp, option_copied}
-use Rattle.std.specs.Ordering.{is_eq, ordering_then}
-use Rattle.std.proofs.lemmas.Bool.{true≢false}
-use Rattle.std.proofs.lemmas.Option.{same_Some}
-use Rattle.fb_types.specs.Names.{Name, Path, Port}
+use Rattle.std.specs.Option.{option_cmp}
 use Rattle.fb_types.specs.NameOrder as names
-use Rattle.fb_types.specs.declared.library.Connection.{Connection}
 use Rattle.fb_types.proofs.lemmas.names.NameOrders.{name_cmp-Decides}
 use Rattle.fb_check_names.specs.Pairs.{Key, ends_of, key_names, names_at, same_ends}
 use Rattle.fb_check_names.proofs.lemmas.twice.Repeating.{IsSame, same_Decides}

@@ -1,11 +1,8 @@
 -- Comparisons that decide whether names, ends of connections and ends of links are the same.
-use Rattle.std.proofs.Common.{◌≡◌, [], ◌∷◌, Option, Some, None, Ordering, Bor, refl, sym, ◌∙◌, ap}
-use Rattle.std.specs.Bool.{Decides}
-use Rattle.std.specs.Ordering.{is_eq, ordering_then}
+use Rattle.fb_types.proofs.Common.{◌≡◌, [], ◌∷◌, Option, Some, None, Bor, refl, sym, ◌∙◌, ap, Decides, is_eq, ordering_then, true≢false, Name, Path, Port}
+use Rattle.std.proofs.Common.{Ordering}
 use Rattle.std.specs.declared.cmp.Ordering.TheVariants as order
 use Rattle.std.specs.Option.{option_cmp}
-use Rattle.std.proofs.lemmas.Bool.{true≢false}
-use Rattle.fb_types.specs.Names.{Name, Path, Port}
 use Rattle.fb_types.specs.NameOrder as names
 use Rattle.fb_types.proofs.lemmas.names.NameOrders.{name_cmp-Decides}
 use Rattle.fb_check_names.specs.Ends.{End, end_port}

@@ -1,8 +1,5 @@
 -- When names, connections and links are the same.
-use Rattle.std.proofs.Common.{◌≡◌, ◌&&◌, Bool, ap}
-use Rattle.std.specs.Bool.{Decides}
-use Rattle.std.proofs.lemmas.Bool.{and_parts}
-use Rattle.fb_types.specs.Names.{Name, Port, same_name, same_port}
+use Rattle.fb_types.proofs.Common.{◌≡◌, ◌&&◌, Bool, ap, Decides, and_parts, Name, Port, same_name, same_port}
 use Rattle.fb_types.proofs.lemmas.names.NameLaws.{same_name-Decides}
 use Rattle.fb_check_names.proofs.lemmas.comparisons.DecidedSame.{link_cmp, link_cmp-exact}
 use Rattle.fb_check_names.proofs.lemmas.twice.Repeating.{IsSame, agrees, port_Decides}

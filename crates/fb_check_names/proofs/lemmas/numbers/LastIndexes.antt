@@ -1,14 +1,6 @@
 -- Of names that differ, the last index of each is its index.
-use Rattle.std.proofs.Common.{◌≡◌, ℕ, ◌+◌, Bool, true, false, nat_eq, cond, List, [], ◌∷◌, length, Option, Some, None, Contains, Bor, refl, sym, ◌∙◌, ap, subst, inl, inr}
-use Rattle.std.specs.Prelude.{position, option_map}
-use Rattle.std.specs.BTreeMap.{BTreeMap}
-use Rattle.std.specs.Map.{lookup}
-use Rattle.std.specs.Ordering.{is_eq}
-use Rattle.std.proofs.lemmas.Bool.{eqb-true, true≢false}
-use Rattle.std.proofs.lemmas.List.{nil_from_length}
-use Rattle.fb_types.specs.Names.{Name, same_name}
+use Rattle.fb_types.proofs.Common.{◌≡◌, ℕ, ◌+◌, Bool, true, false, nat_eq, cond, List, [], ◌∷◌, length, Option, Some, None, Contains, Bor, refl, sym, ◌∙◌, ap, subst, inl, inr, position, option_map, BTreeMap, lookup, is_eq, eqb-true, true≢false, nil_from_length, Name, same_name, Twice}
 use Rattle.fb_types.specs.NameOrder.{name_cmp}
-use Rattle.fb_types.specs.Repeated.{Twice}
 use Rattle.fb_types.proofs.lemmas.lists.ByIndex.{element_of_index}
 use Rattle.fb_types.proofs.lemmas.names.NameLaws.{same_from_same_name, same_name-Decides}
 use Rattle.fb_types.proofs.lemmas.lists.Positions.{position-first, position-later}

@@ -1,18 +1,6 @@
 -- Types, ports and instances by the indexes of their names.
-use Rattle.std.proofs.Common.{◌≡◌, ℕ, ◌<◌, ◌≤◌, ◌-◌, List, ◌++◌, length, map, get_or, Some, None, Option, Bor, MatchOption, SomeIff, refl, sym, ◌∙◌, ap, subst, append_assoc}
-use Rattle.std.specs.Prelude.{slice_get, option_map, option_and_then, position}
-use Rattle.std.specs.BTreeMap.{BTreeMap}
-use Rattle.std.proofs.lemmas.List.{length-map}
-use Rattle.std.proofs.lemmas.Option.{slice_get_read, same_Some}
-use Rattle.fb_types.specs.Names.{Name, same_name}
-use Rattle.fb_types.specs.Blocks.{Kind, Event, named, event_blocks, event_block_named, ports_of, variable_names}
-use Rattle.fb_types.specs.Flat.{kind_of, type_name, type_named, kind_of_instance}
-use Rattle.fb_types.specs.Repeated.{internals_of}
-use Rattle.fb_types.specs.Unknown.{event_ins, event_outs, data_ins, data_outs}
-use Rattle.fb_types.specs.declared.library.BlockType.{BlockType}
-use Rattle.fb_types.specs.declared.library.Instance.{Instance}
-use Rattle.fb_types.specs.declared.library.Library.{Library}
-use Rattle.fb_types.specs.declared.library.Ports.{Ports}
+use Rattle.fb_types.proofs.Common.{◌≡◌, ℕ, ◌<◌, ◌≤◌, ◌-◌, List, ◌++◌, length, map, get_or, Some, None, Option, Bor, MatchOption, refl, sym, ◌∙◌, ap, subst, append_assoc, slice_get, option_map, option_and_then, position, BTreeMap, length-map, slice_get_read, same_Some, Name, same_name, Kind, Event, named, event_blocks, event_block_named, ports_of, variable_names, kind_of, type_name, type_named, kind_of_instance, internals_of, event_ins, event_outs, data_ins, data_outs, BlockType, Instance, Library, Ports}
+use Rattle.std.proofs.Common.{SomeIff}
 use Rattle.fb_check_names.specs.Indexes.{IsIndex, index_in}
 use Rattle.fb_check_names.specs.declared.catalog.BlockIndexes.{BlockIndexes}
 use Rattle.fb_check_names.specs.declared.catalog.Catalog.{Catalog}

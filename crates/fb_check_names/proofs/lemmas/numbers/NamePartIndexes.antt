@@ -1,10 +1,7 @@
 -- Indexes in a list of names that differ, and in the parts of which it is made.
-use Rattle.std.proofs.Common.{◌≡◌, ℕ, suc, ◌<◌, ◌≤◌, ◌+◌, ◌-◌, Bool, true, false, cond, List, [], ◌∷◌, ◌++◌, length, Some, None, Option, Contains, MatchOption, SomeIff, refl, sym, ◌∙◌, ap, subst, inl, inr, arith}
-use Rattle.std.specs.Prelude.{position, option_map, is_some}
-use Rattle.std.proofs.lemmas.List.Elements.{Contains-append_right}
+use Rattle.fb_types.proofs.Common.{◌≡◌, ℕ, suc, ◌<◌, ◌≤◌, ◌+◌, ◌-◌, Bool, true, false, cond, List, [], ◌∷◌, ◌++◌, length, Some, None, Option, Contains, MatchOption, refl, sym, ◌∙◌, ap, subst, inl, inr, arith, position, option_map, is_some, Contains-append_right, Name, same_name, Twice}
+use Rattle.std.proofs.Common.{SomeIff}
 use Rattle.std.proofs.lemmas.List.Quantifiers.{position-Some}
-use Rattle.fb_types.specs.Names.{Name, same_name}
-use Rattle.fb_types.specs.Repeated.{Twice}
 use Rattle.fb_types.proofs.lemmas.lists.Positions.{position-cons, is_some-position}
 use Rattle.fb_types.proofs.lemmas.names.NameLaws.{contains_from_any}
 use Rattle.fb_types.proofs.lemmas.lists.Elements.{Contains-nil, Contains-cons_cases}

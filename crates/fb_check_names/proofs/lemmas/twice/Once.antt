@@ -1,25 +1,7 @@
 -- Parts of a declaration and a deployment that give nothing twice.
-use Rattle.std.proofs.Common.{◌≡◌, ◌⊎◌, ◌||◌, Bool, true, false, not, List, [], ◌∷◌, ◌++◌, map, Some, Contains, refl, sym, ◌∙◌, ap, subst, inl, inr}
-use Rattle.std.specs.Prelude.{All, is_some, option_map, cond}
-use Rattle.std.specs.List.{list_any, list_all}
-use Rattle.std.proofs.lemmas.Bool.{true≢false}
-use Rattle.std.proofs.lemmas.List.Elements.{All-contains, Contains-append_cases}
+use Rattle.fb_types.proofs.Common.{◌≡◌, ◌⊎◌, ◌||◌, Bool, true, false, not, List, [], ◌∷◌, ◌++◌, map, Some, Contains, refl, sym, ◌∙◌, ap, subst, inl, inr, All, is_some, option_map, cond, list_any, list_all, true≢false, All-contains, Contains-append_cases, Name, same_name, event_blocks, event_block_named, named, resource_names_of, type_name, Twice, NameTwice, algorithm_names, event_pairs, instance_names, link_pairs, state_names, BlockType, BasicType, CompositeType, EventPort, Instance, Library, Network, Ports, Variable, Plan}
 use Rattle.std.proofs.lemmas.List.Sums.{AllPass-from_list_all}
-use Rattle.fb_types.specs.Names.{Name, same_name}
-use Rattle.fb_types.specs.Blocks.{event_blocks, event_block_named, named}
-use Rattle.fb_types.specs.Flat.{resource_names_of, type_name}
-use Rattle.fb_types.specs.Repeated.{Twice, NameTwice, algorithm_names, event_pairs, instance_names, link_pairs, state_names}
-use Rattle.fb_types.specs.declared.library.BlockType.{BlockType}
 use Rattle.fb_types.specs.declared.library.BlockType.TheVariants as block
-use Rattle.fb_types.specs.declared.library.BasicType.{BasicType}
-use Rattle.fb_types.specs.declared.library.CompositeType.{CompositeType}
-use Rattle.fb_types.specs.declared.library.EventPort.{EventPort}
-use Rattle.fb_types.specs.declared.library.Instance.{Instance}
-use Rattle.fb_types.specs.declared.library.Library.{Library}
-use Rattle.fb_types.specs.declared.library.Network.{Network}
-use Rattle.fb_types.specs.declared.library.Ports.{Ports}
-use Rattle.fb_types.specs.declared.library.Variable.{Variable}
-use Rattle.fb_types.specs.declared.deploy.Plan.{Plan}
 use Rattle.fb_check_names.specs.GivenTwice.{BlockTwice, NetworkTwice, PortTwice, TypeTwice, names_of_ports}
 use Rattle.fb_types.proofs.lemmas.names.NameLaws.{any_from_contains, same_name-flip}
 use Rattle.fb_types.proofs.lemmas.lists.Elements.{Contains-here, Contains-there, map-Contains}

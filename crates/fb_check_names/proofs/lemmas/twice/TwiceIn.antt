@@ -1,9 +1,5 @@
 -- Names that occur twice in one of several lists.
-use Rattle.std.proofs.Common.{◌⊎◌, List, [], ◌∷◌, ◌++◌, map, Contains, sym, subst, inl, inr}
-use Rattle.std.specs.Prelude.{flat_map}
-use Rattle.std.proofs.lemmas.List.Elements.{Contains-append_left, Contains-append_right, Contains-append_cases}
-use Rattle.fb_types.specs.Names.{Name}
-use Rattle.fb_types.specs.Repeated.{Twice}
+use Rattle.fb_types.proofs.Common.{◌⊎◌, List, [], ◌∷◌, ◌++◌, map, Contains, sym, subst, inl, inr, flat_map, Contains-append_left, Contains-append_right, Contains-append_cases, Name, Twice}
 use Rattle.fb_check_names.specs.GivenTwice.{TwiceIn}
 use Rattle.fb_types.proofs.lemmas.lists.Elements.{Contains-nil, Contains-cons_cases, Contains-here, Contains-map, map-Contains, Contains-flat_map, flat_map-Contains}
 

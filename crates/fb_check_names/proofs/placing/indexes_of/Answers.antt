@@ -1,5 +1,4 @@
-use Rattle.std.proofs.Common.{ℕ, List, ◌++◌, ◌∙◌, ap, vec_len}
-use Rattle.fb_types.specs.Names.{same_name}
+use Rattle.fb_types.proofs.Common.{ℕ, List, ◌++◌, ◌∙◌, ap, vec_len, same_name}
 use Rattle.fb_check_names.specs.Repeats.{repeats}
 use Rattle.fb_check_names.specs.Indexes.{names_in}
 use Rattle.fb_check_names.proofs.lemmas.numbers.LastIndexes.{index_of_last, no_pairs_say, pairs_say}

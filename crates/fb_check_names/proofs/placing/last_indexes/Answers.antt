@@ -1,7 +1,5 @@
-use Rattle.std.proofs.Common.{◌++◌, List, ℕ, refl, ◌∙◌, ap, map, subst}
+use Rattle.fb_types.proofs.Common.{◌++◌, List, ℕ, refl, ◌∙◌, ap, map, subst, take_all, Name, same_name}
 use Rattle.std.specs.Borrow.{Bor}
-use Rattle.std.proofs.lemmas.List.{take_all}
-use Rattle.fb_types.specs.Names.{Name, same_name}
 use Rattle.fb_types.proofs.lemmas.names.NameLaws.{same_name-Decides}
 use Rattle.fb_check_names.proofs.lemmas.comparisons.DecidedSame.{name_cmp, name_cmp-exact}
 use Rattle.fb_check_names.proofs.lemmas.Listing.{each_done, each_more}

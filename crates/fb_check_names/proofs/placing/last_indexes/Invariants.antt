@@ -1,6 +1,5 @@
-use Rattle.std.proofs.Common.{◌≡◌, ◌++◌, drop, map, take}
+use Rattle.fb_types.proofs.Common.{◌≡◌, ◌++◌, drop, map, take, Name, same_name}
 use Rattle.std.specs.Borrow.{Bor}
-use Rattle.fb_types.specs.Names.{Name, same_name}
 use Rattle.fb_check_names.proofs.lemmas.comparisons.DecidedSame.{name_cmp}
 use Rattle.fb_check_names.specs.Listed.{each_at, each_from}
 use Rattle.fb_check_names.proofs.lemmas.twice.Repeating.{AreLast, pair_in}

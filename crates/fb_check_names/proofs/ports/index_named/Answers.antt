@@ -1,8 +1,4 @@
-use Rattle.std.proofs.Common.{◌≡◌, ℕ, ◌<◌, ◌+◌, Bool, true, false, cond, List, ◌++◌, length, map, take, drop, get_or, Some, None, sym, ◌∙◌, ap, arith}
-use Rattle.std.specs.Prelude.{position, is_some}
-use Rattle.std.specs.List.{list_any}
-use Rattle.std.proofs.lemmas.List.{length-map, length-take, map-append, take_all, take-append-drop}
-use Rattle.fb_types.specs.Names.{Name, same_name}
+use Rattle.fb_types.proofs.Common.{◌≡◌, ℕ, ◌<◌, ◌+◌, Bool, true, false, cond, List, ◌++◌, length, map, take, drop, get_or, Some, None, sym, ◌∙◌, ap, arith, position, is_some, list_any, length-map, length-take, map-append, take_all, take-append-drop, Name, same_name}
 use Rattle.fb_types.proofs.lemmas.lists.LoopSteps.{map_take_more}
 use Rattle.fb_types.proofs.lemmas.lists.Positions.{is_some-position, position-append_old, position-push_new}
 use Rattle.fb_check_names.specs.Numbers.{index_of}

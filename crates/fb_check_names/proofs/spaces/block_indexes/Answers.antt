@@ -1,6 +1,4 @@
-use Rattle.std.proofs.Common.{sym, subst}
-use Rattle.std.specs.Prelude.{IfOk}
-use Rattle.fb_types.specs.declared.library.BlockType.{BlockType}
+use Rattle.fb_types.proofs.Common.{sym, subst, IfOk, BlockType}
 use Rattle.fb_check_names.specs.Catalog.{IsBlock}
 use Rattle.fb_check_names.specs.GivenTwice.{BlockTwice}
 use Rattle.fb_check_names.proofs.spaces.block_indexes.Goals as goal

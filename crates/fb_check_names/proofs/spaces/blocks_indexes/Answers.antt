@@ -1,6 +1,4 @@
-use Rattle.std.proofs.Common.{List, refl, subst}
-use Rattle.std.proofs.lemmas.List.{take_all}
-use Rattle.fb_types.specs.declared.library.BlockType.{BlockType}
+use Rattle.fb_types.proofs.Common.{List, refl, subst, take_all, BlockType}
 use Rattle.fb_check_names.specs.GivenTwice.{AreBlocks}
 use Rattle.fb_check_names.specs.TwiceLists.{twice_in_block}
 use Rattle.fb_check_names.proofs.lemmas.Listing.{each_done, each_more}

@@ -1,6 +1,4 @@
-use Rattle.std.proofs.Common.{ap, not, ◌∙◌}
-use Rattle.std.specs.Prelude.{is_some}
-use Rattle.fb_types.specs.Blocks.{event_block_named}
+use Rattle.fb_types.proofs.Common.{ap, not, ◌∙◌, is_some, event_block_named}
 use Rattle.fb_check_names.specs.TwiceLists.{event_block_at}
 use Rattle.fb_check_names.specs.Twice.{is_own_name}
 use Rattle.fb_check_names.specs.declared.twice.GivenTwice.TheVariants as given

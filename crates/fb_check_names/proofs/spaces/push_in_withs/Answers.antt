@@ -1,5 +1,4 @@
-use Rattle.std.proofs.Common.{◌++◌, List, ◌∙◌, ap}
-use Rattle.fb_types.specs.Names.{Name}
+use Rattle.fb_types.proofs.Common.{◌++◌, List, ◌∙◌, ap, Name}
 use Rattle.fb_check_names.specs.TwiceLists.{names_twice, with_twice}
 use Rattle.fb_check_names.specs.declared.repeats.NameSpace.TheVariants as space
 use Rattle.fb_check_names.proofs.lemmas.twice.Repeating.{map_itself}

@@ -1,8 +1,4 @@
-use Rattle.std.proofs.Common.{List, ◌++◌, ◌∙◌, ap, map, subst}
-use Rattle.fb_types.specs.Flat.{resource_names_of}
-use Rattle.fb_types.specs.Repeated.{Twice, link_pairs}
-use Rattle.fb_types.specs.declared.deploy.Link.{Link}
-use Rattle.fb_types.specs.declared.deploy.ResourceEntry.{ResourceEntry}
+use Rattle.fb_types.proofs.Common.{List, ◌++◌, ◌∙◌, ap, map, subst, resource_names_of, Twice, link_pairs, Link, ResourceEntry}
 use Rattle.fb_check_names.specs.declared.twice.GivenTwice.{GivenTwice}
 use Rattle.fb_check_names.specs.Ends.{link_ends}
 use Rattle.fb_check_names.specs.Indexes.{IsIndex}

@@ -1,10 +1,4 @@
-use Rattle.std.proofs.Common.{Option, sym, ap, ◌∙◌}
-use Rattle.std.specs.Prelude.{option_and_then}
-use Rattle.fb_types.specs.Blocks.{Kind}
-use Rattle.fb_types.specs.Flat.{network_of}
-use Rattle.fb_types.specs.Headline.{system_of}
-use Rattle.fb_types.specs.Numbers.{path_at}
-use Rattle.fb_types.specs.declared.library.Library.{Library}
+use Rattle.fb_types.proofs.Common.{Option, sym, ap, ◌∙◌, option_and_then, Kind, network_of, system_of, path_at, Library}
 use Rattle.fb_check_names.specs.Numbers.{kind_of_number}
 use Rattle.fb_wave.proofs.lemmas.Known.{path_some}
 use Rattle.fb_coverage.specs.Connected.{connections_of}

@@ -1,11 +1,4 @@
-use Rattle.std.proofs.Common.{◌≡◌, Bool, List, Option, Some, None, sym, ap, ◌∙◌}
-use Rattle.std.specs.Prelude.{◌||◌}
-use Rattle.std.specs.List.{list_any}
-use Rattle.fb_types.specs.Flat.{first_of, network_at, parent}
-use Rattle.fb_types.specs.Headline.{system_of}
-use Rattle.fb_types.specs.Names.{Name}
-use Rattle.fb_types.specs.Numbers.{path_at}
-use Rattle.fb_types.specs.declared.library.Connection.{Connection}
+use Rattle.fb_types.proofs.Common.{◌≡◌, Bool, List, Option, Some, None, sym, ap, ◌∙◌, ◌||◌, list_any, first_of, network_at, parent, system_of, Name, path_at, Connection}
 use Rattle.fb_coverage.specs.Connected.{connections_of, is_at}
 use Rattle.fb_wave.proofs.lemmas.Known.{path_some}
 use Rattle.fb_coverage.proofs.lemmas.Connections.{first_own}

@@ -1,5 +1,4 @@
-use Rattle.std.proofs.Common.{◌≡◌, false, option_map, take}
-use Rattle.std.specs.List.{list_any}
+use Rattle.fb_types.proofs.Common.{◌≡◌, false, option_map, take, list_any}
 use Rattle.fb_coverage.specs.Connected.{is_at}
 use Rattle.fb_coverage.proofs.group.is_one_at.Given as goal
 

@@ -1,5 +1,4 @@
-use Rattle.std.proofs.Common.{◌≡◌, ℕ, Bool, true, false, List, refl, sym, ◌∙◌, ap}
-use Rattle.std.specs.Prelude.{replicate, slice_set}
+use Rattle.fb_types.proofs.Common.{◌≡◌, ℕ, Bool, true, false, List, refl, sym, ◌∙◌, ap, replicate, slice_set}
 use Rattle.fb_coverage.specs.Openings as spec
 use Rattle.fb_coverage.specs.declared.part.Part.{Part}
 use Rattle.fb_coverage.specs.declared.part.Part.TheVariants.{States, Transitions, Algorithms, Events}

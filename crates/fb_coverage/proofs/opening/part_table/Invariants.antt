@@ -1,5 +1,4 @@
-use Rattle.std.proofs.Common.{◌≡◌, map, take}
-use Rattle.fb_types.specs.Headline.{system_of}
+use Rattle.fb_types.proofs.Common.{◌≡◌, map, take, system_of}
 use Rattle.fb_coverage.specs.Openings.{part_row}
 use Rattle.fb_coverage.proofs.opening.part_table.Given as goal
 

@@ -1,5 +1,4 @@
-use Rattle.std.proofs.Common.{◌<◌, ◌++◌, ℕ, Bool, List, [], ◌∷◌, ◌∙◌, ap, subst}
-use Rattle.fb_types.specs.Headline.{system_of}
+use Rattle.fb_types.proofs.Common.{◌<◌, ◌++◌, ℕ, Bool, List, [], ◌∷◌, ◌∙◌, ap, subst, system_of}
 use Rattle.fb_coverage.specs.Openings.{port_row}
 use Rattle.fb_coverage.proofs.lemmas.Listed.{mapped_more}
 use Rattle.fb_coverage.proofs.opening.port_table.Goals as goal

@@ -1,6 +1,4 @@
-use Rattle.std.proofs.Common.{◌≡◌, false, take}
-use Rattle.std.specs.List.{list_any}
-use Rattle.fb_types.specs.Headline.{system_of}
+use Rattle.fb_types.proofs.Common.{◌≡◌, false, take, list_any, system_of}
 use Rattle.fb_coverage.specs.Openings.{has_type}
 use Rattle.fb_coverage.proofs.part.is_used.Given as goal
 

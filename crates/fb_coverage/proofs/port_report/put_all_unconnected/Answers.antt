@@ -1,6 +1,4 @@
-use Rattle.std.proofs.Common.{◌<◌, ◌++◌, ℕ, List, [], sym, ap, ◌∙◌, subst, append-nil}
-use Rattle.fb_types.specs.Headline.{system_of}
-use Rattle.fb_types.specs.Numbers.{path_at}
+use Rattle.fb_types.proofs.Common.{◌<◌, ◌++◌, ℕ, List, [], sym, ap, ◌∙◌, subst, append-nil, system_of, path_at}
 use Rattle.fb_coverage.specs.Connected.{is_in}
 use Rattle.fb_coverage.specs.Reports.{ports_text, unconnected_ports, word_of}
 use Rattle.fb_coverage.specs.declared.group.Group.TheVariants.{Unconnected}

@@ -1,5 +1,4 @@
-use Rattle.std.proofs.Common.{◌≡◌, ◌++◌, drop}
-use Rattle.fb_types.specs.Headline.{system_of}
+use Rattle.fb_types.proofs.Common.{◌≡◌, ◌++◌, drop, system_of}
 use Rattle.fb_coverage.specs.Listed.{listed}
 use Rattle.fb_coverage.specs.Reports.{unconnected_ports}
 use Rattle.fb_coverage.proofs.port_report.put_all_unconnected.Given as goal

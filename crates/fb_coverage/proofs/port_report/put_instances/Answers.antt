@@ -1,7 +1,4 @@
-use Rattle.std.proofs.Common.{◌≡◌, ◌<◌, ◌++◌, ℕ, List, [], codes, sym, ap, ◌∙◌, subst, append-nil}
-use Rattle.fb_types.specs.Headline.{system_of}
-use Rattle.fb_types.specs.Numbers.{path_at, ports_at}
-use Rattle.fb_types.specs.Text.{path_text}
+use Rattle.fb_types.proofs.Common.{◌≡◌, ◌<◌, ◌++◌, ℕ, List, [], codes, sym, ap, ◌∙◌, subst, append-nil, system_of, path_at, ports_at, path_text}
 use Rattle.fb_coverage.specs.Connected.{is_in}
 use Rattle.fb_coverage.specs.Reports.{instance_text, ports_text, titled}
 use Rattle.fb_coverage.specs.declared.group.Group.TheVariants.{Connected}

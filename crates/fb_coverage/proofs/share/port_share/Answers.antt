@@ -1,8 +1,4 @@
-use Rattle.std.proofs.Common.{◌<◌, ◌≤◌, ◌+◌, ◌∷◌, ℕ, List, [], drop, sym, ap, ◌∙◌, subst}
-use Rattle.std.proofs.lemmas.List.{at_drop_all}
-use Rattle.fb_types.specs.Headline.{system_of}
-use Rattle.fb_types.specs.Names.{Path}
-use Rattle.fb_types.specs.Numbers.{path_at}
+use Rattle.fb_types.proofs.Common.{◌<◌, ◌≤◌, ◌+◌, ◌∷◌, ℕ, List, [], drop, sym, ap, ◌∙◌, subst, at_drop_all, system_of, Path, path_at}
 use Rattle.fb_coverage.specs.Listed.{listed}
 use Rattle.fb_coverage.specs.Shares.{counted_row, with_row, with_rows}
 use Rattle.fb_coverage.specs.declared.share.Share.{Share}

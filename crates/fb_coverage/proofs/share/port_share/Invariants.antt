@@ -1,6 +1,4 @@
-use Rattle.std.proofs.Common.{◌≡◌, ◌∷◌, ℕ, [], drop}
-use Rattle.fb_types.specs.Headline.{system_of}
-use Rattle.fb_types.specs.Names.{Path}
+use Rattle.fb_types.proofs.Common.{◌≡◌, ◌∷◌, ℕ, [], drop, system_of, Path}
 use Rattle.fb_coverage.specs.Listed.{listed}
 use Rattle.fb_coverage.specs.Shares.{counted_row, none_counted, with_rows}
 use Rattle.fb_coverage.proofs.share.port_share.Given as goal

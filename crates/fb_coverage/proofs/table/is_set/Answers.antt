@@ -1,6 +1,4 @@
-use Rattle.std.proofs.Common.{Bool, Option, false, length, refl, sym, ap}
-use Rattle.std.specs.Prelude.{unwrap_or}
-use Rattle.std.proofs.lemmas.Option.{slice_get_past, slice_get_read}
+use Rattle.fb_types.proofs.Common.{Bool, Option, false, length, refl, sym, ap, unwrap_or, slice_get_past, slice_get_read}
 use Rattle.fb_coverage.proofs.table.is_set.Goals as goal
 
 pub returns-in-Some : goal.returns-in-Some

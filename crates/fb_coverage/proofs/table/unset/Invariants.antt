@@ -1,5 +1,4 @@
-use Rattle.std.proofs.Common.{◌≡◌, false}
-use Rattle.std.specs.Prelude.{replicate}
+use Rattle.fb_types.proofs.Common.{◌≡◌, false, replicate}
 use Rattle.fb_coverage.proofs.table.unset.Given as goal
 
 abbrev pub invariant-loop : goal.invariant-loop

@@ -1,6 +1,5 @@
-use Rattle.std.proofs.Common.{◌≡◌, ◌++◌, drop}
+use Rattle.fb_types.proofs.Common.{◌≡◌, ◌++◌, drop, []}
 use Rattle.std.specs.List.{flat_map}
-use Rattle.std.specs.Prelude.{[]}
 use Rattle.fb_draw.specs.Charts as spec
 use Rattle.fb_draw.proofs.chart.put_other_states.Given as goal
 

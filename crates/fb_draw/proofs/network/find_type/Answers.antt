@@ -1,8 +1,4 @@
-use Rattle.std.proofs.Common.{◌∙◌, ap}
-use Rattle.std.specs.List.{find}
-use Rattle.fb_types.specs.Names.{same_name}
-use Rattle.fb_types.specs.Flat.{type_name}
-use Rattle.fb_types.specs.declared.library.BlockType.{BlockType}
+use Rattle.fb_types.proofs.Common.{◌∙◌, ap, find, same_name, type_name, BlockType}
 use Rattle.fb_types.proofs.lemmas.names.NameLaws.{find-named}
 use Rattle.fb_draw.proofs.network.find_type.Goals as goal
 

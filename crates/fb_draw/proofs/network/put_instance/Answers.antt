@@ -1,9 +1,4 @@
-use Rattle.std.proofs.Common.{◌≡◌, Option, Some, None, sym, ◌∙◌, ap, append-nil, ◌++◌}
-use Rattle.std.specs.Option.{option_copied}
-use Rattle.std.specs.Prelude.{option_map}
-use Rattle.fb_types.specs.Blocks.{Kind, event_block_named, named}
-use Rattle.fb_types.specs.Flat.{kind_of, type_name}
-use Rattle.fb_types.specs.declared.library.BlockType.{BlockType}
+use Rattle.fb_types.proofs.Common.{◌≡◌, Option, Some, None, sym, ◌∙◌, ap, append-nil, ◌++◌, option_copied, option_map, Kind, event_block_named, named, kind_of, type_name, BlockType}
 use Rattle.fb_draw.specs.Networks.{block_node, node_of}
 use Rattle.fb_text.proofs.lemmas.Adding.{put_as}
 use Rattle.fb_draw.proofs.lemmas.Types.{declared_type, event_type}

@@ -1,8 +1,4 @@
-use Rattle.std.proofs.Common.{◌≡◌, ◌∷◌, [], ◌++◌, ℕ, List, length, map, Option, refl, sym, ◌∙◌, ap, subst, arith}
-use Rattle.std.specs.Prelude.{All}
-use Rattle.fb_types.specs.Blocks.{outputs_with}
-use Rattle.fb_types.specs.Names.{Name}
-use Rattle.fb_types.specs.declared.value.Value.{Value}
+use Rattle.fb_types.proofs.Common.{◌≡◌, ◌∷◌, [], ◌++◌, ℕ, List, length, map, Option, refl, sym, ◌∙◌, ap, subst, arith, All, outputs_with, Name, Value}
 use Rattle.fb_st.specs.Frames.{declared_in, values_of}
 use Rattle.fb_types.specs.declared.run.Emission.{Emission}
 use Rattle.fb_ecc.specs.Actions.{IsOutput}

@@ -1,5 +1,4 @@
-use Rattle.std.proofs.Common.{[], refl, arith}
-use Rattle.std.proofs.lemmas.Result.{err_from_is_err_and}
+use Rattle.fb_types.proofs.Common.{[], refl, arith, err_from_is_err_and}
 use Rattle.fb_ecc.specs.Indexes.{index}
 use Rattle.fb_ecc.proofs.lemmas.Actions.{acts_stops, acts_goes, begins_same}
 use Rattle.fb_ecc.proofs.action.perform.Goals as goal

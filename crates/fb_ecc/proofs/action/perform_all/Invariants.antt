@@ -1,8 +1,4 @@
-use Rattle.std.proofs.Common.{◌≡◌, ◌≤◌, ℕ, List, drop, Option}
-use Rattle.std.specs.Prelude.{All}
-use Rattle.fb_types.specs.Charts.{Acts, Position}
-use Rattle.fb_types.specs.declared.library.Action.{Action}
-use Rattle.fb_types.specs.declared.value.Reason.{Reason}
+use Rattle.fb_types.proofs.Common.{◌≡◌, ◌≤◌, ℕ, List, drop, Option, All, Acts, Position, Action, Reason}
 use Rattle.fb_st.specs.Frames.{declared_in}
 use Rattle.fb_ecc.specs.Actions.{AreActions}
 use Rattle.fb_ecc.specs.Blocks.{BeginsWith}

@@ -1,5 +1,4 @@
-use Rattle.std.proofs.Common.{◌≡◌, List, map, take}
-use Rattle.fb_types.specs.Names.{Name}
+use Rattle.fb_types.proofs.Common.{◌≡◌, List, map, take, Name}
 use Rattle.fb_st.specs.Frames.{declared_in, values_of}
 use Rattle.fb_ecc.specs.Located.{AreAt}
 use Rattle.fb_ecc.proofs.action.shown_values.Given as goal

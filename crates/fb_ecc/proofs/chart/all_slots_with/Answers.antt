@@ -1,9 +1,4 @@
-use Rattle.std.proofs.Common.{◌≡◌, ◌<◌, ◌+◌, ◌^◌, ℕ, List, [], ◌∷◌, ◌++◌, length, map, take, sym, ◌∙◌, ap, subst, rules}
-use Rattle.std.proofs.lemmas.List.{length-map, take_all}
-use Rattle.fb_types.specs.Names.{Name}
-use Rattle.fb_types.specs.Blocks.{among, variable_names}
-use Rattle.fb_types.specs.declared.library.EventPort.{EventPort}
-use Rattle.fb_types.specs.declared.library.Variable.{Variable}
+use Rattle.fb_types.proofs.Common.{◌≡◌, ◌<◌, ◌+◌, ◌^◌, ℕ, List, [], ◌∷◌, ◌++◌, length, map, take, sym, ◌∙◌, ap, subst, rules, length-map, take_all, Name, among, variable_names, EventPort, Variable}
 use Rattle.fb_types.proofs.lemmas.lists.LoopSteps.{map_take_more}
 use Rattle.fb_ecc.specs.Located.{slots_among}
 use Rattle.fb_ecc.proofs.lemmas.Indexing.{own_lists}

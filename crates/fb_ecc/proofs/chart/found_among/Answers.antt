@@ -1,7 +1,4 @@
-use Rattle.std.proofs.Common.{◌≡◌, ◌+◌, ◌++◌, ◌∷◌, [], List, map, take, sym, ◌∙◌, ap}
-use Rattle.std.proofs.lemmas.List.{take_more}
-use Rattle.fb_types.specs.Names.{Name}
-use Rattle.fb_types.specs.Blocks.{among}
+use Rattle.fb_types.proofs.Common.{◌≡◌, ◌+◌, ◌++◌, ◌∷◌, [], List, map, take, sym, ◌∙◌, ap, take_more, Name, among}
 use Rattle.fb_check_names.specs.Indexes.{index_in}
 use Rattle.fb_ecc.specs.Indexed.{entry_of, picked}
 use Rattle.fb_ecc.proofs.lemmas.Indexing.{picked_none, picks_found, picks_none}

@@ -1,6 +1,4 @@
-use Rattle.std.proofs.Common.{◌≡◌, List, map, take}
-use Rattle.fb_types.specs.Names.{Name}
-use Rattle.fb_types.specs.Blocks.{among}
+use Rattle.fb_types.proofs.Common.{◌≡◌, List, map, take, Name, among}
 use Rattle.fb_check_names.specs.Indexes.{IsIndex}
 use Rattle.fb_ecc.specs.Indexed.{entry_of, picked}
 use Rattle.fb_ecc.proofs.chart.found_among.Given as goal

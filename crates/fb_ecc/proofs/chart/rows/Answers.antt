@@ -1,8 +1,4 @@
-use Rattle.std.proofs.Common.{◌≡◌, ◌<◌, ◌∷◌, [], ◌++◌, ◌&&◌, List, length, get_or, refl, sym, ◌∙◌, ap, subst}
-use Rattle.std.specs.Prelude.{is_some, position}
-use Rattle.fb_types.specs.Names.{same_name}
-use Rattle.fb_types.specs.Repeated.{state_names}
-use Rattle.fb_types.specs.declared.library.Transition.{Transition}
+use Rattle.fb_types.proofs.Common.{◌≡◌, ◌<◌, ◌∷◌, [], ◌++◌, ◌&&◌, List, length, get_or, refl, sym, ◌∙◌, ap, subst, is_some, position, same_name, state_names, Transition}
 use Rattle.fb_check_names.specs.Indexes.{index_in}
 use Rattle.fb_ecc.specs.declared.chart.Exit.{Exit}
 use Rattle.fb_ecc.proofs.lemmas.Charts.{rows_left, rows_stay}

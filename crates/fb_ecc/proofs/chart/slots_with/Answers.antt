@@ -1,7 +1,4 @@
-use Rattle.std.proofs.Common.{ℕ, Bor, map, ◌∙◌, ap}
-use Rattle.std.proofs.lemmas.List.{take_all}
-use Rattle.fb_types.specs.Names.{Name}
-use Rattle.fb_types.specs.Blocks.{among}
+use Rattle.fb_types.proofs.Common.{ℕ, Bor, map, ◌∙◌, ap, take_all, Name, among}
 use Rattle.fb_ecc.specs.Indexed.{entry_of}
 use Rattle.fb_ecc.proofs.lemmas.Located.{limited, slots_made}
 use Rattle.fb_ecc.proofs.chart.slots_with.Goals as goal

@@ -1,6 +1,4 @@
-use Rattle.std.proofs.Common.{[], ◌∷◌, length, length-append, refl, ◌∙◌, ap, arith}
-use Rattle.std.specs.Prelude.{slice_get}
-use Rattle.std.proofs.lemmas.Option.{slice_get_read}
+use Rattle.fb_types.proofs.Common.{[], ◌∷◌, length, length-append, refl, ◌∙◌, ap, arith, slice_get, slice_get_read}
 use Rattle.fb_ecc.proofs.lemmas.Programs.{bodies_more}
 use Rattle.fb_ecc.proofs.program.bodies.Goals as goal
 

@@ -1,7 +1,4 @@
-use Rattle.std.proofs.Common.{List, map, sym, ◌∙◌, ap, subst}
-use Rattle.fb_types.specs.Names.{Name}
-use Rattle.fb_types.specs.Blocks.{variables_of}
-use Rattle.fb_types.specs.Repeated.{Twice}
+use Rattle.fb_types.proofs.Common.{List, map, sym, ◌∙◌, ap, subst, Name, variables_of, Twice}
 use Rattle.fb_ecc.proofs.lemmas.Programs.{all_declared, declared_names}
 use Rattle.fb_ecc.proofs.program.layout_of.Goals as goal
 

@@ -1,5 +1,4 @@
-use Rattle.std.proofs.Common.{List, sym, subst}
-use Rattle.fb_types.specs.Charts.{actions_of}
+use Rattle.fb_types.proofs.Common.{List, sym, subst, actions_of}
 use Rattle.fb_ecc.specs.Actions.{AreActions}
 use Rattle.fb_ecc.specs.Indexes.{state_at}
 use Rattle.fb_ecc.specs.declared.chart.Act.{Act}

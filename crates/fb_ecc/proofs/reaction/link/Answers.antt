@@ -1,13 +1,4 @@
-use Rattle.std.proofs.Common.{◌≡◌, ◌<◌, ℕ, List, length, Option, Some, None, Result, Ok, sym, ◌∙◌, ap, subst}
-use Rattle.std.specs.Prelude.{IfSome, option_map}
-use Rattle.std.proofs.lemmas.List.{length-map}
-use Rattle.std.proofs.lemmas.Result.{err_from_is_err_and}
-use Rattle.fb_types.specs.Names.{Name}
-use Rattle.fb_types.specs.Charts.{Acts, Clears, Position, actions_of, leaving}
-use Rattle.fb_types.specs.Numbers.{event_at}
-use Rattle.fb_types.specs.declared.library.BasicType.{BasicType}
-use Rattle.fb_types.specs.declared.run.Halt.{Halt}
-use Rattle.fb_types.specs.declared.value.Reason.TheVariants.{Steps}
+use Rattle.fb_types.proofs.Common.{◌≡◌, ◌<◌, ℕ, List, length, Option, Some, None, Result, Ok, sym, ◌∙◌, ap, subst, IfSome, option_map, length-map, err_from_is_err_and, Name, Acts, Clears, Position, actions_of, leaving, event_at, BasicType, Halt, Steps}
 use Rattle.fb_st.specs.declared.meter.Meter.{Meter}
 use Rattle.fb_ecc.specs.Indexes.{Ended, index, state_at}
 use Rattle.fb_ecc.specs.Programs.{IsProgramOf}

@@ -1,11 +1,4 @@
-use Rattle.std.proofs.Common.{◌≡◌, Bool, None, Option, Result, Ok, Err, Some, ◌∙◌, ap, subst, arith, rules}
-use Rattle.std.specs.Prelude.{option_map}
-use Rattle.std.proofs.lemmas.Result.{err_from_is_err_and}
-use Rattle.fb_types.specs.Names.{Name}
-use Rattle.fb_types.specs.Charts.{ChartReacts, Position}
-use Rattle.fb_types.specs.Numbers.{event_at}
-use Rattle.fb_types.specs.Values.{Values}
-use Rattle.fb_types.specs.declared.run.Halt.{Halt}
+use Rattle.fb_types.proofs.Common.{◌≡◌, Bool, None, Option, Result, Ok, Err, Some, ◌∙◌, ap, subst, arith, rules, option_map, err_from_is_err_and, Name, ChartReacts, Position, event_at, Values, Halt}
 use Rattle.fb_st.specs.Frames.{values_of, declared_in}
 use Rattle.fb_ecc.specs.Links.{Linked}
 use Rattle.fb_ecc.specs.Indexes.{Ended, index, sampled}

@@ -1,8 +1,4 @@
-use Rattle.std.proofs.Common.{◌<◌, ◌≤◌, length, Option}
-use Rattle.std.specs.Prelude.{All, IfSome, option_map}
-use Rattle.fb_types.specs.Charts.{Position}
-use Rattle.fb_types.specs.Numbers.{event_at}
-use Rattle.fb_types.specs.declared.value.Reason.{Reason}
+use Rattle.fb_types.proofs.Common.{◌<◌, ◌≤◌, length, Option, All, IfSome, option_map, Position, event_at, Reason}
 use Rattle.fb_ecc.specs.Blocks.{BeginsWith}
 use Rattle.fb_ecc.specs.Links.{Chain}
 use Rattle.fb_ecc.specs.Indexes.{IsBlockOf, IsWellFormed, index}

@@ -1,8 +1,4 @@
-use Rattle.std.proofs.Common.{◌≡◌, ℕ, List, [], get_or, drop, Some, sym, ◌∙◌, ap, arith}
-use Rattle.std.specs.Prelude.{slice_get}
-use Rattle.fb_types.specs.Names.{Name}
-use Rattle.fb_types.specs.Numbers.{pair_up}
-use Rattle.fb_types.specs.Reactions.{with_values}
+use Rattle.fb_types.proofs.Common.{◌≡◌, ℕ, List, [], get_or, drop, Some, sym, ◌∙◌, ap, arith, slice_get, Name, pair_up, with_values}
 use Rattle.fb_st.specs.Frames.{Declared, declared_in, values_of}
 use Rattle.fb_ecc.proofs.lemmas.Links.{nothing_left, samples_one, samples_none, value_here, value_past}
 use Rattle.fb_ecc.proofs.lemmas.Located.{at_index, same_count, written_there}

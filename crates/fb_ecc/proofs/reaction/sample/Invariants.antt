@@ -1,7 +1,4 @@
-use Rattle.std.proofs.Common.{◌≡◌, List, drop}
-use Rattle.fb_types.specs.Names.{Name}
-use Rattle.fb_types.specs.Numbers.{pair_up}
-use Rattle.fb_types.specs.Reactions.{with_values}
+use Rattle.fb_types.proofs.Common.{◌≡◌, List, drop, Name, pair_up, with_values}
 use Rattle.fb_st.specs.Frames.{values_of, declared_in}
 use Rattle.fb_ecc.specs.Located.{AreAt}
 use Rattle.fb_ecc.proofs.reaction.sample.Given as goal

@@ -1,7 +1,4 @@
-use Rattle.std.proofs.Common.{List, sym, ◌∙◌, ap, subst}
-use Rattle.fb_types.specs.Names.{Name}
-use Rattle.fb_types.specs.Blocks.{variables_of}
-use Rattle.fb_types.specs.Repeated.{Twice}
+use Rattle.fb_types.proofs.Common.{List, sym, ◌∙◌, ap, subst, Name, variables_of, Twice}
 use Rattle.fb_st.specs.Frames.{names_of}
 use Rattle.fb_ecc.proofs.lemmas.Soundness.{all_slots, names_opened}
 use Rattle.fb_ecc.proofs.state.frame_of.Goals as goal

@@ -1,10 +1,4 @@
-use Rattle.std.proofs.Common.{ℕ, Bool, true, false, List, get_or, Option, None, Ok, Err, sym, ◌∙◌, ap, arith}
-use Rattle.std.specs.Prelude.{option_map}
-use Rattle.std.proofs.lemmas.Option.{slice_get-get_or}
-use Rattle.std.proofs.lemmas.Result.{err_from_is_err_and}
-use Rattle.fb_types.specs.Names.{Name}
-use Rattle.fb_types.specs.Numbers.{event_at}
-use Rattle.fb_types.specs.Values.{Values}
+use Rattle.fb_types.proofs.Common.{ℕ, Bool, true, false, List, get_or, Option, None, Ok, Err, sym, ◌∙◌, ap, arith, option_map, slice_get-get_or, err_from_is_err_and, Name, event_at, Values}
 use Rattle.fb_st.specs.Frames.{values_of}
 use Rattle.fb_ecc.specs.declared.chart.Exit.{Exit}
 use Rattle.fb_ecc.proofs.lemmas.Trials.{tried, not_tried, condition_meant, exit_here}

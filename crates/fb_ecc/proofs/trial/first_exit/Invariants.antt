@@ -1,7 +1,4 @@
-use Rattle.std.proofs.Common.{◌≡◌, ◌≤◌, drop}
-use Rattle.std.specs.Prelude.{option_map}
-use Rattle.fb_types.specs.Charts.{trial_of}
-use Rattle.fb_types.specs.Numbers.{event_at}
+use Rattle.fb_types.proofs.Common.{◌≡◌, ◌≤◌, drop, option_map, trial_of, event_at}
 use Rattle.fb_st.specs.Frames.{values_of}
 use Rattle.fb_ecc.specs.Steps.{clearing_exit, first_true}
 use Rattle.fb_ecc.specs.Trials.{transitions_at}

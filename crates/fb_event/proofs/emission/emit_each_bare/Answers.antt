@@ -1,5 +1,4 @@
-use Rattle.std.proofs.Common.{◌∙◌, map, take, arith}
-use Rattle.std.proofs.lemmas.Grind.{common_steps}
+use Rattle.fb_types.proofs.Common.{◌∙◌, map, take, arith, common_steps}
 use Rattle.fb_event.specs.Block.{state_of}
 use Rattle.fb_event.specs.Emissions.{emission_at}
 use Rattle.fb_event.proofs.lemmas.Emissions.{push-IsWellFormed}

@@ -1,9 +1,7 @@
-use Rattle.std.proofs.Common.{◌≡◌, ℤ, pos, List, [], ◌∷◌, Fits, sym, subst, rules, arith}
-use Rattle.std.specs.Prelude.{IfOk}
-use Rattle.std.proofs.lemmas.Int.{ints}
+use Rattle.fb_types.proofs.Common.{◌≡◌, ℤ, pos, List, [], ◌∷◌, sym, subst, rules, arith, IfOk, ints, Value}
+use Rattle.std.proofs.Common.{Fits}
 use mir.Syntax.{w16, w128}
 use mir.Val.{to_z}
-use Rattle.fb_types.specs.declared.value.Value.{Value}
 use Rattle.fb_types.specs.declared.value.Value.TheVariants as value
 use Rattle.fb_event.specs.Block.{values_in}
 use Rattle.fb_event.specs.declared.memory.EventMemory.{EventMemory}

@@ -1,5 +1,4 @@
-use Rattle.std.proofs.Common.{◌≡◌, ◌||◌, Bool, true, nat_eq, sym, ap, ◌∙◌}
-use Rattle.std.proofs.lemmas.Bool.{or_left}
+use Rattle.fb_types.proofs.Common.{◌≡◌, ◌||◌, Bool, true, nat_eq, sym, ap, ◌∙◌, or_left}
 use Rattle.fb_event.proofs.lemmas.Performing.{rendezvous_met}
 use Rattle.fb_event.proofs.step.mark_rendezvous.Goals as goal
 use Rattle.fb_event.proofs.step.mark_rendezvous.Goals.{then-first, else-first, then-second, else-second}

@@ -1,5 +1,4 @@
-use Rattle.std.proofs.Common.{Bool, [], ◌∷◌, refl, ap, ◌∙◌, inl, inr}
-use Rattle.std.specs.Prelude.{if◌then◌else◌}
+use Rattle.fb_types.proofs.Common.{Bool, [], ◌∷◌, refl, ap, ◌∙◌, inl, inr, if◌then◌else◌}
 use Rattle.fb_types.specs.declared.event_kind.EventKind.TheVariants as kind
 use Rattle.fb_event.proofs.lemmas.Arms.{at_kind, cycle_does, delay_does, merge_does, permit_does, range_at, restart_does, split_does}
 use Rattle.fb_event.proofs.step.reaction.Goals as goal

@@ -1,6 +1,5 @@
-use Rattle.std.proofs.Common.{ap, subst, ◌∙◌}
+use Rattle.fb_expect.proofs.lemmas.Common.{ap, subst, ◌∙◌, Text}
 use Rattle.fb_expect.specs.DifferenceReport.{IsKind, shown_line}
-use Rattle.fb_expect.specs.Words.{Text}
 use Rattle.fb_expect.proofs.lemmas.traces.Differing.{shown_difference}
 use Rattle.fb_expect.proofs.difference_report.difference_text.Goals as goal
 

@@ -1,8 +1,6 @@
-use Rattle.std.proofs.Common.{◌≡◌, ◌+◌, List, [], ◌∷◌, map, drop, sym, ap, ◌∙◌, subst, arith}
-use Rattle.std.proofs.lemmas.List.{length-map, length-drop, map-append}
+use Rattle.fb_expect.proofs.lemmas.Common.{◌≡◌, ◌+◌, List, [], ◌∷◌, map, drop, sym, ap, ◌∙◌, subst, arith, length-map, length-drop, map-append, text_of, each}
 use Rattle.toml.specs.View.{view}
-use Rattle.fb_expect.specs.Drafts.{RuleText, rule_text, text_of}
-use Rattle.fb_expect.specs.Lists.{each}
+use Rattle.fb_expect.specs.Drafts.{RuleText, rule_text}
 use Rattle.fb_expect.proofs.lemmas.documents.EachMayFail.{done, fails, front_none, more, next_seen, with_front}
 use Rattle.fb_expect.proofs.document.each_draft.Goals as goal
 

@@ -1,5 +1,4 @@
-use Rattle.std.proofs.Common.{◌∙◌, ℕ, List, Bor, ap, arith}
-use Rattle.std.specs.Prelude.{option_map}
+use Rattle.fb_types.proofs.Common.{◌∙◌, ℕ, List, Bor, ap, arith, option_map}
 use Rattle.toml.specs.View.{table_view}
 use Rattle.fb_expect.specs.Drafts.{one_if}
 use Rattle.fb_expect.proofs.lemmas.documents.Shapes.{never_is, some_seen}

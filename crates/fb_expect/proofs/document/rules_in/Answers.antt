@@ -1,6 +1,4 @@
-use Rattle.std.proofs.Common.{◌∙◌, ℕ, List, Bor, ap, map, sym}
-use Rattle.std.proofs.lemmas.List.{length-map}
-use Rattle.std.specs.Prelude.{◌==◌, option_map}
+use Rattle.fb_types.proofs.Common.{◌∙◌, ℕ, List, Bor, ap, map, sym, length-map, ◌==◌, option_map}
 use Rattle.toml.specs.View.{table_view, view}
 use Rattle.toml.specs.declared.value.Value.{Value}
 use Rattle.fb_expect.proofs.lemmas.documents.Shapes.{no_values, none_there, rules_are}

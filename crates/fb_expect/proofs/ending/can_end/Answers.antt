@@ -1,7 +1,5 @@
-use Rattle.std.proofs.Common.{sym, subst}
-use Rattle.std.proofs.lemmas.Bool.{ltb-true}
+use Rattle.fb_expect.proofs.lemmas.Common.{sym, subst, ltb-true, End}
 use Rattle.fb_expect.specs.Traces.{EndsAfter}
-use Rattle.fb_expect.specs.declared.ending.End.{End}
 use Rattle.fb_expect.proofs.ending.can_end.Goals as goal
 
 pub returns-in-Horizon : goal.returns-in-Horizon

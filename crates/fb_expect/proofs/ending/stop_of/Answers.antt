@@ -1,7 +1,6 @@
-use Rattle.std.proofs.Common.{◌≡◌, ℕ, ◌++◌, codes, ap, ◌∙◌}
+use Rattle.fb_expect.proofs.lemmas.Common.{◌≡◌, ℕ, ◌++◌, codes, ap, ◌∙◌, Text}
 use Rattle.fb_expect.specs.Events.{IsStart}
 use Rattle.fb_expect.specs.Traces.{IsReason, IsStopText}
-use Rattle.fb_expect.specs.Words.{Text}
 use Rattle.fb_expect.proofs.ending.stop_of.Goals as goal
 
 stop : (text : Text) (tick : ℕ) (resource rest reason : Text) → IsStart text tick resource rest → rest ≡ codes " " ++ reason → IsReason reason → IsStopText text tick

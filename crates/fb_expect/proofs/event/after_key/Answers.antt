@@ -1,8 +1,6 @@
-use Rattle.std.proofs.Common.{◌≡◌, ℕ, ◌-◌, ◌^◌, ◌++◌, refl, sym, ap, ◌∙◌, append_assoc}
-use Rattle.std.specs.Prelude.{IfSome, Option, Some, None}
+use Rattle.fb_expect.proofs.lemmas.Common.{◌≡◌, ℕ, ◌-◌, ◌^◌, ◌++◌, refl, sym, ap, ◌∙◌, append_assoc, IfSome, Option, Some, None, Text}
 use Rattle.std.specs.Borrow.{Bor}
 use Rattle.fb_expect.specs.Events.{IsKeyText, IsNumberText}
-use Rattle.fb_expect.specs.Words.{Text}
 use Rattle.fb_expect.proofs.event.after_key.Goals as goal
 
 abbrev IsAfter : (most : ℕ) → (text rest : Text) → Type 0

@@ -1,5 +1,4 @@
-use Rattle.std.proofs.Common.{◌≡◌, ℕ, ◌++◌, Bor, true, codes, refl, sym, ap, ◌∙◌, append_assoc}
-use Rattle.std.specs.Prelude.{IfSome, Option, Some, None, is_some}
+use Rattle.fb_types.proofs.Common.{◌≡◌, ℕ, ◌++◌, Bor, true, codes, refl, sym, ap, ◌∙◌, append_assoc, IfSome, Option, Some, None, is_some}
 use Rattle.fb_expect.specs.Events.{IsNumberText}
 use Rattle.fb_expect.specs.Words.{Text, natural}
 use Rattle.fb_expect.proofs.event.after_number.Goals as goal

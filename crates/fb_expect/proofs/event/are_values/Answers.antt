@@ -1,5 +1,4 @@
-use Rattle.std.proofs.Common.{sym, ap, ◌∙◌}
-use Rattle.std.specs.List.{list_all}
+use Rattle.fb_types.proofs.Common.{sym, ap, ◌∙◌, list_all}
 use Rattle.fb_expect.specs.Words.{is_binding}
 use Rattle.fb_expect.proofs.lemmas.texts.TextParts.{all-first, all-last, part_shorter}
 use Rattle.fb_expect.proofs.event.are_values.Goals as goal

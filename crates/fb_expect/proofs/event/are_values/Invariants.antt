@@ -1,5 +1,4 @@
-use Rattle.std.proofs.Common.{◌≡◌, length, nat_eq}
-use Rattle.std.specs.List.{list_all, slice_split}
+use Rattle.fb_types.proofs.Common.{◌≡◌, length, nat_eq, list_all, slice_split}
 use Rattle.fb_expect.specs.Words.{is_binding}
 use Rattle.fb_expect.proofs.event.are_values.Given as goal
 

@@ -1,5 +1,4 @@
-use Rattle.std.proofs.Common.{◌≡◌, take}
-use Rattle.std.specs.List.{fold}
+use Rattle.fb_types.proofs.Common.{◌≡◌, take, fold}
 use Rattle.fb_expect.specs.Fingerprints.{fingerprint_on}
 use Rattle.fb_expect.proofs.fingerprint.fingerprint_of.Given as goal
 

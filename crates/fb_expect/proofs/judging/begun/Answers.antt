@@ -1,6 +1,4 @@
-use Rattle.std.proofs.Common.{[], length, ap, ◌∙◌, arith}
-use Rattle.std.proofs.lemmas.List.{take_all}
-use Rattle.fb_expect.specs.Judging.{rules_of}
+use Rattle.fb_expect.proofs.lemmas.Common.{[], length, ap, ◌∙◌, arith, take_all, rules_of}
 use Rattle.fb_expect.proofs.lemmas.rules.Following.{all-one, begun-one}
 use Rattle.fb_expect.proofs.judging.begun.Goals as goal
 

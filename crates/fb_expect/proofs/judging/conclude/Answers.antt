@@ -1,8 +1,5 @@
-use Rattle.std.proofs.Common.{◌≡◌, ◌+◌, List, [], length, get_or, sym, ap, ◌∙◌, subst, arith}
-use Rattle.std.proofs.lemmas.List.{length-map, length_push, take_all}
-use Rattle.fb_expect.specs.Judging.{AreJudged, Follows, IsJudged, rules_of}
-use Rattle.fb_expect.specs.declared.judging.Judged.{Judged}
-use Rattle.fb_expect.specs.declared.judging.Watcher.{Watcher}
+use Rattle.fb_expect.proofs.lemmas.Common.{◌≡◌, ◌+◌, List, [], length, get_or, sym, ap, ◌∙◌, subst, arith, length-map, length_push, take_all, AreJudged, rules_of, Judged, Watcher}
+use Rattle.fb_expect.specs.Judging.{Follows, IsJudged}
 use Rattle.fb_expect.proofs.lemmas.rules.Following.{concluded-one}
 use Rattle.fb_expect.proofs.judging.conclude.Goals as goal
 

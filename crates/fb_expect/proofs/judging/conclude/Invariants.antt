@@ -1,7 +1,4 @@
-use Rattle.std.proofs.Common.{◌≡◌, ◌+◌, List, length, take}
-use Rattle.fb_expect.specs.Events.{Event}
-use Rattle.fb_expect.specs.Judging.{AllFollow, AreJudged, rules_of}
-use Rattle.fb_expect.specs.Traces.{AreBelow, tick_of}
+use Rattle.fb_expect.proofs.lemmas.Common.{◌≡◌, ◌+◌, List, length, take, Event, AllFollow, AreJudged, rules_of, AreBelow, tick_of}
 use Rattle.fb_expect.proofs.judging.conclude.Given as goal
 
 abbrev pub invariant-loop-watcher : goal.invariant-loop-watcher

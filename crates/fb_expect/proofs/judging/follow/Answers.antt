@@ -1,10 +1,8 @@
-use Rattle.std.proofs.Common.{◌≡◌, ◌+◌, List, ◌++◌, length, take, drop, ap, subst, sym, ◌∙◌}
-use Rattle.fb_expect.specs.Events.{IsLine, event_of}
-use Rattle.fb_expect.specs.Judging.{AllMove, IsRead, rules_of}
+use Rattle.fb_expect.proofs.lemmas.Common.{◌≡◌, ◌+◌, List, ◌++◌, length, take, drop, ap, subst, sym, ◌∙◌, event_of, rules_of, Text, Watcher}
+use Rattle.fb_expect.specs.Events.{IsLine}
+use Rattle.fb_expect.specs.Judging.{AllMove, IsRead}
 use Rattle.fb_expect.specs.Lines.{IsOneLine}
 use Rattle.fb_expect.specs.Traces.{IsLast}
-use Rattle.fb_expect.specs.Words.{Text}
-use Rattle.fb_expect.specs.declared.judging.Watcher.{Watcher}
 use Rattle.fb_expect.proofs.lemmas.rules.Following.{as-many, front}
 use Rattle.fb_expect.proofs.lemmas.traces.Gathering.{followed, read-one}
 use Rattle.fb_expect.proofs.judging.follow.Goals as goal

@@ -1,9 +1,4 @@
-use Rattle.std.proofs.Common.{◌≡◌, ◌-◌, ◌≤◌, Bor, ℕ, List, Option, Some, get_or, length, inl, inr, sym, ap, ◌∙◌, arith}
-use Rattle.std.specs.Prelude.{◌==◌, slice_get}
-use Rattle.std.specs.Option.{option_copied}
-use Rattle.std.proofs.lemmas.Bool.{both_ways, cases_lt, eq-eqb, not-true}
-use Rattle.std.proofs.lemmas.List.{get_or-take, length-take-le}
-use Rattle.std.proofs.lemmas.Option.{get_or_from_slice_get}
+use Rattle.fb_types.proofs.Common.{◌≡◌, ◌-◌, ◌≤◌, Bor, ℕ, List, Option, Some, get_or, length, inl, inr, sym, ap, ◌∙◌, arith, ◌==◌, slice_get, option_copied, both_ways, cases_lt, eq-eqb, not-true, get_or-take, length-take-le, get_or_from_slice_get}
 use Rattle.fb_expect.specs.Lines.{IsOneLine}
 use Rattle.fb_expect.specs.Traces.{HasNoEnd}
 use Rattle.fb_expect.proofs.judging.is_cut.Goals as goal

@@ -1,6 +1,5 @@
-use Rattle.std.proofs.Common.{◌∙◌, List, length, ap, subst, sym}
-use Rattle.fb_expect.specs.Judging.{IsFollowed, rules_of}
-use Rattle.fb_expect.specs.declared.judging.Watcher.{Watcher}
+use Rattle.fb_expect.proofs.lemmas.Common.{◌∙◌, List, length, ap, subst, sym, rules_of, Watcher}
+use Rattle.fb_expect.specs.Judging.{IsFollowed}
 use Rattle.fb_expect.proofs.lemmas.traces.Gathering.{judges_all}
 use Rattle.fb_expect.proofs.judging.judge.Goals as goal
 

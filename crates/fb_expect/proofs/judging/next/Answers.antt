@@ -1,5 +1,4 @@
-use Rattle.std.proofs.Common.{false, sym, ◌∙◌}
-use Rattle.fb_expect.specs.Events.{event_of}
+use Rattle.fb_expect.proofs.lemmas.Common.{false, sym, ◌∙◌, event_of}
 use Rattle.fb_expect.proofs.lemmas.rules.Idle.{passed}
 use Rattle.fb_expect.proofs.judging.next.Goals as goal
 

@@ -1,6 +1,4 @@
-use Rattle.std.proofs.Common.{sym, ap, ◌∙◌, subst}
-use Rattle.std.specs.Prelude.{OnOk}
-use Rattle.fb_expect.specs.Events.{event_of}
+use Rattle.fb_expect.proofs.lemmas.Common.{sym, ap, ◌∙◌, subst, OnOk, event_of}
 use Rattle.fb_expect.specs.Judging.{StateOn}
 use Rattle.fb_expect.specs.declared.judging.State.{State}
 use Rattle.fb_expect.specs.declared.judging.State.TheVariants.{Alone, Paired}

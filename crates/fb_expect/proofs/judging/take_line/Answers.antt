@@ -1,8 +1,5 @@
-use Rattle.std.proofs.Common.{◌<◌, Bor, [], ◌∷◌, ◌++◌, length, refl, ap, ◌∙◌, arith}
+use Rattle.fb_expect.proofs.lemmas.Common.{◌<◌, Bor, [], ◌∷◌, ◌++◌, length, refl, ap, ◌∙◌, arith, event_of, Watcher, Rule}
 use Rattle.std.proofs.Math.Seq.{map-set_same}
-use Rattle.fb_expect.specs.Events.{event_of}
-use Rattle.fb_expect.specs.declared.judging.Watcher.{Watcher}
-use Rattle.fb_expect.specs.declared.rule.Rule.{Rule}
 use Rattle.fb_expect.proofs.lemmas.rules.Following.{at-all, at-none, at-one}
 use Rattle.fb_expect.proofs.judging.take_line.Goals as goal
 

@@ -1,7 +1,4 @@
-use Rattle.std.proofs.Common.{◌≡◌, ◌+◌, List, [], ◌∷◌, ◌++◌, length}
-use Rattle.fb_expect.specs.Events.{Event, event_of}
-use Rattle.fb_expect.specs.Judging.{AllFollow, rules_of}
-use Rattle.fb_expect.specs.Traces.{AreBelow}
+use Rattle.fb_expect.proofs.lemmas.Common.{◌≡◌, ◌+◌, List, [], ◌∷◌, ◌++◌, length, Event, event_of, AllFollow, rules_of, AreBelow}
 use Rattle.fb_expect.proofs.lemmas.rules.Following.{AreAt}
 use Rattle.fb_expect.proofs.judging.take_line.Given as goal
 

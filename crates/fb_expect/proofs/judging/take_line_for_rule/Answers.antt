@@ -1,5 +1,4 @@
-use Rattle.std.proofs.Common.{refl}
-use Rattle.fb_expect.specs.Events.{event_of}
+use Rattle.fb_expect.proofs.lemmas.Common.{refl, event_of}
 use Rattle.fb_expect.proofs.lemmas.rules.Following.{moves}
 use Rattle.fb_expect.proofs.judging.take_line_for_rule.Goals as goal
 

@@ -1,5 +1,4 @@
-use Rattle.std.proofs.Common.{List, ℕ, ◌++◌, append-nil, sym, ap, ◌∙◌, arith}
-use Rattle.std.proofs.lemmas.List.{drop_all}
+use Rattle.fb_types.proofs.Common.{List, ℕ, ◌++◌, append-nil, sym, ap, ◌∙◌, arith, drop_all}
 use Rattle.fb_expect.specs.Suites.{xml}
 use Rattle.fb_expect.proofs.lemmas.documents.Suiting.{byte-put}
 use Rattle.fb_expect.proofs.junit.xml.Goals as goal

@@ -1,6 +1,5 @@
 -- Values of a document, and what contracts see of them.
-use Rattle.std.proofs.Common.{◌≡◌, List, [], ◌∷◌, map, Some, refl, ap, ◌∙◌}
-use Rattle.std.specs.Prelude.{option_map}
+use Rattle.fb_types.proofs.Common.{◌≡◌, List, [], ◌∷◌, map, Some, refl, ap, ◌∙◌, option_map}
 use Rattle.toml.specs.Data.{Data, as_array}
 use Rattle.toml.specs.View.{view, items_view}
 use Rattle.toml.specs.declared.value.Value.{Value}

@@ -1,14 +1,11 @@
 -- Where a document is refused, its bytes are.
-use Rattle.std.proofs.Common.{◌≡◌, Option, Some, None, Result, Ok, Err, sym, subst}
+use Rattle.fb_expect.proofs.lemmas.Common.{◌≡◌, Option, Some, None, Result, Ok, Err, sym, subst, IfOk, IfSome, Text, Pattern}
 use Rattle.std.specs.Option.{option_or}
-use Rattle.std.specs.Prelude.{IfOk, IfSome}
 use Rattle.toml.specs.Data.{Members}
 use Rattle.fb_expect.specs.Locations.{IsDocumentFault, IsLocation}
 use Rattle.fb_expect.specs.Reading.{document}
-use Rattle.fb_expect.specs.Words.{Text}
 use Rattle.fb_expect.specs.declared.location.RulesLocation.{RulesLocation}
 use Rattle.fb_expect.specs.declared.location.RulesLocation.TheVariants as location
-use Rattle.fb_expect.specs.declared.pattern.Pattern.{Pattern}
 
 location-of : (bytes : Text) (keys : Members) (p : RulesLocation) → document bytes ≡ Some keys → IsDocumentFault keys p → IsLocation bytes p
 location-of bytes keys location.Bytes is at = absurd at.2

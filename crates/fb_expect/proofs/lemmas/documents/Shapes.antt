@@ -1,7 +1,5 @@
 -- What a table of a rule and a document give, where their keys are there.
-use Rattle.std.proofs.Common.{◌≡◌, ℕ, ◌+◌, Bool, true, false, List, length, Some, None, refl, sym, ap, subst, ◌∙◌, arith, codes}
-use Rattle.std.proofs.lemmas.Bool.Decides.{nat_tests}
-use Rattle.std.specs.Prelude.{Option, is_some, option_map, not, ◌&&◌, ◌==◌, if◌then◌else◌}
+use Rattle.fb_types.proofs.Common.{◌≡◌, ℕ, ◌+◌, Bool, true, false, List, length, Some, None, refl, sym, ap, subst, ◌∙◌, arith, codes, nat_tests, Option, is_some, option_map, not, ◌&&◌, ◌==◌, if◌then◌else◌}
 use Rattle.toml.specs.Data.{Data, Members, get_member, as_str}
 use Rattle.fb_expect.specs.Drafts.{RuleText, count_of, never, one_if, rules_in, values_of}
 use Rattle.fb_expect.specs.Lists.{◌>>=◌, may}

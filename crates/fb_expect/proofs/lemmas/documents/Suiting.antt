@@ -1,14 +1,7 @@
 -- The cases of a suite, one after the other.
-use Rattle.std.proofs.Common.{◌≡◌, ℕ, ◌+◌, ◌<◌, Bool, List, [], ◌∷◌, ◌++◌, length, get_or, drop, refl, sym, ap, ap₂, ◌∙◌, arith, inl, inr, min, append_assoc, append-nil, Result, Ok, Err}
-use Rattle.std.specs.Global.{Vec}
-use Rattle.std.specs.Prelude.{IfOk, OnOk}
-use Rattle.std.proofs.lemmas.Bool.{cases_lt}
-use Rattle.std.proofs.lemmas.List.{drop_all, drop_more}
-use Rattle.fb_expect.specs.Reports.{joined}
+use Rattle.fb_expect.proofs.lemmas.Common.{◌≡◌, ℕ, ◌+◌, ◌<◌, Bool, List, [], ◌∷◌, ◌++◌, length, get_or, drop, refl, sym, ap, ap₂, ◌∙◌, arith, inl, inr, append_assoc, append-nil, Result, Ok, Err, IfOk, OnOk, cases_lt, joined, Text, Judged, Rule}
+use Rattle.fb_types.proofs.Common.{min, Vec, drop_all, drop_more}
 use Rattle.fb_expect.specs.Suites.{case_of, cases_of, xml, xml_byte}
-use Rattle.fb_expect.specs.Words.{Text}
-use Rattle.fb_expect.specs.declared.judging.Judged.{Judged}
-use Rattle.fb_expect.specs.declared.rule.Rule.{Rule}
 
 pub byte-put : (z a b : Text) (i : ℕ) → i < length z → b ≡ a ++ xml_byte (get_or z i 0) → b ++ xml (drop (i + 1) z) ≡ a ++ xml (drop i z)
 byte-put z a b i lt is =

@@ -1,19 +1,13 @@
 -- Rules that pair lines: which line answers which, with one more line.
-use Rattle.std.proofs.Common.{◌≡◌, ℕ, zero, suc, ◌+◌, ◌<◌, ◌≤◌, Bool, true, false, cond, List, [], ◌∷◌, ◌++◌, length, get_or, Some, None, refl, sym, ap, ap₂, subst, ◌∙◌, arith, inl, inr, filter}
-use Rattle.std.specs.Prelude.{Option, is_some, option_map, not, ◌&&◌, ◌||◌, nat_lt, if◌then◌else◌, position, remove, unwrap_or}
-use Rattle.std.specs.List.{list_any}
+use Rattle.fb_expect.proofs.lemmas.Common.{◌≡◌, ℕ, zero, suc, ◌+◌, ◌<◌, ◌≤◌, Bool, true, false, cond, List, [], ◌∷◌, ◌++◌, length, get_or, Some, None, refl, sym, ap, ap₂, subst, ◌∙◌, arith, inl, inr, Option, is_some, option_map, not, ◌&&◌, ◌||◌, if◌then◌else◌, list_any, cases_lt, eq-eqb, lt-ltb, true≢false, append-nil, get_or_past, length_push, Name, Text, Waiting, Pairing}
+use Rattle.fb_types.proofs.Common.{nat_lt, position, unwrap_or, le-ltb, ne_eqb, get_or_append_left, list_any-append}
+use Rattle.std.proofs.Common.{filter}
+use Rattle.std.specs.Prelude.{remove}
 use Rattle.std.proofs.Math.Seq.{get_or-append_seam}
-use Rattle.std.proofs.lemmas.Bool.{cases_lt, eq-eqb, le-ltb, lt-ltb, ne_eqb, true≢false}
-use Rattle.std.proofs.lemmas.List.{append-nil, get_or_append_left, get_or_past, length_push}
 use Rattle.std.proofs.lemmas.List.Elements.{filter-append}
-use Rattle.std.proofs.lemmas.List.Folds.{list_any-append}
 use Rattle.fb_types.proofs.lemmas.lists.Positions.{position-cons}
-use Rattle.fb_types.specs.Names.{Name}
 use Rattle.fb_expect.specs.Paired.{PairHit, answer_after, answered_by, answers, answers_by, first_below, has_values, hit_at, if_second, is_index, no_hit, one_if, or_last, picks, some_below, suits, turns, waiting_at, waiting_of, waits, waits_after, without}
 use Rattle.fb_expect.specs.Pairing.{are_same}
-use Rattle.fb_expect.specs.Words.{Text}
-use Rattle.fb_expect.specs.declared.pairs.Waiting.{Waiting}
-use Rattle.fb_expect.specs.declared.rule.Pairing.{Pairing}
 
 never : {P : Type 0} (b : Bool) → b ≡ true → b ≡ false → P
 never b sure off = absurd (true≢false (sym sure ∙ off))

@@ -1,17 +1,10 @@
 -- Rules that pair lines: what is known of them with one more line, and at the end.
-use Rattle.std.proofs.Common.{◌≡◌, ℕ, ◌+◌, ◌<◌, ◌≤◌, Bool, true, false, List, [], ◌∷◌, ◌++◌, length, Some, None, Result, Ok, Err, refl, sym, ap, ap₂, subst, ◌∙◌, arith, inl, inr}
-use Rattle.std.specs.Prelude.{OnOk, Option, is_some, not, ◌&&◌}
+use Rattle.fb_expect.proofs.lemmas.Common.{◌≡◌, ℕ, ◌+◌, ◌<◌, ◌≤◌, Bool, true, false, List, [], ◌∷◌, ◌++◌, length, Some, None, Result, Ok, Err, refl, sym, ap, ap₂, subst, ◌∙◌, arith, inl, inr, OnOk, Option, is_some, not, ◌&&◌, cases_lt, true≢false, append-nil, get_or_past, length_push, tick_of, End, Waiting, Pairing, Breach, Holds, Broken}
+use Rattle.fb_types.proofs.Common.{cases_Bool, get_or_append_left}
 use Rattle.std.proofs.Math.Seq.{get_or-append_seam}
-use Rattle.std.proofs.lemmas.Bool.{cases_Bool, cases_lt, true≢false}
-use Rattle.std.proofs.lemmas.List.{append-nil, get_or_append_left, get_or_past, length_push}
 use Rattle.fb_expect.specs.Paired.{AreBelow, IsInTime, IsLeft, IsLeftFirst, IsMet, IsOverdue, IsPairVerdict, IsUnpaired, KnowsBy, KnowsLate, KnowsWaiting, PairHit, PairsEnd, PairsOn, answered, answers, hit_at, if_second, no_hit, one_if, some_below, waiting_at, waiting_of, waits, waits_after}
-use Rattle.fb_expect.specs.Traces.{tick_of}
-use Rattle.fb_expect.specs.declared.ending.End.{End}
 use Rattle.fb_expect.specs.declared.pairs.Pairs.{Pairs}
-use Rattle.fb_expect.specs.declared.pairs.Waiting.{Waiting}
-use Rattle.fb_expect.specs.declared.rule.Pairing.{Pairing}
-use Rattle.fb_expect.specs.declared.verdict.Breach.{Breach}
-use Rattle.fb_expect.specs.declared.verdict.Verdict.TheVariants.{Holds, Broken, Undecided}
+use Rattle.fb_expect.specs.declared.verdict.Verdict.TheVariants.{Undecided}
 use Rattle.fb_expect.proofs.lemmas.pairs.AnsweredLines.{IsPicked, answers-inside, answers-old, answers-second, below-none, kept-on, picks-head, picks-none, waits-new, waits-old}
 
 never : {P : Type 0} (b : Bool) → b ≡ true → b ≡ false → P

@@ -1,20 +1,13 @@
 -- Ports that are marked by the remainders of their prints.
-use Rattle.std.proofs.Common.{◌≡◌, ◌≢◌, ℕ, ◌%◌, Bool, true, false, List, length, get_or, replicate, set, refl, sym, ap, ◌∙◌, arith, inl, inr}
-use Rattle.std.specs.Prelude.{◌&&◌}
-use Rattle.std.specs.Str.{bytes_eq}
-use Rattle.std.proofs.lemmas.Bool.{cases_Bool, cases_eq, cases_lt, false≢true}
+use Rattle.fb_expect.proofs.lemmas.Common.{◌≡◌, ℕ, Bool, true, false, List, length, get_or, refl, sym, ap, ◌∙◌, arith, inl, inr, ◌&&◌, cases_lt, get_or_past, Event, is_at, Text, Pattern, Rule}
+use Rattle.fb_types.proofs.Common.{◌≢◌, ◌%◌, replicate, set, bytes_eq, cases_Bool, cases_eq, false≢true, get_or-set_other, get_or-set_same, bytes_eq-Decides}
 use Rattle.std.proofs.Math.ListN.{length-set}
-use Rattle.std.proofs.lemmas.List.{get_or-replicate, get_or-set_other, get_or-set_same, get_or_past}
-use Rattle.std.proofs.lemmas.Slice.Eq.{bytes_eq-Decides}
-use Rattle.fb_expect.specs.Events.{Event}
+use Rattle.std.proofs.lemmas.List.{get_or-replicate}
 use Rattle.fb_expect.specs.Passing.{Adds, AddsOptional, Covers, IsElsewhere, IsTimeless, is_marked}
-use Rattle.fb_expect.specs.Patterns.{is_at, is_in, is_of, is_of_form, is_way}
+use Rattle.fb_expect.specs.Patterns.{is_in, is_of, is_of_form, is_way}
 use Rattle.fb_expect.specs.Fingerprints.{fingerprint}
-use Rattle.fb_expect.specs.Words.{Text}
-use Rattle.fb_expect.specs.declared.pattern.Pattern.{Pattern}
 use Rattle.fb_expect.specs.declared.port_pattern.PortForm.{PortForm}
 use Rattle.fb_expect.specs.declared.port_pattern.PortForm.TheVariants.{Whole}
-use Rattle.fb_expect.specs.declared.rule.Rule.{Rule}
 
 both-off : (a b c : Bool) → b ≡ false → (a && (b && c)) ≡ false
 both-off true true c e = absurd (false≢true (sym e))

@@ -1,12 +1,8 @@
 -- What a trace has of a pattern with one more line.
-use Rattle.std.proofs.Common.{◌≡◌, Bool, true, false, List, [], ◌∷◌, ◌++◌, refl, sym, ap, ap₂, ◌∙◌}
-use Rattle.std.specs.Prelude.{◌&&◌, ◌||◌, if◌then◌else◌}
-use Rattle.std.specs.List.{list_all, list_any}
-use Rattle.std.proofs.lemmas.List.Folds.{list_any-append}
-use Rattle.fb_expect.specs.Events.{Event}
-use Rattle.fb_expect.specs.Patterns.{has_all, has_kind, has_kinds, is_at, is_named, meets}
+use Rattle.fb_expect.proofs.lemmas.Common.{◌≡◌, Bool, true, false, List, [], ◌∷◌, ◌++◌, refl, sym, ap, ap₂, ◌∙◌, ◌&&◌, ◌||◌, if◌then◌else◌, list_all, list_any, Event, is_at, Pattern}
+use Rattle.fb_types.proofs.Common.{list_any-append}
+use Rattle.fb_expect.specs.Patterns.{has_all, has_kind, has_kinds, is_named, meets}
 use Rattle.fb_expect.specs.Sights.{nearest, sight_of}
-use Rattle.fb_expect.specs.declared.pattern.Pattern.{Pattern}
 use Rattle.fb_expect.specs.declared.sight.Sight.{Sight}
 use Rattle.fb_expect.specs.declared.sight.Sight.TheVariants.{Nothing, Port, Named, Fitting, Met}
 

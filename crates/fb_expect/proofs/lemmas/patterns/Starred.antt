@@ -1,7 +1,5 @@
 -- Ports with stars: the names of two texts, one by one.
-use Rattle.std.proofs.Common.{◌≡◌, Bool, true, false, List, [], ◌∷◌, Some, None, nat_eq, refl, sym, ap, ap₂, ◌∙◌}
-use Rattle.std.specs.Prelude.{Option, ◌&&◌, ◌||◌, if◌then◌else◌}
-use Rattle.std.specs.List.{slice_split}
+use Rattle.fb_types.proofs.Common.{◌≡◌, Bool, true, false, List, [], ◌∷◌, Some, None, nat_eq, refl, sym, ap, ap₂, ◌∙◌, Option, ◌&&◌, ◌||◌, if◌then◌else◌, slice_split}
 use Rattle.fb_expect.specs.Stars.{fits, fits_later, fits_name, fits_port, has_form, is_star}
 use Rattle.fb_expect.specs.Words.{Text, split_at_mark}
 use Rattle.fb_expect.proofs.lemmas.texts.TextParts.{part_first, part_last}

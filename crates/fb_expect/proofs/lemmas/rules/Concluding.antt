@@ -1,21 +1,11 @@
 -- What comes of a rule at the end of a trace.
-use Rattle.std.proofs.Common.{◌≡◌, ℕ, ◌+◌, ◌<◌, ◌≤◌, Bool, true, false, List, length, take, refl, sym, ap, subst, ◌∙◌, arith, inl, inr}
-use Rattle.std.specs.Prelude.{◌⊎◌, Option, Some, None, nat_lt, if◌then◌else◌}
-use Rattle.std.proofs.lemmas.Bool.{cases_lt, le-ltb, lt-ltb}
-use Rattle.std.proofs.lemmas.List.{take_all}
-use Rattle.fb_expect.specs.Hits.{hit_at, tick_at}
-use Rattle.fb_expect.specs.Rules.{Breaks, BreaksFirst, BreaksLater, BreaksNowhere, IsFewerAtEnd, IsPending, IsUnanswered, IsVerdict, count_in, is_amid, tick_there, windows_over}
-use Rattle.fb_expect.specs.Traces.{tick_of}
-use Rattle.fb_expect.specs.Watching.{AreMet, IsBelow, IsBroken, IsClean, IsLate, IsMet, KnowsCount, KnowsLast, KnowsSee, Lacks, Waits}
-use Rattle.fb_expect.specs.declared.ending.End.{End}
-use Rattle.fb_expect.specs.declared.hit.Hit.{Hit}
-use Rattle.fb_expect.specs.declared.rule.Need.{Need}
+use Rattle.fb_expect.proofs.lemmas.Common.{◌≡◌, ℕ, ◌+◌, ◌<◌, ◌≤◌, Bool, true, false, List, length, take, refl, sym, ap, subst, ◌∙◌, arith, inl, inr, ◌⊎◌, Option, Some, None, if◌then◌else◌, cases_lt, lt-ltb, take_all, hit_at, tick_at, count_in, tick_of, IsBelow, IsClean, KnowsCount, KnowsLast, KnowsSee, Lacks, End, Hit, Need, Breach, Fewer, Unanswered, Holds, Broken, Mark}
+use Rattle.fb_types.proofs.Common.{nat_lt, le-ltb}
+use Rattle.fb_expect.specs.Rules.{Breaks, BreaksFirst, BreaksLater, BreaksNowhere, IsFewerAtEnd, IsPending, IsUnanswered, IsVerdict, is_amid, tick_there, windows_over}
+use Rattle.fb_expect.specs.Watching.{AreMet, IsBroken, IsLate, IsMet, Waits}
 use Rattle.fb_expect.specs.declared.rule.Need.TheVariants.{See, Not, Count}
-use Rattle.fb_expect.specs.declared.verdict.Breach.{Breach}
 use Rattle.fb_expect.specs.declared.verdict.Fault.{Fault}
-use Rattle.fb_expect.specs.declared.verdict.Fault.TheVariants.{Fewer, Unanswered}
-use Rattle.fb_expect.specs.declared.verdict.Verdict.TheVariants.{Holds, Broken, Undecided}
-use Rattle.fb_expect.specs.declared.watch.Mark.{Mark}
+use Rattle.fb_expect.specs.declared.verdict.Verdict.TheVariants.{Undecided}
 use Rattle.fb_expect.proofs.lemmas.rules.Counts.{enough-over, fewer-over}
 use Rattle.fb_expect.proofs.lemmas.rules.Growing.{first}
 use Rattle.fb_expect.proofs.lemmas.traces.Indexes.{inside, test-none}

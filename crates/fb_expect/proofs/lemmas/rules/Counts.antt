@@ -1,16 +1,11 @@
 -- Rules that count: what is known of them with one more line.
-use Rattle.std.proofs.Common.{◌≡◌, ℕ, suc, ◌+◌, ◌/◌, ◌<◌, ◌≤◌, Bool, true, false, cond, List, [], ◌∷◌, ◌++◌, length, take, refl, sym, ap, subst, ◌∙◌, arith, inl, inr}
-use Rattle.std.specs.Prelude.{◌⊎◌, ◌&&◌, ◌==◌, Option, Some, None, if◌then◌else◌}
+use Rattle.fb_expect.proofs.lemmas.Common.{◌≡◌, ℕ, suc, ◌+◌, ◌<◌, ◌≤◌, Bool, true, false, cond, List, [], ◌∷◌, ◌++◌, length, take, refl, sym, ap, subst, ◌∙◌, arith, inl, inr, ◌⊎◌, ◌&&◌, ◌==◌, Option, Some, None, if◌then◌else◌, cases_lt, eq-eqb, get_or_past, length_push, take_all, tick_at, IsOver, count_in, IsBelow, KnowsCount, Lacks, Hit}
+use Rattle.fb_types.proofs.Common.{◌/◌, take-append_seam, ne_eqb, sum_by-cons}
 use Rattle.std.proofs.Math.Nat.{div-mul-le_self}
-use Rattle.std.proofs.Math.Seq.{take-append_seam}
-use Rattle.std.proofs.lemmas.Bool.{cases_lt, ne_eqb, eq-eqb}
-use Rattle.std.proofs.lemmas.List.{get_or_past, length_push, take_all}
-use Rattle.std.proofs.lemmas.List.Sums.{count_by-le-length, sum_by-cons, sum_by_push}
+use Rattle.std.proofs.lemmas.List.Sums.{count_by-le-length, sum_by_push}
 use Rattle.std.proofs.lemmas.Nat.{le-div}
-use Rattle.fb_expect.specs.Hits.{no_hit, tick_at}
-use Rattle.fb_expect.specs.Rules.{IsFewerAtLine, IsMore, IsOver, count_in, window_of}
-use Rattle.fb_expect.specs.Watching.{IsBelow, KnowsCount, Lacks}
-use Rattle.fb_expect.specs.declared.hit.Hit.{Hit}
+use Rattle.fb_expect.specs.Hits.{no_hit}
+use Rattle.fb_expect.specs.Rules.{IsFewerAtLine, IsMore, window_of}
 use Rattle.fb_expect.proofs.lemmas.rules.Growing.{first}
 use Rattle.fb_expect.proofs.lemmas.traces.Indexes.{at-new, new-back, test-none, tick-new, tick-old}
 

@@ -1,30 +1,19 @@
 -- Rules along the events of a trace.
-use Rattle.std.proofs.Common.{◌≡◌, ℕ, suc, zero, ◌+◌, ◌<◌, ◌≤◌, List, [], ◌∷◌, ◌++◌, length, get_or, set, take, Result, Ok, Err, refl, sym, ap, subst, ◌∙◌, arith, inl, inr}
-use Rattle.std.specs.Prelude.{OnOk, Option, Some, None}
-use Rattle.std.proofs.lemmas.Bool.{cases_eq}
+use Rattle.fb_expect.proofs.lemmas.Common.{◌≡◌, ℕ, suc, zero, ◌+◌, ◌<◌, ◌≤◌, List, [], ◌∷◌, ◌++◌, length, get_or, take, Result, Ok, Err, refl, sym, ap, subst, ◌∙◌, arith, inl, inr, OnOk, Option, Some, None, length-map, map-append, Event, AllFollow, AreJudged, rules_of, AreBelow, tick_of, IsBelow, Steps, Concludes as WatchConcludes, End, Hit, Judged, Watcher, Pairing, Rule, Watch}
+use Rattle.fb_types.proofs.Common.{set, cases_eq, get_or-set_other, get_or-set_same, take_more, All-push}
 use Rattle.std.proofs.Math.ListN.{length-set}
-use Rattle.std.proofs.lemmas.List.{get_or-set_other, get_or-set_same, length-map, map-append, take_more}
-use Rattle.std.proofs.lemmas.List.Elements.{All-push}
-use Rattle.fb_expect.specs.Events.{Event}
 use Rattle.fb_expect.specs.Deciding.{Decides, Tallies}
 use Rattle.fb_expect.specs.Hits.{hit_of, hits_of}
 use Rattle.fb_expect.specs.Passing.{Covers}
-use Rattle.fb_expect.specs.Judging.{AllFollow, AreJudged, Concludes, Follows, IsJudged, IsVerdictBy, KnowsState, KnowsStateBy, Moves, StateOn, rules_of}
+use Rattle.fb_expect.specs.Judging.{Concludes, Follows, IsJudged, IsVerdictBy, KnowsState, KnowsStateBy, Moves, StateOn}
 use Rattle.fb_expect.specs.Paired.{KnowsPairs, PairHit, PairsEnd, PairsOn, pair_hit_of, pair_hits_of, within_of, AreBelow as ArePairsBelow}
 use Rattle.fb_expect.specs.Sights.{sights_of}
-use Rattle.fb_expect.specs.Traces.{AreBelow, RiseFrom, last_tick, tick_of}
-use Rattle.fb_expect.specs.Watching.{IsBelow, Knows, Steps, Concludes as WatchConcludes}
-use Rattle.fb_expect.specs.declared.ending.End.{End}
-use Rattle.fb_expect.specs.declared.hit.Hit.{Hit}
-use Rattle.fb_expect.specs.declared.judging.Judged.{Judged}
+use Rattle.fb_expect.specs.Traces.{RiseFrom, last_tick}
+use Rattle.fb_expect.specs.Watching.{Knows}
 use Rattle.fb_expect.specs.declared.judging.State.TheVariants.{Alone, Paired}
-use Rattle.fb_expect.specs.declared.judging.Watcher.{Watcher}
 use Rattle.fb_expect.specs.declared.pairs.Pairs.{Pairs}
 use Rattle.fb_expect.specs.declared.port_set.PortSet.{PortSet}
-use Rattle.fb_expect.specs.declared.rule.Pairing.{Pairing}
-use Rattle.fb_expect.specs.declared.rule.Rule.{Rule}
 use Rattle.fb_expect.specs.declared.verdict.Verdict.{Verdict}
-use Rattle.fb_expect.specs.declared.watch.Watch.{Watch}
 
 -- no hit is of a later tick where no event is
 pub below-hits : (r : Rule) (es : List Event) (t : ℕ) → AreBelow es t → IsBelow (hits_of r es) t

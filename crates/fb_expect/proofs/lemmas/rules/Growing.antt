@@ -1,15 +1,9 @@
 -- What breaks a rule at a index, whatever comes after it: it stays when lines come, and comes with none of them.
-use Rattle.std.proofs.Common.{◌≡◌, ℕ, ◌+◌, ◌<◌, ◌≤◌, Bool, List, [], ◌∷◌, ◌++◌, length, take, refl, sym, subst, ◌∙◌, arith, inl, inr}
-use Rattle.std.specs.Prelude.{Option}
-use Rattle.std.proofs.lemmas.Bool.{cases_lt}
-use Rattle.std.proofs.lemmas.List.{length_push, take-append-le}
-use Rattle.fb_expect.specs.Hits.{tick_at}
-use Rattle.fb_expect.specs.Rules.{BreaksHere, HasFewer, IsMore, IsOver, count_in, window_of}
-use Rattle.fb_expect.specs.Watching.{IsBroken, IsClean, IsWithin}
-use Rattle.fb_expect.specs.declared.hit.Hit.{Hit}
-use Rattle.fb_expect.specs.declared.rule.Need.{Need}
+use Rattle.fb_expect.proofs.lemmas.Common.{◌≡◌, ℕ, ◌+◌, ◌<◌, ◌≤◌, Bool, List, [], ◌∷◌, ◌++◌, length, take, refl, sym, subst, ◌∙◌, arith, inl, inr, Option, cases_lt, length_push, tick_at, IsOver, count_in, IsClean, Hit, Need, Breach}
+use Rattle.fb_types.proofs.Common.{take-append-le}
+use Rattle.fb_expect.specs.Rules.{BreaksHere, HasFewer, IsMore, window_of}
+use Rattle.fb_expect.specs.Watching.{IsBroken, IsWithin}
 use Rattle.fb_expect.specs.declared.rule.Need.TheVariants.{See, Not, Before, Never, Count}
-use Rattle.fb_expect.specs.declared.verdict.Breach.{Breach}
 use Rattle.fb_expect.specs.declared.verdict.Fault.{Fault}
 use Rattle.fb_expect.proofs.lemmas.traces.Indexes.{back, inside, kept, tick-new, tick-old}
 

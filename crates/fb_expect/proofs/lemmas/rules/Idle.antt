@@ -1,24 +1,15 @@
 -- Lines that do not matter to a rule.
-use Rattle.std.proofs.Common.{◌≡◌, ℕ, ◌+◌, Bool, true, false, List, [], ◌∷◌, ◌++◌, refl, sym, ap₂, subst, ◌∙◌, arith, inl, inr}
-use Rattle.std.specs.Prelude.{◌⊎◌, Option, Some, None, not, ◌&&◌, ◌||◌}
-use Rattle.std.specs.List.{list_all, list_any}
-use Rattle.fb_expect.specs.Events.{Event}
+use Rattle.fb_expect.proofs.lemmas.Common.{◌≡◌, ℕ, ◌+◌, Bool, true, false, List, [], ◌∷◌, ◌++◌, refl, sym, ap₂, subst, ◌∙◌, arith, inl, inr, ◌⊎◌, Option, Some, None, not, ◌&&◌, ◌||◌, list_all, list_any, Event, is_at, KnowsCount, Steps, Hit, Watcher, Pattern, Need, Rule, Watch}
 use Rattle.fb_expect.specs.Hits.{hit_of, may_meet}
 use Rattle.fb_expect.specs.Judging.{Moves, StateOn}
 use Rattle.fb_expect.specs.Paired.{pair_hit_of, within_of}
 use Rattle.fb_expect.specs.Passing.{IsElsewhere, IsElsewhereOf, IsTimeless, PassesOver, is_marked}
-use Rattle.fb_expect.specs.Patterns.{has_all, has_kinds, is_at, is_met, meets}
+use Rattle.fb_expect.specs.Patterns.{has_all, has_kinds, is_met, meets}
 use Rattle.fb_expect.specs.Sights.{may_sight, sight_of, sights_of}
-use Rattle.fb_expect.specs.Watching.{Knows, KnowsCount, Steps}
-use Rattle.fb_expect.specs.declared.hit.Hit.{Hit}
+use Rattle.fb_expect.specs.Watching.{Knows}
 use Rattle.fb_expect.specs.declared.judging.State.{State}
 use Rattle.fb_expect.specs.declared.judging.State.TheVariants.{Alone, Paired}
-use Rattle.fb_expect.specs.declared.judging.Watcher.{Watcher}
-use Rattle.fb_expect.specs.declared.pattern.Pattern.{Pattern}
-use Rattle.fb_expect.specs.declared.rule.Need.{Need}
 use Rattle.fb_expect.specs.declared.rule.Need.TheVariants as need
-use Rattle.fb_expect.specs.declared.rule.Rule.{Rule}
-use Rattle.fb_expect.specs.declared.watch.Watch.{Watch}
 use Rattle.fb_expect.specs.declared.watch.Watch.TheVariants as watch
 use Rattle.fb_expect.proofs.lemmas.pairs.Coupled.{on-idle}
 use Rattle.fb_expect.proofs.lemmas.rules.Following.{alone-on, moves, paired-on}

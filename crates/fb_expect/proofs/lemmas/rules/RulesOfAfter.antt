@@ -1,14 +1,7 @@
 -- Rules that ask for what follows: what is known of them with one more line.
-use Rattle.std.proofs.Common.{◌≡◌, ℕ, ◌+◌, ◌<◌, ◌≤◌, Bool, true, false, List, [], ◌∷◌, ◌++◌, length, refl, sym, ap, subst, ◌∙◌, arith, inl, inr}
-use Rattle.std.specs.Prelude.{Option, Some, None}
-use Rattle.std.proofs.lemmas.Bool.{cases_lt}
-use Rattle.std.proofs.lemmas.List.{length_push}
-use Rattle.fb_expect.specs.Hits.{IsFirst, IsSecond, tick_at}
-use Rattle.fb_expect.specs.Watching.{AreMet, InTime, IsBelow, IsLate, IsMet, KnowsSee, Waits}
-use Rattle.fb_expect.specs.declared.hit.Hit.{Hit}
-use Rattle.fb_expect.specs.declared.verdict.Breach.{Breach}
-use Rattle.fb_expect.specs.declared.verdict.Fault.TheVariants.{Unanswered}
-use Rattle.fb_expect.specs.declared.watch.Mark.{Mark}
+use Rattle.fb_expect.proofs.lemmas.Common.{◌≡◌, ℕ, ◌+◌, ◌<◌, ◌≤◌, Bool, true, false, List, [], ◌∷◌, ◌++◌, length, refl, sym, ap, subst, ◌∙◌, arith, inl, inr, Option, Some, None, cases_lt, length_push, tick_at, IsBelow, KnowsSee, Hit, Breach, Unanswered, Mark}
+use Rattle.fb_expect.specs.Hits.{IsFirst, IsSecond}
+use Rattle.fb_expect.specs.Watching.{AreMet, InTime, IsLate, IsMet, Waits}
 use Rattle.fb_expect.proofs.lemmas.traces.Indexes.{Found, at-new, back, found, inside, kept, test-none, tick-new, tick-old}
 
 abbrev first : Hit → Bool

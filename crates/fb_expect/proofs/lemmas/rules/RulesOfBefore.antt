@@ -1,10 +1,8 @@
 -- Rules that ask for what comes before: what is known of them with one more line.
-use Rattle.std.proofs.Common.{◌≡◌, ℕ, ◌+◌, ◌<◌, ◌≤◌, Bool, true, false, List, [], ◌∷◌, ◌++◌, length, refl, sym, ap, ◌∙◌, arith, inl, inr}
-use Rattle.std.specs.Prelude.{Option, Some, None}
-use Rattle.fb_expect.specs.Hits.{hit_at, no_hit, tick_at}
+use Rattle.fb_expect.proofs.lemmas.Common.{◌≡◌, ℕ, ◌+◌, ◌<◌, ◌≤◌, Bool, true, false, List, [], ◌∷◌, ◌++◌, length, refl, sym, ap, ◌∙◌, arith, inl, inr, Option, Some, None, hit_at, tick_at, IsBelow, IsPast, KnowsLast, Hit}
+use Rattle.fb_expect.specs.Hits.{no_hit}
 use Rattle.fb_expect.specs.Rules.{IsAnswered, IsUnprepared}
-use Rattle.fb_expect.specs.Watching.{IsBelow, IsLastTick, IsPast, KnowsLast}
-use Rattle.fb_expect.specs.declared.hit.Hit.{Hit}
+use Rattle.fb_expect.specs.Watching.{IsLastTick}
 use Rattle.fb_expect.proofs.lemmas.rules.Growing.{first, second}
 use Rattle.fb_expect.proofs.lemmas.traces.Indexes.{Found, at-new, back, found, inside, kept, new-back, test-none, tick-new, tick-old}
 

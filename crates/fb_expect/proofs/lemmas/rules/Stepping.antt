@@ -1,14 +1,10 @@
 -- What is known of a rule with one more line, rule by rule.
-use Rattle.std.proofs.Common.{◌≡◌, ℕ, ◌+◌, ◌<◌, ◌≤◌, Bool, true, false, List, [], ◌∷◌, ◌++◌, length, refl, sym, ap, subst, ◌∙◌, arith, inl, inr}
-use Rattle.std.specs.Prelude.{◌⊎◌, not, ◌&&◌, ◌||◌, Option, Some}
-use Rattle.fb_expect.specs.Rules.{BreaksHere, IsFewerAtLine, IsForbidden, IsMore, IsOver, count_in, window_of}
-use Rattle.fb_expect.specs.Watching.{CountsOn, IsClean, IsPast, KnowsCount, KnowsLast, KnowsSee, KnowsStretch, Lacks, Steps, WaitsNext}
-use Rattle.fb_expect.specs.declared.hit.Hit.{Hit}
+use Rattle.fb_expect.proofs.lemmas.Common.{◌≡◌, ℕ, ◌+◌, ◌<◌, ◌≤◌, Bool, true, false, List, [], ◌∷◌, ◌++◌, length, refl, sym, ap, subst, ◌∙◌, arith, inl, inr, ◌⊎◌, not, ◌&&◌, ◌||◌, Option, Some, IsOver, count_in, IsClean, IsPast, KnowsCount, KnowsLast, KnowsSee, Lacks, Steps, Hit, Unanswered, Fewer, Mark, Watch}
+use Rattle.fb_expect.specs.Rules.{BreaksHere, IsFewerAtLine, IsForbidden, IsMore, window_of}
+use Rattle.fb_expect.specs.Watching.{CountsOn, KnowsStretch, WaitsNext}
 use Rattle.fb_expect.specs.declared.rule.Need.TheVariants as need
 use Rattle.fb_expect.specs.declared.verdict.Fault.{Fault}
-use Rattle.fb_expect.specs.declared.verdict.Fault.TheVariants.{Unanswered, Answered, Unprepared, Forbidden, Fewer, More}
-use Rattle.fb_expect.specs.declared.watch.Mark.{Mark}
-use Rattle.fb_expect.specs.declared.watch.Watch.{Watch}
+use Rattle.fb_expect.specs.declared.verdict.Fault.TheVariants.{Answered, Unprepared, Forbidden, More}
 use Rattle.fb_expect.specs.declared.watch.Watch.TheVariants as watch
 use Rattle.fb_expect.proofs.lemmas.rules.Counts.{before-it, count-fits, count-no, count-yes, counts-on, enough-new, fewer-new, more-back, more-new, no-more}
 use Rattle.fb_expect.proofs.lemmas.rules.Growing.{broken-kept, broken-new, clean-more, first, second}

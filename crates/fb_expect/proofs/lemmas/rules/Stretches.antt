@@ -1,12 +1,7 @@
 -- Rules that forbid: what is known of them with one more line.
-use Rattle.std.proofs.Common.{◌≡◌, ℕ, ◌<◌, Bool, true, false, List, [], ◌∷◌, ◌++◌, length, refl, subst, arith, inl, inr}
-use Rattle.std.specs.Prelude.{◌⊎◌, not, ◌&&◌, ◌||◌}
-use Rattle.std.proofs.lemmas.Bool.{cases_lt}
-use Rattle.std.proofs.lemmas.List.{length_push}
-use Rattle.fb_expect.specs.Hits.{hit_at}
+use Rattle.fb_expect.proofs.lemmas.Common.{◌≡◌, ℕ, ◌<◌, Bool, true, false, List, [], ◌∷◌, ◌++◌, length, refl, subst, arith, inl, inr, ◌⊎◌, not, ◌&&◌, ◌||◌, cases_lt, length_push, hit_at, Hit}
 use Rattle.fb_expect.specs.Rules.{IsForbidden}
 use Rattle.fb_expect.specs.Watching.{IsWithin, KnowsStretch}
-use Rattle.fb_expect.specs.declared.hit.Hit.{Hit}
 use Rattle.fb_expect.proofs.lemmas.rules.Growing.{first, second, third}
 use Rattle.fb_expect.proofs.lemmas.traces.Indexes.{Found, at-new, back, found, inside, kept, new-back, test-none}
 

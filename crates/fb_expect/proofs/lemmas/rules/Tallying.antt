@@ -1,13 +1,8 @@
 -- How often rules are decided: what is counted of them with one more line, and at the end.
-use Rattle.std.proofs.Common.{◌≡◌, ℕ, zero, suc, ◌+◌, ◌-◌, ◌<◌, ◌≤◌, Bool, true, false, cond, List, [], ◌∷◌, ◌++◌, length, refl, sym, ap, subst, ◌∙◌, arith, inl, inr}
-use Rattle.std.specs.Prelude.{not, ◌&&◌, ◌||◌, Option, Some, None, is_some}
-use Rattle.std.proofs.lemmas.List.{length_push}
+use Rattle.fb_expect.proofs.lemmas.Common.{◌≡◌, ℕ, zero, suc, ◌+◌, ◌-◌, ◌<◌, ◌≤◌, Bool, true, false, cond, List, [], ◌∷◌, ◌++◌, length, refl, sym, ap, subst, ◌∙◌, arith, inl, inr, not, ◌&&◌, ◌||◌, Option, Some, None, is_some, length_push, End, Hit, Need}
 use Rattle.std.proofs.lemmas.List.Sums.{count_by-le-length, sum_by_push}
 use Rattle.fb_expect.specs.Deciding.{AreInside, AreWindows, BeganBy, Counts, Decides, KnowsInside, Tallies, closed_after, count_first, judged_up_to, since_after}
 use Rattle.fb_expect.specs.Watching.{KnowsStretch}
-use Rattle.fb_expect.specs.declared.ending.End.{End}
-use Rattle.fb_expect.specs.declared.hit.Hit.{Hit}
-use Rattle.fb_expect.specs.declared.rule.Need.{Need}
 use Rattle.fb_expect.specs.declared.rule.Need.TheVariants as need
 use Rattle.fb_expect.specs.declared.tally.Tally.{Tally}
 use Rattle.fb_expect.specs.declared.tally.Tally.TheVariants as tally

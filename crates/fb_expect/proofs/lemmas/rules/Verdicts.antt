@@ -1,19 +1,10 @@
 -- What comes of a rule at the end of a trace, by what is known of it.
-use Rattle.std.proofs.Common.{◌≡◌, ℕ, ◌+◌, ◌<◌, Bool, true, false, List, refl, sym, subst, arith}
-use Rattle.std.specs.Prelude.{Option, Some, None}
+use Rattle.fb_expect.proofs.lemmas.Common.{◌≡◌, ℕ, ◌+◌, ◌<◌, Bool, true, false, List, refl, sym, subst, arith, Option, Some, None, tick_of, Concludes, IsBelow, IsClean, KnowsLast, KnowsSee, Lacks, End, Hit, Need, Breach, Fewer, Unanswered, Holds, Broken, Mark, Watch}
 use Rattle.fb_expect.specs.Rules.{IsVerdict, is_amid, windows_over}
-use Rattle.fb_expect.specs.Traces.{tick_of}
-use Rattle.fb_expect.specs.Watching.{Concludes, IsBelow, IsClean, Knows, KnowsLast, KnowsSee, Lacks}
-use Rattle.fb_expect.specs.declared.ending.End.{End}
-use Rattle.fb_expect.specs.declared.hit.Hit.{Hit}
-use Rattle.fb_expect.specs.declared.rule.Need.{Need}
+use Rattle.fb_expect.specs.Watching.{Knows}
 use Rattle.fb_expect.specs.declared.rule.Need.TheVariants as need
-use Rattle.fb_expect.specs.declared.verdict.Breach.{Breach}
-use Rattle.fb_expect.specs.declared.verdict.Fault.TheVariants.{Fewer, Unanswered}
 use Rattle.fb_expect.specs.declared.verdict.Verdict.{Verdict}
-use Rattle.fb_expect.specs.declared.verdict.Verdict.TheVariants.{Holds, Broken, Undecided}
-use Rattle.fb_expect.specs.declared.watch.Mark.{Mark}
-use Rattle.fb_expect.specs.declared.watch.Watch.{Watch}
+use Rattle.fb_expect.specs.declared.verdict.Verdict.TheVariants.{Undecided}
 use Rattle.fb_expect.specs.declared.watch.Watch.TheVariants as watch
 use Rattle.fb_expect.proofs.lemmas.rules.Concluding.{broken-here, clean-nowhere, count-amid, count-broken, count-fewer, count-holds, not-amid, not-holds, see-amid, see-holds, see-late, see-over}
 use Rattle.fb_expect.proofs.lemmas.rules.Growing.{first}

@@ -1,7 +1,6 @@
 -- Numbers that are read digit by digit.
-use Rattle.std.proofs.Common.{◌≡◌, ℕ, ◌+◌, ◌-◌, ◌*◌, ◌<◌, ◌≤◌, Bool, true, false, [], ◌∷◌, length, take, drop, get_or, None, refl, sym, ap, ◌∙◌, arith, take-append-drop}
-use Rattle.std.specs.Prelude.{◌&&◌, fold, nat_le}
-use Rattle.std.proofs.lemmas.Bool.{lt-leb}
+use Rattle.fb_types.proofs.Common.{◌≡◌, ℕ, ◌+◌, ◌-◌, ◌*◌, ◌<◌, ◌≤◌, Bool, true, false, [], ◌∷◌, length, take, drop, get_or, None, refl, sym, ap, ◌∙◌, arith, take-append-drop, ◌&&◌, nat_le, lt-leb}
+use Rattle.std.specs.Prelude.{fold}
 use Rattle.std.proofs.lemmas.List.Sums.{fold-append, fold_more}
 use Rattle.fb_expect.specs.Words.{Text, is_numeral, natural, with_digit}
 

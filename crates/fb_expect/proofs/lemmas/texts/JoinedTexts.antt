@@ -1,14 +1,8 @@
 -- Texts that are put together part by part.
-use Rattle.std.proofs.Common.{◌≡◌, ℕ, ◌+◌, ◌<◌, ◌≤◌, Bool, Bor, List, [], ◌∷◌, ◌++◌, length, get_or, map, take, drop, inl, inr, Result, Ok, Err, refl, sym, ap, ap₂, subst, ◌∙◌, append_assoc, append-nil, arith, min}
-use Rattle.std.specs.Prelude.{IfOk}
+use Rattle.fb_expect.proofs.lemmas.Common.{◌≡◌, ℕ, ◌+◌, ◌<◌, ◌≤◌, Bool, Bor, List, [], ◌∷◌, ◌++◌, length, get_or, map, take, drop, inl, inr, Result, Ok, Err, refl, sym, ap, ap₂, subst, ◌∙◌, append_assoc, append-nil, arith, IfOk, cases_lt, map-append, take_all, joined, Text, Judged, Rule}
+use Rattle.fb_types.proofs.Common.{min, length-take-le, take-append-drop, take_more, IfOk-equal}
 use Rattle.std.specs.Result.{result_and}
-use Rattle.std.proofs.lemmas.Bool.{cases_lt}
-use Rattle.std.proofs.lemmas.List.{length-take-le, map-append, take-append-drop, take_all, take_more}
-use Rattle.std.proofs.lemmas.Result.{IfOk-equal}
-use Rattle.fb_expect.specs.Reports.{escape, escape_byte, joined, point, points}
-use Rattle.fb_expect.specs.Words.{Text}
-use Rattle.fb_expect.specs.declared.judging.Judged.{Judged}
-use Rattle.fb_expect.specs.declared.rule.Rule.{Rule}
+use Rattle.fb_expect.specs.Reports.{escape, escape_byte, point, points}
 use Rattle.fb_expect.specs.declared.tap.Of.{Of}
 
 joined-push : (ts : List Text) (t : Text) → joined (ts ++ t ∷ []) ≡ joined ts ++ t

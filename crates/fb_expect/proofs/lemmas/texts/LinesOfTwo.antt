@@ -1,11 +1,6 @@
 -- Two texts, line by line.
-use Rattle.std.proofs.Common.{◌≡◌, ℕ, zero, suc, ◌+◌, ◌≤◌, Bool, true, false, [], ◌∷◌, ◌++◌, length, refl, sym, ap, ap₂, subst, ◌∙◌, arith, inl, inr}
-use Rattle.std.specs.Prelude.{◌==◌, ◌&&◌, if◌then◌else◌, Option, Some, None, IfSome}
-use Rattle.std.specs.Io.BufRead.{drop_through, take_through}
-use Rattle.std.specs.Io.KnownBytes.{IsAtEnd}
-use Rattle.std.specs.Str.{bytes_eq}
-use Rattle.std.proofs.lemmas.Bool.{cases_eq, cases_lt, false≢true}
-use Rattle.std.proofs.lemmas.Slice.Eq.{bytes_eq-Decides}
+use Rattle.fb_types.proofs.Common.{◌≡◌, ℕ, zero, suc, ◌+◌, ◌≤◌, Bool, true, false, [], ◌∷◌, ◌++◌, length, refl, sym, ap, ap₂, subst, ◌∙◌, arith, inl, inr, ◌==◌, ◌&&◌, if◌then◌else◌, Option, Some, None, IfSome, take_through, IsAtEnd, bytes_eq, cases_eq, cases_lt, false≢true, bytes_eq-Decides}
+use Rattle.std.specs.Io.BufRead.{drop_through}
 use Rattle.fb_expect.specs.Parting.{AreAlike, AreAllAlike, AreSame, HasPassed, MayFind, ComesAfter, are_alike, line_at, rest_at}
 use Rattle.fb_expect.specs.Timeless.{without_tick}
 use Rattle.fb_expect.specs.Words.{Text}

@@ -1,11 +1,9 @@
 -- The parts of a text before and after a mark.
-use Rattle.std.proofs.Common.{◌≡◌, ℕ, ◌+◌, ◌-◌, ◌<◌, ◌≤◌, Bool, List, [], ◌∷◌, ◌++◌, cond, filter, inl, inr, ltb, nat_eq, true, false, length, get_or, take, drop, Some, None, Result, Ok, Err, refl, sym, ap, ap₂, ◌∙◌, append_assoc, arith}
-use Rattle.std.specs.Prelude.{OnOk, Option, ◌&&◌, ◌||◌, if◌then◌else◌, is_some, option_map, position, unwrap_or}
-use Rattle.std.proofs.lemmas.List.{take_all, length-drop}
-use Rattle.std.proofs.lemmas.Bool.{cases_lt, lt-ltb}
+use Rattle.fb_types.proofs.Common.{◌≡◌, ℕ, ◌+◌, ◌-◌, ◌<◌, ◌≤◌, Bool, List, [], ◌∷◌, ◌++◌, cond, inl, inr, ltb, nat_eq, true, false, length, get_or, take, drop, Some, None, Result, Ok, Err, refl, sym, ap, ap₂, ◌∙◌, append_assoc, arith, OnOk, Option, ◌&&◌, ◌||◌, if◌then◌else◌, is_some, option_map, position, unwrap_or, take_all, length-drop, cases_lt, lt-ltb, list_all, list_any, position_or_len, slice_split}
+use Rattle.std.proofs.Common.{filter}
 use Rattle.std.proofs.lemmas.List.Splits.{slice_split_first, slice_split_none}
 use Rattle.std.proofs.lemmas.List.Sums.{fails_before_first, position_or_len_is}
-use Rattle.std.specs.List.{after_first, before_first, list_all, list_any, position_or_len, slice_split}
+use Rattle.std.specs.List.{after_first, before_first}
 use Rattle.fb_expect.specs.Words.{Text, cut, is_end, split_at_mark}
 use Rattle.fb_expect.specs.Written.{at_comparison, is_sign, is_word, words_of}
 

@@ -1,8 +1,5 @@
 -- The values of variables of a line, word by word.
-use Rattle.std.proofs.Common.{◌≡◌, Some, None, nat_eq, refl, ap, ◌∙◌}
-use Rattle.std.specs.Prelude.{Option}
-use Rattle.std.specs.List.{slice_split}
-use Rattle.fb_types.specs.Names.{Name}
+use Rattle.fb_types.proofs.Common.{◌≡◌, Some, None, nat_eq, refl, ap, ◌∙◌, Option, slice_split, Name}
 use Rattle.fb_expect.specs.Pairing.{or_else, text_in, text_of}
 use Rattle.fb_expect.specs.Words.{Text, split_at_mark}
 use Rattle.fb_expect.proofs.lemmas.texts.TextParts.{part_first, part_last}

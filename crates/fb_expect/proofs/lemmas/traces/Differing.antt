@@ -1,10 +1,7 @@
 -- What is reported of two lines that differ.
-use Rattle.std.proofs.Common.{◌≡◌, ℕ, Bool, [], ◌∷◌, Result, Ok, Err, ◌∙◌}
-use Rattle.std.specs.Prelude.{IfOk}
-use Rattle.std.specs.Global.{Vec}
+use Rattle.fb_expect.proofs.lemmas.Common.{◌≡◌, ℕ, Bool, [], ◌∷◌, Result, Ok, Err, ◌∙◌, IfOk, joined, Text}
+use Rattle.fb_types.proofs.Common.{Vec}
 use Rattle.fb_expect.specs.DifferenceReport.{IsKind, ShowsDifference, difference_line, difference_text, shown_line}
-use Rattle.fb_expect.specs.Reports.{joined}
-use Rattle.fb_expect.specs.Words.{Text}
 use Rattle.fb_expect.specs.declared.parting.Difference.{Difference}
 use Rattle.fb_expect.specs.declared.difference_report.LineKind.{LineKind}
 

@@ -1,21 +1,13 @@
 -- A trace, line by line.
-use Rattle.std.proofs.Common.{◌≡◌, ℕ, ◌+◌, ◌≤◌, List, [], ◌∷◌, ◌++◌, Some, None, length, refl, sym, ap, subst, ◌∙◌, arith, append_assoc, append-nil}
-use Rattle.std.specs.Prelude.{Option, IfSome}
-use Rattle.std.specs.Io.KnownBytes.{Consumes, IsAtEnd}
-use Rattle.std.proofs.KnownBytes.{Consumes-trans, Consumes-whole}
-use Rattle.std.proofs.lemmas.List.{length_push}
-use Rattle.fb_types.specs.declared.run.Form.{Form}
-use Rattle.fb_expect.specs.Events.{Event, IsLine}
-use Rattle.fb_expect.specs.Judging.{AllFollow, AllMove, AreJudged, IsFollowed, IsRead, Judges, rules_of}
+use Rattle.fb_expect.proofs.lemmas.Common.{◌≡◌, ℕ, ◌+◌, ◌≤◌, List, [], ◌∷◌, ◌++◌, Some, None, length, refl, sym, ap, subst, ◌∙◌, arith, append_assoc, append-nil, Option, IfSome, length_push, Event, AllFollow, AreJudged, rules_of, AreBelow, tick_of, Text, End, Judged, Watcher, Rule}
+use Rattle.fb_types.proofs.Common.{Consumes, IsAtEnd, Consumes-trans, Form}
+use Rattle.std.proofs.KnownBytes.{Consumes-whole}
+use Rattle.fb_expect.specs.Events.{IsLine}
+use Rattle.fb_expect.specs.Judging.{AllMove, IsFollowed, IsRead, Judges}
 use Rattle.fb_expect.specs.Lines.{IsOneLine}
-use Rattle.fb_expect.specs.Traces.{AreBelow, AreLines, EndsAfter, IsLast, IsTrace, last_tick, tick_of}
-use Rattle.fb_expect.specs.Words.{Text}
-use Rattle.fb_expect.specs.declared.ending.End.{End}
+use Rattle.fb_expect.specs.Traces.{AreLines, EndsAfter, IsLast, IsTrace, last_tick}
 use Rattle.fb_expect.specs.declared.ending.End.TheVariants.{Horizon, Stop, Cut}
 use Rattle.fb_expect.specs.declared.judging.Cut.{Cut as MayCut}
-use Rattle.fb_expect.specs.declared.judging.Judged.{Judged}
-use Rattle.fb_expect.specs.declared.judging.Watcher.{Watcher}
-use Rattle.fb_expect.specs.declared.rule.Rule.{Rule}
 use Rattle.fb_expect.proofs.lemmas.rules.Following.{all-below, below-later, last-one, rise-one}
 
 lines-one : (form : Form) (text : Text) (es : List Event) (line : Text) (e : Event) → AreLines form text es → IsLine form line e → AreLines form (text ++ line) (es ++ e ∷ [])

@@ -1,5 +1,4 @@
-use Rattle.std.proofs.Common.{◌≡◌, ℕ, List, [], ◌∷◌, length, refl, sym, ◌∙◌, arith}
-use Rattle.std.proofs.lemmas.Bool.{eqb-true}
+use Rattle.fb_types.proofs.Common.{◌≡◌, ℕ, List, [], ◌∷◌, length, refl, sym, ◌∙◌, arith, eqb-true}
 use Rattle.fb_expect.proofs.lines.is_over.Goals as goal
 
 empty : (xs : List ℕ) → length xs ≡ 0 → xs ≡ []

@@ -1,5 +1,4 @@
-use Rattle.std.proofs.Common.{◌≡◌, drop}
-use Rattle.std.specs.List.{list_all}
+use Rattle.fb_types.proofs.Common.{◌≡◌, drop, list_all}
 use Rattle.fb_expect.specs.Patterns.{is_found}
 use Rattle.fb_expect.proofs.meeting.are_found.Given as goal
 

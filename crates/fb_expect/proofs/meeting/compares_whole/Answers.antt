@@ -1,6 +1,5 @@
 use mir.Syntax.{w128}
-use Rattle.std.proofs.Common.{sym, ap, ◌∙◌}
-use Rattle.std.specs.Prelude.{int_le}
+use Rattle.fb_types.proofs.Common.{sym, ap, ◌∙◌, int_le}
 use Rattle.std.proofs.lemmas.Int.{to_z-of_z}
 use Rattle.fb_expect.specs.Patterns.{compares_whole}
 use Rattle.fb_expect.specs.declared.pattern.Comparison.{Comparison}

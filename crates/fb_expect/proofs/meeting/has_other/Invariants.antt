@@ -1,5 +1,4 @@
-use Rattle.std.proofs.Common.{◌≡◌, length, nat_eq}
-use Rattle.std.specs.List.{slice_split}
+use Rattle.fb_types.proofs.Common.{◌≡◌, length, nat_eq, slice_split}
 use Rattle.fb_expect.specs.Patterns.{are_as, has_value}
 use Rattle.fb_expect.proofs.meeting.has_other.Given as goal
 

@@ -1,7 +1,5 @@
-use Rattle.std.proofs.Common.{List, nat_eq, sym, ap, ◌∙◌}
-use Rattle.std.specs.List.{slice_split}
+use Rattle.fb_expect.proofs.lemmas.Common.{List, nat_eq, sym, ap, ◌∙◌, slice_split, Text}
 use Rattle.fb_expect.specs.Patterns.{has_value, is_right_for, is_value_of}
-use Rattle.fb_expect.specs.Words.{Text}
 use Rattle.fb_expect.proofs.lemmas.texts.TextParts.{any-first, any-last, part_shorter}
 use Rattle.fb_expect.proofs.meeting.is_found.Goals as goal
 

@@ -1,5 +1,4 @@
-use Rattle.std.proofs.Common.{◌≡◌, length, nat_eq}
-use Rattle.std.specs.List.{list_any, slice_split}
+use Rattle.fb_types.proofs.Common.{◌≡◌, length, nat_eq, list_any, slice_split}
 use Rattle.fb_expect.specs.Patterns.{is_right_for, is_value_of}
 use Rattle.fb_expect.proofs.meeting.is_found.Given as goal
 

@@ -1,5 +1,4 @@
-use Rattle.std.proofs.Common.{◌≡◌, length, nat_eq}
-use Rattle.std.specs.List.{list_all, slice_split}
+use Rattle.fb_types.proofs.Common.{◌≡◌, length, nat_eq, list_all, slice_split}
 use Rattle.fb_expect.specs.Words.{is_name}
 use Rattle.fb_expect.proofs.names.is_path.Given as goal
 

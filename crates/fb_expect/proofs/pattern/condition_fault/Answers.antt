@@ -1,7 +1,5 @@
-use Rattle.std.proofs.Common.{◌≡◌, ℕ, zero, suc, ◌<◌, Bor, List, [], ◌∷◌, length, map, None, inl, inr, sym, ap, arith}
-use Rattle.std.specs.Prelude.{option_map}
+use Rattle.fb_expect.proofs.lemmas.Common.{◌≡◌, ℕ, zero, suc, ◌<◌, Bor, List, [], ◌∷◌, length, map, None, inl, inr, sym, ap, arith, option_map, Text}
 use Rattle.fb_expect.specs.PatternFaults.{IsConditionFault}
-use Rattle.fb_expect.specs.Words.{Text}
 use Rattle.fb_expect.specs.Written.{condition, condition_of}
 use Rattle.fb_expect.specs.declared.pattern.PatternFault.{PatternFault}
 use Rattle.fb_expect.specs.declared.pattern.PatternPart.TheVariants.{Condition}

@@ -1,6 +1,4 @@
-use Rattle.std.proofs.Common.{◌≡◌, ◌+◌, ℕ, Bor, List, [], map, drop, sym, ◌∙◌, subst, arith}
-use Rattle.std.proofs.lemmas.List.{length-map, length-drop}
-use Rattle.fb_expect.specs.Lists.{each}
+use Rattle.fb_expect.proofs.lemmas.Common.{◌≡◌, ◌+◌, ℕ, Bor, List, [], map, drop, sym, ◌∙◌, subst, arith, length-map, length-drop, each}
 use Rattle.fb_expect.specs.Written.{condition_of}
 use Rattle.fb_expect.specs.declared.pattern.Condition.{Condition}
 use Rattle.fb_expect.proofs.lemmas.documents.EachMayFail.{done, fails, more, next_at, with_front}

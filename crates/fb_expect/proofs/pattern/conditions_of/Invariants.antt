@@ -1,5 +1,4 @@
-use Rattle.std.proofs.Common.{◌≡◌, drop, map}
-use Rattle.fb_expect.specs.Lists.{each}
+use Rattle.fb_expect.proofs.lemmas.Common.{◌≡◌, drop, map, each}
 use Rattle.fb_expect.specs.Written.{condition_of}
 use Rattle.fb_expect.proofs.lemmas.documents.EachMayFail.{with_front}
 use Rattle.fb_expect.proofs.pattern.conditions_of.Given as goal

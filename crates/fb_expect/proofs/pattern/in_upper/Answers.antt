@@ -1,6 +1,4 @@
-use Rattle.std.proofs.Common.{ℕ, List, ◌+◌, ◌++◌, [], ◌∷◌, get_or, map, take, sym, ap, ◌∙◌, arith}
-use Rattle.std.proofs.lemmas.Grind.{take_at_read}
-use Rattle.std.proofs.lemmas.List.{map-append, take_all}
+use Rattle.fb_types.proofs.Common.{ℕ, List, ◌+◌, ◌++◌, [], ◌∷◌, get_or, map, take, sym, ap, ◌∙◌, arith, take_at_read, map-append, take_all}
 use Rattle.fb_expect.specs.Written.{upper}
 use Rattle.fb_expect.proofs.pattern.in_upper.Goals as goal
 

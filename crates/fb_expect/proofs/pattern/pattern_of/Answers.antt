@@ -1,8 +1,5 @@
-use Rattle.std.proofs.Common.{◌≡◌, ◌∙◌, ap, ap₂, map, subst, Bor}
-use Rattle.std.specs.Prelude.{IfOk, Option}
-use Rattle.fb_expect.specs.Words.{Text}
-use Rattle.fb_expect.specs.Written.{pattern_in, pattern_of, upper, words_of}
-use Rattle.fb_expect.specs.declared.pattern.Pattern.{Pattern}
+use Rattle.fb_expect.proofs.lemmas.Common.{◌≡◌, ◌∙◌, ap, ap₂, map, subst, Bor, IfOk, Option, Text, words_of, Pattern}
+use Rattle.fb_expect.specs.Written.{pattern_in, pattern_of, upper}
 use Rattle.fb_expect.proofs.pattern.pattern_of.Goals as goal
 
 pub returns : goal.returns

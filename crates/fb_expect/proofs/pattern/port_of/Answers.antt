@@ -1,5 +1,4 @@
-use Rattle.std.proofs.Common.{◌≡◌, Bor, List, ℕ, Option, Some, true, sym, ap, ◌∙◌}
-use Rattle.std.specs.Prelude.{if◌then◌else◌, option_map}
+use Rattle.fb_types.proofs.Common.{◌≡◌, Bor, List, ℕ, Option, Some, true, sym, ap, ◌∙◌, if◌then◌else◌, option_map}
 use Rattle.fb_expect.specs.Written.{closed_port_of, is_front, port_by, port_of}
 use Rattle.fb_expect.specs.declared.port_pattern.PortForm.TheVariants.{Open}
 use Rattle.fb_expect.proofs.pattern.port_of.Goals as goal

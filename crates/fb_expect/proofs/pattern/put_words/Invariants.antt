@@ -1,6 +1,5 @@
-use Rattle.std.proofs.Common.{◌≡◌, ◌++◌, ℕ, List, length, map}
+use Rattle.fb_expect.proofs.lemmas.Common.{◌≡◌, ◌++◌, ℕ, List, length, map, words_of}
 use Rattle.std.specs.Borrow.{Bor}
-use Rattle.fb_expect.specs.Written.{words_of}
 use Rattle.fb_expect.proofs.pattern.put_words.Given as goal
 
 abbrev pub invariant-loop-word : goal.invariant-loop-word

@@ -1,6 +1,4 @@
-use Rattle.std.proofs.Common.{List, [], ◌∷◌, ◌++◌, append_assoc, map, take, sym, ap, ◌∙◌, arith}
-use Rattle.std.proofs.lemmas.List.{map-append, take_all, take_more}
-use Rattle.fb_types.specs.Names.{Name}
+use Rattle.fb_types.proofs.Common.{List, [], ◌∷◌, ◌++◌, append_assoc, map, take, sym, ap, ◌∙◌, arith, map-append, take_all, take_more, Name}
 use Rattle.fb_expect.specs.Needs.{has_name}
 use Rattle.fb_expect.specs.declared.pattern.Condition.{Condition}
 use Rattle.fb_expect.proofs.pattern.with_each.Goals as goal

@@ -1,6 +1,5 @@
-use Rattle.std.proofs.Common.{◌++◌, ◌∙◌, ℕ, List, ap, map}
+use Rattle.fb_expect.proofs.lemmas.Common.{◌++◌, ◌∙◌, ℕ, List, ap, map, words_of}
 use Rattle.std.specs.Borrow.{Bor}
-use Rattle.fb_expect.specs.Written.{words_of}
 use Rattle.fb_expect.proofs.pattern.words_of.Goals as goal
 
 pub returns : goal.returns

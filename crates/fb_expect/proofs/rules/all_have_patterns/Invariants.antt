@@ -1,6 +1,4 @@
-use Rattle.std.proofs.Common.{◌≡◌, drop, map}
-use Rattle.std.specs.List.{list_all}
-use Rattle.fb_expect.specs.Drafts.{text_of}
+use Rattle.fb_expect.proofs.lemmas.Common.{◌≡◌, drop, map, list_all, text_of}
 use Rattle.fb_expect.specs.Needs.{has_patterns}
 use Rattle.fb_expect.proofs.rules.all_have_patterns.Given as goal
 

@@ -1,5 +1,4 @@
-use Rattle.std.proofs.Common.{sym, ◌∙◌, refl}
-use Rattle.std.proofs.lemmas.Bool.{false≢true}
+use Rattle.fb_types.proofs.Common.{sym, ◌∙◌, refl, false≢true}
 use Rattle.toml.specs.Errors.{IsMemory}
 use Rattle.toml.specs.View.{table_view}
 use Rattle.fb_expect.proofs.lemmas.documents.Outcomes.{is_document, is_no_document}

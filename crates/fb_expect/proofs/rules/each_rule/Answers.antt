@@ -1,9 +1,5 @@
-use Rattle.std.proofs.Common.{◌≡◌, ◌+◌, List, map, drop, sym, ◌∙◌, subst, arith}
-use Rattle.std.proofs.lemmas.List.{length-map, length-drop}
-use Rattle.fb_expect.specs.Drafts.{text_of}
-use Rattle.fb_expect.specs.Lists.{each}
+use Rattle.fb_expect.proofs.lemmas.Common.{◌≡◌, ◌+◌, List, map, drop, sym, ◌∙◌, subst, arith, length-map, length-drop, text_of, each, Rule}
 use Rattle.fb_expect.specs.Needs.{rule_of}
-use Rattle.fb_expect.specs.declared.rule.Rule.{Rule}
 use Rattle.fb_expect.proofs.lemmas.documents.EachMayFail.{done, fails, more, next_seen, with_front}
 use Rattle.fb_expect.proofs.rules.each_rule.Goals as goal
 

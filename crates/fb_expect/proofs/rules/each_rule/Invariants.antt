@@ -1,6 +1,4 @@
-use Rattle.std.proofs.Common.{◌≡◌, drop, map}
-use Rattle.fb_expect.specs.Drafts.{text_of}
-use Rattle.fb_expect.specs.Lists.{each}
+use Rattle.fb_expect.proofs.lemmas.Common.{◌≡◌, drop, map, text_of, each}
 use Rattle.fb_expect.specs.Needs.{rule_of}
 use Rattle.fb_expect.proofs.lemmas.documents.EachMayFail.{with_front}
 use Rattle.fb_expect.proofs.rules.each_rule.Given as goal

@@ -1,9 +1,6 @@
-use Rattle.std.proofs.Common.{◌≡◌, ◌+◌, List, map, drop, sym, ap, ◌∙◌, subst, arith}
-use Rattle.std.proofs.lemmas.List.{length-map, length-drop}
+use Rattle.fb_expect.proofs.lemmas.Common.{◌≡◌, ◌+◌, List, map, drop, sym, ap, ◌∙◌, subst, arith, length-map, length-drop, Name, each}
 use Rattle.toml.specs.View.{view}
-use Rattle.fb_types.specs.Names.{Name}
 use Rattle.fb_expect.specs.Drafts.{text_in, texts_in}
-use Rattle.fb_expect.specs.Lists.{each}
 use Rattle.fb_expect.specs.Needs.{name_of}
 use Rattle.fb_expect.proofs.lemmas.documents.EachMayFail.{done, fails, more, next_seen, with_front}
 use Rattle.fb_expect.proofs.rules.names_of.Goals as goal

@@ -1,7 +1,6 @@
-use Rattle.std.proofs.Common.{◌≡◌, drop, map}
+use Rattle.fb_expect.proofs.lemmas.Common.{◌≡◌, drop, map, each}
 use Rattle.toml.specs.View.{view}
 use Rattle.fb_expect.specs.Drafts.{texts_in}
-use Rattle.fb_expect.specs.Lists.{each}
 use Rattle.fb_expect.specs.Needs.{name_of}
 use Rattle.fb_expect.proofs.lemmas.documents.EachMayFail.{with_front}
 use Rattle.fb_expect.proofs.rules.names_of.Given as goal

@@ -1,5 +1,4 @@
-use Rattle.std.proofs.Common.{◌≤◌, length, arith}
-use Rattle.std.proofs.lemmas.Result.{err_from_is_err_and}
+use Rattle.fb_types.proofs.Common.{◌≤◌, length, arith, err_from_is_err_and}
 use Rattle.toml.specs.View.{table_view}
 use Rattle.fb_expect.specs.Reading.{document, most_bytes, of_document}
 use Rattle.fb_expect.specs.Refusals.{no_document, or_refuse}

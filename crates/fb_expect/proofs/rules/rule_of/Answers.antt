@@ -1,13 +1,8 @@
-use Rattle.std.proofs.Common.{◌≡◌, refl, sym, ◌∙◌}
-use Rattle.std.specs.Prelude.{Option, Some, option_map}
-use Rattle.fb_expect.specs.Drafts.{RuleText, text_of}
+use Rattle.fb_expect.proofs.lemmas.Common.{◌≡◌, refl, sym, ◌∙◌, Option, Some, option_map, text_of, Text, Pattern, Need, Pairing}
+use Rattle.fb_expect.specs.Drafts.{RuleText}
 use Rattle.fb_expect.specs.Lists.{may}
 use Rattle.fb_expect.specs.Needs.{names_in, need_of, pairing_of, rule_of, with_names}
-use Rattle.fb_expect.specs.Words.{Text}
 use Rattle.fb_expect.specs.Written.{pattern_of}
-use Rattle.fb_expect.specs.declared.pattern.Pattern.{Pattern}
-use Rattle.fb_expect.specs.declared.rule.Need.{Need}
-use Rattle.fb_expect.specs.declared.rule.Pairing.{Pairing}
 use Rattle.fb_expect.proofs.rules.rule_of.Goals as goal
 
 made : (t : RuleText) (name : Text) (n : Need) (p p' : Pattern) (q q' r : Option Pattern) (g : Option Pairing) → name ≡ t.name → need_of t.need ≡ Some n

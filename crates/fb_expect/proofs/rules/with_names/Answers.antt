@@ -1,9 +1,6 @@
-use Rattle.std.proofs.Common.{◌≡◌, List, [], append-nil, sym, ap, ◌∙◌}
-use Rattle.std.specs.Prelude.{Option}
+use Rattle.fb_expect.proofs.lemmas.Common.{◌≡◌, List, [], append-nil, sym, ap, ◌∙◌, Option, Pattern, Pairing}
 use Rattle.fb_expect.specs.Needs.{names_in, with_names}
 use Rattle.fb_expect.specs.declared.pattern.Condition.{Condition}
-use Rattle.fb_expect.specs.declared.pattern.Pattern.{Pattern}
-use Rattle.fb_expect.specs.declared.rule.Pairing.{Pairing}
 use Rattle.fb_expect.proofs.rules.with_names.Goals as goal
 
 none_more : (p : Pattern) → p ≡ with_names [] p

@@ -1,7 +1,6 @@
 use mir.Syntax.{w64}
-use Rattle.std.proofs.Common.{◌≡◌, ◌<◌, ◌≤◌, ◌^◌, ◌&&◌, ◌⊎◌, ℕ, ℤ, pos, negsuc, false, Some, None, unsigned_abs, inl, inr, refl, sym, ap, ◌∙◌, arith}
-use Rattle.std.specs.Prelude.{if◌then◌else◌, nat_le}
-use Rattle.std.proofs.lemmas.Bool.{and_left, and_right, lt-leb}
+use Rattle.fb_types.proofs.Common.{◌≡◌, ◌<◌, ◌≤◌, ◌^◌, ◌&&◌, ◌⊎◌, ℕ, ℤ, pos, negsuc, false, Some, None, unsigned_abs, inl, inr, refl, sym, ap, ◌∙◌, arith, if◌then◌else◌, nat_le, and_right, lt-leb}
+use Rattle.std.proofs.lemmas.Bool.{and_left}
 use Rattle.std.proofs.lemmas.Int.{to_z-of_z}
 use Rattle.fb_expect.specs.Needs.{within}
 use Rattle.fb_expect.proofs.rules.within.Goals as goal

@@ -1,10 +1,6 @@
-use Rattle.std.specs.Prelude.{◌||◌}
-use Rattle.std.proofs.Common.{◌≡◌, ◌++◌, [], ◌∷◌, List, true, false, sym, ◌∙◌}
-use Rattle.std.specs.List.{list_any}
-use Rattle.fb_expect.specs.Events.{Event, event_of}
-use Rattle.fb_expect.specs.Patterns.{has_all, has_kinds, is_at, meets}
+use Rattle.fb_expect.proofs.lemmas.Common.{◌||◌, ◌≡◌, ◌++◌, [], ◌∷◌, List, true, false, sym, ◌∙◌, list_any, Event, event_of, is_at, Pattern}
+use Rattle.fb_expect.specs.Patterns.{has_all, has_kinds, meets}
 use Rattle.fb_expect.specs.Sights.{sight_of}
-use Rattle.fb_expect.specs.declared.pattern.Pattern.{Pattern}
 use Rattle.fb_expect.specs.declared.sight.Sight.{Sight}
 use Rattle.fb_expect.proofs.lemmas.patterns.Sighting.{fitting-stays, lacks-all, lacks-kinds, met-now, met-stays, named-fits, named-stays, nothing-at, nothing-stays, port-more, seen, sight-more}
 use Rattle.fb_expect.proofs.sight.see_one.Goals as goal

@@ -1,5 +1,4 @@
-use Rattle.std.proofs.Common.{ℕ, List, ◌++◌, get_or, sym, ap, ◌∙◌, arith}
-use Rattle.std.proofs.lemmas.List.{take_all}
+use Rattle.fb_types.proofs.Common.{ℕ, List, ◌++◌, get_or, sym, ap, ◌∙◌, arith, take_all}
 use Rattle.fb_expect.specs.Reports.{escape, escape_byte}
 use Rattle.fb_expect.proofs.lemmas.texts.JoinedTexts.{byte-more}
 use Rattle.fb_expect.proofs.tap.escape.Goals as goal

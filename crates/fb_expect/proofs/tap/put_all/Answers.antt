@@ -1,6 +1,4 @@
-use Rattle.std.proofs.Common.{ℕ, Bor, List, ◌++◌, take, sym, ap, ◌∙◌, append_assoc, arith}
-use Rattle.std.proofs.lemmas.List.{take_all}
-use Rattle.fb_expect.specs.Reports.{joined}
+use Rattle.fb_expect.proofs.lemmas.Common.{ℕ, Bor, List, ◌++◌, take, sym, ap, ◌∙◌, append_assoc, arith, take_all, joined}
 use Rattle.fb_expect.proofs.lemmas.texts.JoinedTexts.{one-more, part_at, texts}
 use Rattle.fb_expect.proofs.tap.put_all.Goals as goal
 

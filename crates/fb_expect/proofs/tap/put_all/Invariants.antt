@@ -1,5 +1,4 @@
-use Rattle.std.proofs.Common.{◌≡◌, ◌++◌, map, take}
-use Rattle.fb_expect.specs.Reports.{joined}
+use Rattle.fb_expect.proofs.lemmas.Common.{◌≡◌, ◌++◌, map, take, joined}
 use Rattle.fb_expect.proofs.tap.put_all.Given as goal
 
 abbrev pub invariant-loop-part : goal.invariant-loop-part

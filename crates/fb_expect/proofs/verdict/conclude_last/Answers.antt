@@ -1,5 +1,4 @@
-use Rattle.std.proofs.Common.{ℕ, ◌+◌, ◌<◌, sym, subst}
-use Rattle.std.proofs.lemmas.Bool.{both_ways}
+use Rattle.fb_types.proofs.Common.{ℕ, ◌+◌, ◌<◌, sym, subst, both_ways}
 use Rattle.fb_expect.proofs.lemmas.rules.Verdicts.{last-amid, last-none, last-over}
 use Rattle.fb_expect.proofs.verdict.conclude_last.Goals as goal
 

@@ -1,5 +1,4 @@
-use Rattle.std.proofs.Common.{ℕ, ◌+◌, ◌<◌, sym, subst}
-use Rattle.std.proofs.lemmas.Bool.{both_ways}
+use Rattle.fb_types.proofs.Common.{ℕ, ◌+◌, ◌<◌, sym, subst, both_ways}
 use Rattle.fb_expect.proofs.lemmas.rules.Verdicts.{mark-amid, mark-none, mark-over}
 use Rattle.fb_expect.proofs.verdict.conclude_mark.Goals as goal
 

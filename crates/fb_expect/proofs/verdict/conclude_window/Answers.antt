@@ -1,9 +1,5 @@
-use Rattle.std.proofs.Common.{ℕ, sym, ◌∙◌, subst}
-use Rattle.std.proofs.lemmas.Bool.{both_ways}
-use Rattle.fb_expect.specs.Watching.{Concludes}
+use Rattle.fb_expect.proofs.lemmas.Common.{ℕ, sym, ◌∙◌, subst, both_ways, Concludes, Fewer, Broken}
 use Rattle.fb_expect.specs.declared.rule.Need.TheVariants as need
-use Rattle.fb_expect.specs.declared.verdict.Fault.TheVariants.{Fewer}
-use Rattle.fb_expect.specs.declared.verdict.Verdict.TheVariants.{Broken}
 use Rattle.fb_expect.specs.declared.watch.Watch.TheVariants as watch
 use Rattle.fb_expect.proofs.lemmas.rules.Verdicts.{window-amid, window-fewer, window-holds}
 use Rattle.fb_expect.proofs.verdict.conclude_window.Goals as goal

@@ -1,11 +1,6 @@
-use Rattle.std.proofs.Common.{◌≡◌, ℕ, inl, inr, sym, subst}
-use Rattle.fb_expect.specs.Watching.{Concludes}
-use Rattle.fb_expect.specs.declared.ending.End.{End}
-use Rattle.fb_expect.specs.declared.rule.Need.{Need}
+use Rattle.fb_expect.proofs.lemmas.Common.{◌≡◌, ℕ, inl, inr, sym, subst, Concludes, End, Need, Holds, Watch}
 use Rattle.fb_expect.specs.declared.rule.Need.TheVariants as need
 use Rattle.fb_expect.specs.declared.verdict.Verdict.{Verdict}
-use Rattle.fb_expect.specs.declared.verdict.Verdict.TheVariants.{Holds}
-use Rattle.fb_expect.specs.declared.watch.Watch.{Watch}
 use Rattle.fb_expect.specs.declared.watch.Watch.TheVariants as watch
 use Rattle.fb_expect.proofs.lemmas.rules.Verdicts.{before-left, broken-ends, count-left, never-left, not-left, see-left}
 use Rattle.fb_expect.proofs.verdict.verdict_of.Goals as goal

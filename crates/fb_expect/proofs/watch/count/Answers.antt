@@ -1,8 +1,5 @@
-use Rattle.std.proofs.Common.{sym, subst, inl, inr}
-use Rattle.std.proofs.lemmas.Bool.{both_ways}
-use Rattle.fb_expect.specs.Watching.{Steps}
+use Rattle.fb_expect.proofs.lemmas.Common.{sym, subst, inl, inr, both_ways, Steps, Watch}
 use Rattle.fb_expect.specs.declared.rule.Need.TheVariants as need
-use Rattle.fb_expect.specs.declared.watch.Watch.{Watch}
 use Rattle.fb_expect.specs.declared.watch.Watch.TheVariants as watch
 use Rattle.fb_expect.proofs.lemmas.rules.Stepping.{count-breaks, count-goes}
 use Rattle.fb_expect.proofs.watch.count.Goals as goal

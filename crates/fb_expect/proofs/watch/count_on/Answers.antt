@@ -1,7 +1,5 @@
-use Rattle.std.proofs.Common.{sym, subst, arith}
-use Rattle.std.proofs.lemmas.Bool.{both_ways}
+use Rattle.fb_expect.proofs.lemmas.Common.{sym, subst, arith, both_ways, Watch}
 use Rattle.fb_expect.specs.Watching.{CountsOn}
-use Rattle.fb_expect.specs.declared.watch.Watch.{Watch}
 use Rattle.fb_expect.proofs.lemmas.rules.Stepping.{count-more, count-next, count-none}
 use Rattle.fb_expect.proofs.watch.count_on.Goals as goal
 

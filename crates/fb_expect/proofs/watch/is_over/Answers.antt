@@ -1,6 +1,4 @@
-use Rattle.std.proofs.Common.{Option, ℕ, sym, subst}
-use Rattle.std.specs.Prelude.{◌↔◌, IsTrue, nat_lt}
-use Rattle.std.proofs.lemmas.Bool.{ltb-true, lt-ltb}
+use Rattle.fb_types.proofs.Common.{Option, ℕ, sym, subst, ◌↔◌, IsTrue, nat_lt, ltb-true, lt-ltb}
 use Rattle.fb_expect.specs.Rules.{IsOver}
 use Rattle.fb_expect.proofs.watch.is_over.Goals as goal
 

@@ -1,5 +1,4 @@
-use Rattle.std.proofs.Common.{arith}
-use Rattle.std.proofs.lemmas.Bool.{ltb-true, lt-ltb}
+use Rattle.fb_types.proofs.Common.{arith, ltb-true, lt-ltb}
 use Rattle.fb_expect.proofs.watch.is_past.Goals as goal
 
 pub returns : goal.returns

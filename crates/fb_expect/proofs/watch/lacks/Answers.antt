@@ -1,5 +1,4 @@
-use Rattle.std.proofs.Common.{◌<◌, ◌⊎◌, ℕ, inl, inr, arith}
-use Rattle.std.proofs.lemmas.Bool.{ltb-true, lt-ltb}
+use Rattle.fb_types.proofs.Common.{◌<◌, ◌⊎◌, ℕ, inl, inr, arith, ltb-true, lt-ltb}
 use Rattle.fb_expect.proofs.watch.lacks.Goals as goal
 
 some_asked : (count least : ℕ) {P : Type 0} → (count < least) ⊎ (P × (0 < least)) → 0 < least

@@ -1,7 +1,4 @@
-use Rattle.std.proofs.Common.{subst}
-use Rattle.std.specs.Prelude.{Option}
-use Rattle.fb_expect.specs.declared.watch.Mark.{Mark}
-use Rattle.fb_expect.specs.Watching.{KnowsSee}
+use Rattle.fb_expect.proofs.lemmas.Common.{subst, Option, Mark, KnowsSee}
 use Rattle.fb_expect.proofs.lemmas.rules.RulesOfAfter.{answers, none-waits}
 use Rattle.fb_expect.proofs.lemmas.rules.Stepping.{wait-on}
 use Rattle.fb_expect.proofs.watch.mark_after.Goals as goal

@@ -1,7 +1,5 @@
-use Rattle.std.proofs.Common.{sym, subst, ◌∙◌}
-use Rattle.fb_expect.specs.Watching.{Steps}
+use Rattle.fb_expect.proofs.lemmas.Common.{sym, subst, ◌∙◌, Steps, Watch}
 use Rattle.fb_expect.specs.declared.rule.Need.TheVariants as need
-use Rattle.fb_expect.specs.declared.watch.Watch.{Watch}
 use Rattle.fb_expect.specs.declared.watch.Watch.TheVariants as watch
 use Rattle.std.proofs.lemmas.Bool.{and_cases, and_parts}
 use Rattle.fb_expect.proofs.lemmas.rules.Stepping.{never-breaks, never-goes}

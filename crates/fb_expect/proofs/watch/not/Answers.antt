@@ -1,9 +1,5 @@
-use Rattle.std.proofs.Common.{◌≡◌, false, sym, subst, inl, inr}
-use Rattle.std.specs.Prelude.{◌⊎◌}
-use Rattle.std.proofs.lemmas.Bool.{both_ways}
-use Rattle.fb_expect.specs.Watching.{IsPast, Steps}
+use Rattle.fb_expect.proofs.lemmas.Common.{◌≡◌, false, sym, subst, inl, inr, ◌⊎◌, both_ways, IsPast, Steps, Watch}
 use Rattle.fb_expect.specs.declared.rule.Need.TheVariants as need
-use Rattle.fb_expect.specs.declared.watch.Watch.{Watch}
 use Rattle.fb_expect.specs.declared.watch.Watch.TheVariants as watch
 use Rattle.fb_expect.proofs.lemmas.rules.Stepping.{not-breaks, not-first, not-other}
 use Rattle.fb_expect.proofs.watch.not.Goals as goal

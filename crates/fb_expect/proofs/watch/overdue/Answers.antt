@@ -1,8 +1,5 @@
-use Rattle.std.proofs.Common.{◌+◌, ◌<◌, sym, subst, arith}
-use Rattle.std.specs.Prelude.{Option}
-use Rattle.std.proofs.lemmas.Bool.{both_ways}
+use Rattle.fb_expect.proofs.lemmas.Common.{◌+◌, ◌<◌, sym, subst, arith, Option, both_ways, Mark}
 use Rattle.fb_expect.specs.Watching.{InTime}
-use Rattle.fb_expect.specs.declared.watch.Mark.{Mark}
 use Rattle.fb_expect.proofs.watch.overdue.Goals as goal
 
 pub returns-else-is_past : goal.returns-else-is_past

@@ -1,6 +1,4 @@
-use Rattle.std.proofs.Common.{sym, subst}
-use Rattle.fb_expect.specs.Watching.{Steps}
-use Rattle.fb_expect.specs.declared.rule.Need.{Need}
+use Rattle.fb_expect.proofs.lemmas.Common.{sym, subst, Steps, Need}
 use Rattle.fb_expect.proofs.lemmas.rules.Stepping.{before-broken, count-broken, never-broken, not-broken, see-broken}
 use Rattle.fb_expect.proofs.watch.step.Goals as goal
 

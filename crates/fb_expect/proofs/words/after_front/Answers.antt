@@ -1,7 +1,5 @@
-use Rattle.std.proofs.Common.{ℕ, List}
-use Rattle.std.specs.Prelude.{IfSome, MatchOption, Option, Some, None}
+use Rattle.fb_types.proofs.Common.{ℕ, List, IfSome, MatchOption, Option, Some, None, Decides-eqb}
 use Rattle.std.specs.Borrow.{Bor}
-use Rattle.std.proofs.lemmas.Bool.Decides.{Decides-eqb}
 use Rattle.std.proofs.lemmas.Slice.Eq.{strip_prefix_is}
 use Rattle.fb_expect.proofs.words.after_front.Goals as goal
 

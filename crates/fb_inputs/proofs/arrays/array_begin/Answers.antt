@@ -1,6 +1,4 @@
-use Rattle.std.proofs.Common.{◌==◌, ◌||◌, ℕ, sym, ◌∙◌}
-use Rattle.fb_inputs.specs.Counts.{at}
-use Rattle.fb_inputs.specs.Lines.{is_blank}
+use Rattle.fb_inputs.proofs.lemmas.Common.{◌==◌, ◌||◌, ℕ, sym, ◌∙◌, at, is_blank}
 use Rattle.fb_inputs.proofs.lemmas.positions.Counting.{all_more}
 use Rattle.fb_inputs.proofs.arrays.array_begin.Goals as goal
 

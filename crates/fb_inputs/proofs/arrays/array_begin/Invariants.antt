@@ -1,6 +1,4 @@
-use Rattle.std.proofs.Common.{◌≡◌, ◌≤◌, ◌<◌, ◌==◌, ◌||◌, ℕ, true}
-use Rattle.fb_inputs.specs.Counts.{at}
-use Rattle.fb_inputs.specs.Lines.{is_blank}
+use Rattle.fb_inputs.proofs.lemmas.Common.{◌≡◌, ◌≤◌, ◌<◌, ◌==◌, ◌||◌, ℕ, true, at, is_blank}
 use Rattle.fb_inputs.proofs.arrays.array_begin.Given as goal
 
 abbrev pub invariant-loop-at : goal.invariant-loop-at

@@ -1,6 +1,5 @@
-use Rattle.std.proofs.Common.{refl, sym, ◌∙◌, arith, below_more}
+use Rattle.fb_inputs.proofs.lemmas.Common.{refl, sym, ◌∙◌, arith, below_more, count_below}
 use Rattle.fb_inputs.specs.Arrays.{begins_element, is_free, quote}
-use Rattle.fb_inputs.specs.Counts.{count_below}
 use Rattle.fb_inputs.proofs.lemmas.positions.Counting.{counts, fits}
 use Rattle.fb_inputs.proofs.arrays.element_begin.Goals as goal
 

@@ -1,6 +1,5 @@
-use Rattle.std.proofs.Common.{◌≡◌, ◌≤◌, ◌<◌, ℕ, false}
+use Rattle.fb_inputs.proofs.lemmas.Common.{◌≡◌, ◌≤◌, ◌<◌, ℕ, false, count_below}
 use Rattle.fb_inputs.specs.Arrays.{begins_element, stops}
-use Rattle.fb_inputs.specs.Counts.{count_below}
 use Rattle.fb_inputs.specs.Passing.{IsPassed}
 use Rattle.fb_inputs.proofs.arrays.element_begin.Given as goal
 

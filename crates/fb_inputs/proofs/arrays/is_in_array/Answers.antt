@@ -1,5 +1,4 @@
-use Rattle.std.proofs.Common.{◌+◌}
-use Rattle.std.specs.Prelude.{◌==◌}
+use Rattle.fb_types.proofs.Common.{◌+◌, ◌==◌}
 use Rattle.fb_inputs.proofs.arrays.is_in_array.Goals as goal
 
 pub returns : goal.returns

@@ -1,5 +1,4 @@
-use Rattle.std.proofs.Common.{◌≡◌, ◌||◌, false, not, sym, ◌∙◌}
-use Rattle.std.specs.Prelude.{◌==◌}
+use Rattle.fb_types.proofs.Common.{◌≡◌, ◌||◌, false, not, sym, ◌∙◌, ◌==◌}
 use Rattle.fb_inputs.specs.Arrays.{is_space}
 use Rattle.fb_inputs.proofs.arrays.may_begin.Goals as goal
 

@@ -1,5 +1,4 @@
-use Rattle.std.proofs.Common.{◌≡◌, ◌&&◌, ◌%◌, ℕ, true, not, sym, ap, ◌∙◌}
-use Rattle.std.proofs.lemmas.Bool.{eq-eqb, false≢true, ne_eqb}
+use Rattle.fb_types.proofs.Common.{◌≡◌, ◌&&◌, ◌%◌, ℕ, true, not, sym, ap, ◌∙◌, eq-eqb, false≢true, ne_eqb}
 use Rattle.fb_inputs.specs.Counts.{at, count_below}
 use Rattle.fb_inputs.specs.Records.{begins_line, is_line_end, is_outside, is_quote}
 use Rattle.fb_inputs.proofs.csv_records.begins_record.Goals as goal

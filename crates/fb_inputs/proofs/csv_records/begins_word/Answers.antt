@@ -1,7 +1,4 @@
-use Rattle.std.proofs.Common.{◌≡◌, ◌&&◌, ◌||◌, ◌-◌, false, not, sym}
-use Rattle.std.specs.Prelude.{◌==◌}
-use Rattle.std.proofs.lemmas.Bool.{ne_eqb}
-use Rattle.fb_inputs.specs.Counts.{at}
+use Rattle.fb_inputs.proofs.lemmas.Common.{◌≡◌, ◌&&◌, ◌||◌, ◌-◌, false, not, sym, ◌==◌, ne_eqb, at}
 use Rattle.fb_inputs.proofs.csv_records.begins_word.Goals as goal
 
 pub returns-else-at-eq0 : goal.returns-else-at-eq0

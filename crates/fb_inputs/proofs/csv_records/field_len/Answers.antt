@@ -1,6 +1,4 @@
-use Rattle.std.proofs.Common.{refl, sym, ◌∙◌, arith, below_more}
-use Rattle.fb_inputs.specs.Counts.{count_below}
-use Rattle.fb_inputs.specs.Records.{is_quote}
+use Rattle.fb_inputs.proofs.lemmas.Common.{refl, sym, ◌∙◌, arith, below_more, count_below, is_quote}
 use Rattle.fb_inputs.proofs.lemmas.positions.Counting.{counts, fits}
 use Rattle.fb_inputs.proofs.csv_records.field_len.Goals as goal
 

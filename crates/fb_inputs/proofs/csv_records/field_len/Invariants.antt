@@ -1,6 +1,5 @@
-use Rattle.std.proofs.Common.{◌≡◌, ◌≤◌, ◌<◌, ℕ, false}
-use Rattle.fb_inputs.specs.Counts.{count_below}
-use Rattle.fb_inputs.specs.Records.{ends_field, is_quote}
+use Rattle.fb_inputs.proofs.lemmas.Common.{◌≡◌, ◌≤◌, ◌<◌, ℕ, false, count_below, is_quote}
+use Rattle.fb_inputs.specs.Records.{ends_field}
 use Rattle.fb_inputs.proofs.csv_records.field_len.Given as goal
 
 abbrev pub invariant-loop-at : goal.invariant-loop-at

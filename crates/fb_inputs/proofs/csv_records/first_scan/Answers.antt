@@ -1,5 +1,4 @@
-use Rattle.std.proofs.Common.{refl, arith}
-use Rattle.fb_inputs.specs.Counts.{count_below}
+use Rattle.fb_inputs.proofs.lemmas.Common.{refl, arith, count_below}
 use Rattle.fb_inputs.proofs.csv_records.first_scan.Goals as goal
 
 pub returns : goal.returns

@@ -1,6 +1,5 @@
-use Rattle.std.proofs.Common.{◌≡◌, ◌≤◌}
-use Rattle.fb_inputs.specs.Counts.{count_below}
-use Rattle.fb_inputs.specs.Records.{begins_record, is_quote}
+use Rattle.fb_inputs.proofs.lemmas.Common.{◌≡◌, ◌≤◌, count_below, is_quote}
+use Rattle.fb_inputs.specs.Records.{begins_record}
 use Rattle.fb_inputs.proofs.csv_records.scan_on.Given as goal
 
 abbrev pub invariant-loop-at : goal.invariant-loop-at

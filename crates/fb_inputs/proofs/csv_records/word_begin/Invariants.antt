@@ -1,5 +1,4 @@
-use Rattle.std.proofs.Common.{◌≡◌, ◌≤◌}
-use Rattle.fb_inputs.specs.Counts.{count_below}
+use Rattle.fb_inputs.proofs.lemmas.Common.{◌≡◌, ◌≤◌, count_below}
 use Rattle.fb_inputs.specs.Records.{begins_word}
 use Rattle.fb_inputs.proofs.csv_records.word_begin.Given as goal
 

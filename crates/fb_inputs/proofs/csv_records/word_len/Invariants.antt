@@ -1,5 +1,4 @@
-use Rattle.std.proofs.Common.{◌≡◌, ◌<◌, ◌==◌, ℕ, false}
-use Rattle.fb_inputs.specs.Counts.{at}
+use Rattle.fb_inputs.proofs.lemmas.Common.{◌≡◌, ◌<◌, ◌==◌, ℕ, false, at}
 use Rattle.fb_inputs.proofs.csv_records.word_len.Given as goal
 
 abbrev pub invariant-loop-at : goal.invariant-loop-at

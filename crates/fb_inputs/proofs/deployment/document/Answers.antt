@@ -1,6 +1,4 @@
-use Rattle.std.proofs.Common.{ap, sym, ◌∙◌, arith}
-use Rattle.std.proofs.lemmas.Bool.{true≢false}
-use Rattle.std.specs.Prelude.{is_some}
+use Rattle.fb_types.proofs.Common.{ap, sym, ◌∙◌, arith, true≢false, is_some}
 use Rattle.toml.specs.Errors.{IsMemory}
 use Rattle.toml.specs.View.{table_view}
 use Rattle.fb_inputs.proofs.lemmas.deployments.Outcomes.{is_document, is_no_document}

@@ -1,6 +1,5 @@
-use Rattle.std.proofs.Common.{Option, sym, ap, ◌∙◌}
-use Rattle.fb_inputs.specs.declared.deploy_location.DeployLocation.{DeployLocation}
-use Rattle.fb_inputs.specs.Deployments.{among_links, either, excess, start_of_link}
+use Rattle.fb_inputs.proofs.lemmas.Common.{Option, sym, ap, ◌∙◌, DeployLocation, among_links, start_of_link}
+use Rattle.fb_inputs.specs.Deployments.{either, excess}
 use Rattle.fb_inputs.proofs.lemmas.deployments.Tables.{counts_last, many_links, many_resources, within_counts}
 use Rattle.fb_inputs.proofs.deployment.fault_in.Goals as goal
 

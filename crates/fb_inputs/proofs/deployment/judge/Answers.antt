@@ -1,5 +1,4 @@
-use Rattle.std.proofs.Common.{◌≡◌, false, Option, Ok, length, sym, ap, ◌∙◌}
-use Rattle.fb_inputs.specs.declared.deploy_location.DeployLocation.{DeployLocation}
+use Rattle.fb_inputs.proofs.lemmas.Common.{◌≡◌, false, Option, Ok, length, sym, ap, ◌∙◌, DeployLocation}
 use Rattle.fb_inputs.specs.Deployments.{fault_in, plan_of, unless}
 use Rattle.fb_inputs.proofs.lemmas.deployments.Tables.{judged_by, no_fault, right_counts, within_limits}
 use Rattle.fb_inputs.proofs.deployment.judge.Goals as goal

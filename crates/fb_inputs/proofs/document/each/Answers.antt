@@ -1,6 +1,4 @@
-use Rattle.std.proofs.Common.{◌+◌, map, drop, arith}
-use Rattle.std.proofs.lemmas.List.{length-map, length-drop}
-use Rattle.std.proofs.lemmas.Result.{err_from_is_err_and}
+use Rattle.fb_types.proofs.Common.{◌+◌, map, drop, arith, length-map, length-drop, err_from_is_err_and}
 use Rattle.toml.specs.View.{view}
 use Rattle.fb_inputs.specs.DeployLocations.{element_at, fault_of}
 use Rattle.fb_inputs.specs.declared.deploy_location.TableFault.{TableFault}

@@ -1,7 +1,5 @@
-use Rattle.std.proofs.Common.{◌≡◌, drop, length, map}
+use Rattle.fb_inputs.proofs.lemmas.Common.{◌≡◌, drop, length, map, element_at, all_after, each_at}
 use Rattle.toml.specs.View.{view}
-use Rattle.fb_inputs.specs.DeployLocations.{element_at}
-use Rattle.fb_inputs.specs.Lists.{all_after, each_at}
 use Rattle.fb_inputs.proofs.document.each.Given as goal
 
 abbrev pub invariant-loop-value : goal.invariant-loop-value

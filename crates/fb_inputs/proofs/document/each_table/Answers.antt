@@ -1,12 +1,6 @@
-use Rattle.std.proofs.Common.{◌≡◌, ◌+◌, length, map, drop, Err, arith}
-use Rattle.std.specs.Prelude.{IfSome}
-use Rattle.std.proofs.lemmas.List.{length-map, length-drop}
-use Rattle.std.proofs.lemmas.Result.{err_from_is_err_and}
+use Rattle.fb_inputs.proofs.lemmas.Common.{◌≡◌, ◌+◌, length, map, drop, Err, arith, err_from_is_err_and, of_table, location_of, shape_in, placed, DeployLocation}
+use Rattle.fb_types.proofs.Common.{IfSome, length-map, length-drop}
 use Rattle.toml.specs.View.{view}
-use Rattle.fb_inputs.specs.Documents.{of_table}
-use Rattle.fb_inputs.specs.DeployLocations.{location_of, shape_in}
-use Rattle.fb_inputs.specs.Lists.{placed}
-use Rattle.fb_inputs.specs.declared.deploy_location.DeployLocation.{DeployLocation}
 use Rattle.fb_inputs.proofs.lemmas.Each.{nothing_before, more_in, fails_in, done_in}
 use Rattle.fb_inputs.proofs.lemmas.deployments.TableResults.{if-some, placed-ok, placed-err}
 use Rattle.fb_inputs.proofs.lemmas.deployments.DocumentValues.{next_view}

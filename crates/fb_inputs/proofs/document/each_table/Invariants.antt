@@ -1,8 +1,5 @@
-use Rattle.std.proofs.Common.{◌≡◌, drop, length, map}
+use Rattle.fb_inputs.proofs.lemmas.Common.{◌≡◌, drop, length, map, of_table, shape_in, all_after, each_in}
 use Rattle.toml.specs.View.{view}
-use Rattle.fb_inputs.specs.Documents.{of_table}
-use Rattle.fb_inputs.specs.DeployLocations.{shape_in}
-use Rattle.fb_inputs.specs.Lists.{all_after, each_in}
 use Rattle.fb_inputs.proofs.document.each_table.Given as goal
 
 abbrev pub invariant-loop-value : goal.invariant-loop-value

@@ -1,6 +1,4 @@
-use Rattle.std.proofs.Common.{sym, ap}
-use Rattle.fb_inputs.specs.DeployLocations.{element_at}
-use Rattle.fb_inputs.specs.Refusals.{or_refuse}
+use Rattle.fb_inputs.proofs.lemmas.Common.{sym, ap, element_at, or_refuse}
 use Rattle.fb_inputs.proofs.document.element.Goals as goal
 
 pub returns-in-None : goal.returns-in-None

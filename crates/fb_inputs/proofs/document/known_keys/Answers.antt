@@ -1,5 +1,4 @@
-use Rattle.std.proofs.Common.{◌≡◌, ℕ, if◌then◌else◌, Bool, true, false, Option, Some, None, is_some, refl, sym, ap, ◌∙◌}
-use Rattle.std.specs.Prelude.{option_map}
+use Rattle.fb_types.proofs.Common.{◌≡◌, ℕ, if◌then◌else◌, Bool, true, false, Option, Some, None, is_some, refl, sym, ap, ◌∙◌, option_map}
 use Rattle.toml.specs.View.{view}
 use Rattle.fb_inputs.proofs.document.known_keys.Goals as goal
 

@@ -1,26 +1,17 @@
 -- Where deployments are refused, something is wrong.
-use Rattle.std.proofs.Common.{◌≡◌, ◌==◌, ℕ, zero, suc, ◌+◌, Bool, true, false, cond, leb, ltb, List, [], ◌∷◌, length, Option, Some, None, Ok, Err, unsigned_abs, refl, sym, ap, subst, ◌∙◌, inl, inr, arith}
-use Rattle.std.specs.Prelude.{◌⊎◌, ℤ, pos, Result, slice_get, option_and_then, option_map}
-use Rattle.std.proofs.lemmas.Bool.{eqb-true, leb-false, ltb-true}
+use Rattle.fb_inputs.proofs.lemmas.Common.{◌≡◌, ◌==◌, ℕ, zero, suc, ◌+◌, Bool, true, false, cond, ltb, List, [], ◌∷◌, length, Option, Some, None, Ok, Err, refl, sym, ap, subst, ◌∙◌, inl, inr, arith, pos, Result, slice_get, option_map, LatencyDraft, LinkDraft, DeployLocation, element_at, shape_in, among_links, entries_of_link, first_failing, has_latency, latency_of_link, out_of_order, start_of_link, count_of, of_table, each_at, each_in, and_then, or_refuse, Text}
+use Rattle.fb_types.proofs.Common.{leb, unsigned_abs, ◌⊎◌, ℤ, option_and_then, eqb-true, leb-false, ltb-true, same_name, ResourceEntry}
 use Rattle.toml.specs.Data.{Data, Items, Members, as_array, as_integer, as_table}
-use Rattle.fb_types.specs.Names.{same_name}
-use Rattle.fb_types.specs.declared.deploy.ResourceEntry.{ResourceEntry}
-use Rattle.fb_inputs.specs.declared.document.LatencyDraft.{LatencyDraft}
-use Rattle.fb_inputs.specs.declared.document.LinkDraft.{LinkDraft}
 use Rattle.fb_inputs.specs.declared.document.PlanDraft.{PlanDraft}
 use Rattle.fb_inputs.specs.declared.deploy_location.DeployKey.{DeployKey}
 use Rattle.fb_inputs.specs.declared.deploy_location.DeployKey.TheVariants as key
-use Rattle.fb_inputs.specs.declared.deploy_location.DeployLocation.{DeployLocation}
 use Rattle.fb_inputs.specs.declared.deploy_location.DeployLocation.TheVariants as location
 use Rattle.fb_inputs.specs.declared.deploy_location.TableFault.{TableFault}
 use Rattle.fb_inputs.specs.declared.deploy_location.TableFault.TheVariants as fault
 use Rattle.fb_inputs.specs.DeployFaults.{Has, HasArray, HasAt, IsDocumentFault, IsFaultAt, IsLinkFault, IsNumbersFault, IsRefusedAt, IsResourceFault, IsTableFault, Lacks, tick_before}
-use Rattle.fb_inputs.specs.DeployLocations.{InDocument, InTable, at_top, element_at, shape_in, value_at}
-use Rattle.fb_inputs.specs.Deployments.{IsRefusedThere, among_links, deployment, document, either, entries_of_link, excess, first_failing, follows, has_latency, in_document, judged, latency_of_link, no_document, out_of_order, plan_of, start_of_link, too_long, unless}
-use Rattle.fb_inputs.specs.Documents.{array_of, constant, count_of, draft, known_keys, link, links_in, list_of, name_of, of_kind, of_table, pair, read_at, read_link, read_resource, resource, resources_in, table_of, tables_of}
-use Rattle.fb_inputs.specs.Lists.{each_at, each_in}
-use Rattle.fb_inputs.specs.Refusals.{and_then, or_refuse}
-use Rattle.fb_inputs.specs.Words.{Text}
+use Rattle.fb_inputs.specs.DeployLocations.{InDocument, InTable, at_top, value_at}
+use Rattle.fb_inputs.specs.Deployments.{IsRefusedThere, deployment, document, either, excess, follows, in_document, judged, no_document, plan_of, too_long, unless}
+use Rattle.fb_inputs.specs.Documents.{array_of, constant, draft, known_keys, link, links_in, list_of, name_of, of_kind, pair, read_at, read_link, read_resource, resource, resources_in, table_of, tables_of}
 use Rattle.fb_inputs.proofs.lemmas.stimuli.StimulusFaults.{failed, failed_in, length_in, refusal_of, same_refusal}
 use Rattle.fb_inputs.proofs.lemmas.deployments.Outcomes.{numbered_there}
 

@@ -1,13 +1,11 @@
 -- What a document says of a deployment, by its two keys.
-use Rattle.std.proofs.Common.{◌≡◌, true, false, List, length, ◌==◌, Some, None, Ok, Err, refl}
+use Rattle.fb_inputs.proofs.lemmas.Common.{◌≡◌, true, false, List, length, ◌==◌, Some, None, Ok, Err, refl, DeployLocation, LinkDraft, count_of}
+use Rattle.fb_types.proofs.Common.{ResourceEntry}
 use Rattle.toml.specs.Data.{Data, Members}
-use Rattle.fb_types.specs.declared.deploy.ResourceEntry.{ResourceEntry}
 use Rattle.fb_inputs.specs.declared.deploy_location.DeployKey.TheVariants as key
-use Rattle.fb_inputs.specs.declared.deploy_location.DeployLocation.{DeployLocation}
 use Rattle.fb_inputs.specs.declared.deploy_location.TableFault.TheVariants as fault
-use Rattle.fb_inputs.specs.declared.document.LinkDraft.{LinkDraft}
 use Rattle.fb_inputs.specs.DeployLocations.{at_top, value_at}
-use Rattle.fb_inputs.specs.Documents.{count_of, draft, known_keys, links_in, resource, resources_in, tables_of}
+use Rattle.fb_inputs.specs.Documents.{draft, known_keys, links_in, resource, resources_in, tables_of}
 
 module _ (keys : Members) where
   pub no_resources : None ≡ value_at keys key.Resource → draft keys ≡ Err (at_top (fault.Missing key.Resource))

@@ -1,6 +1,5 @@
 -- The keywords of names are those of declarations.
-use Rattle.std.proofs.Common.{◌≡◌, Bool, true, false, ◌||◌, cond, List, [], ◌∷◌, map, Option, Some, None, is_some, refl, ◌∙◌}
-use Rattle.std.specs.Str.{bytes_eq}
+use Rattle.fb_types.proofs.Common.{◌≡◌, Bool, true, false, ◌||◌, cond, List, [], ◌∷◌, map, Option, Some, None, is_some, refl, ◌∙◌, bytes_eq}
 use Rattle.fb_read.specs.Words.{Table, look_up, or_else, keyword}
 use Rattle.fb_read.specs.Words as declarations
 use Rattle.fb_read.specs.declared.token.Mark.{Mark}

@@ -1,24 +1,20 @@
 -- Documents, and what a function returns for the bytes of a deployment.
-use Rattle.std.proofs.Common.{◌≡◌, ◌≤◌, Bool, true, false, length, Some, None, Ok, Err, IsUtf8, refl, ap, ◌∙◌}
-use Rattle.std.specs.Prelude.{Result, option_map}
-use Rattle.std.specs.Option.{IfSome}
+use Rattle.fb_inputs.proofs.lemmas.Common.{◌≡◌, ◌≤◌, Bool, true, false, length, Some, None, Ok, Err, refl, ap, ◌∙◌, Result, option_map, le-leb, IfSome, DeployLocation, location_of, and_then, Text}
+use Rattle.fb_types.proofs.Common.{lt-leb, Plan}
+use Rattle.std.proofs.Common.{IsUtf8}
 use Rattle.std.specs.Str.{is_utf8}
-use Rattle.std.proofs.lemmas.Bool.{le-leb, lt-leb}
 use Rattle.std.proofs.lemmas.Str.{IsUtf8-from_is_utf8, is_utf8-from_IsUtf8}
 use Rattle.toml.specs.Data.{Members}
 use Rattle.toml.specs.Parse.{parse_document}
-use Rattle.fb_types.specs.declared.deploy.Plan.{Plan}
 use Rattle.fb_inputs.specs.declared.deploy_location.DeployFault.{DeployFault}
 use Rattle.fb_inputs.specs.declared.deploy_location.DeployFault.TheVariants as deploy_fault
-use Rattle.fb_inputs.specs.declared.deploy_location.DeployLocation.{DeployLocation}
 use Rattle.fb_inputs.specs.declared.deploy_location.DeployLocation.TheVariants as location
 use Rattle.fb_inputs.specs.declared.document.PlanDraft.{PlanDraft}
 use Rattle.fb_inputs.specs.declared.error.InputError.{InputError}
-use Rattle.fb_inputs.specs.DeployLocations.{AnswersInDocument, InDocument, number_at, numbered, location_of}
+use Rattle.fb_inputs.specs.DeployLocations.{AnswersInDocument, InDocument, number_at, numbered}
 use Rattle.fb_inputs.specs.Deployments.{IsNoDocument, IsRefusedThere, Locates, deploy_of, deployment, deployment_of, document, in_document, judged, most_bytes, no_document, too_long}
 use Rattle.fb_inputs.specs.Documents.{draft}
-use Rattle.fb_inputs.specs.Refusals.{and_then, number_of}
-use Rattle.fb_inputs.specs.Words.{Text}
+use Rattle.fb_inputs.specs.Refusals.{number_of}
 
 pub is_document : (bytes : Text) (keys : Members) → IsUtf8 bytes → parse_document bytes ≡ Some keys → document bytes ≡ Some keys
 unfolding document

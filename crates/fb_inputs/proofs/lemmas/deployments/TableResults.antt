@@ -1,6 +1,5 @@
 -- What was read of a table, as a result for the document.
-use Rattle.std.proofs.Common.{◌≡◌, ℕ, Option, Some, None, Ok, Err, sym, ap, subst, ◌∙◌}
-use Rattle.std.specs.Prelude.{Result, IfSome, option_map}
+use Rattle.fb_types.proofs.Common.{◌≡◌, ℕ, Option, Some, None, Ok, Err, sym, ap, subst, ◌∙◌, Result, IfSome, option_map}
 use Rattle.fb_inputs.specs.declared.deploy_location.DeployFault.{DeployFault}
 use Rattle.fb_inputs.specs.declared.deploy_location.DeployKey.{DeployKey}
 use Rattle.fb_inputs.specs.declared.deploy_location.TableError.{TableError}

@@ -1,22 +1,12 @@
 -- Tables of latencies that pass the tests.
-use Rattle.std.proofs.Common.{◌≡◌, ◌==◌, ℕ, zero, suc, ◌+◌, ◌^◌, ◌<◌, ◌≤◌, nat_le, nat_lt, ℤ, pos, negsuc, unsigned_abs, Bool, true, false, cond, ltb, List, [], ◌∷◌, ◌++◌, map, length, get_or, Option, Some, None, Ok, refl, sym, ap, ◌∙◌, append_assoc, append-nil, subst, Contains, arith}
+use Rattle.fb_inputs.proofs.lemmas.Common.{◌≡◌, ◌==◌, ℕ, zero, suc, ◌+◌, ◌^◌, ◌<◌, ◌≤◌, nat_le, pos, Bool, true, false, cond, ltb, List, [], ◌∷◌, ◌++◌, map, length, get_or, Option, Some, None, Ok, refl, sym, ap, ◌∙◌, subst, arith, lt-ltb, Result, option_map, LinkDraft, LatencyDraft, DeployLocation, among_links, entries_of_link, entry, first_failing, has_latency, latency_of_link, out_of_order, start_of_link}
+use Rattle.fb_types.proofs.Common.{nat_lt, ℤ, negsuc, unsigned_abs, append_assoc, append-nil, Contains, and_parts, false≢true, true≢false, le-ltb, leb-true, ltb-true, ltb-false, eqb-true, length-map, All-nil, All-cons, All-contains, Link, ResourceEntry, IsWithinLimits, Entry}
 use Rattle.std.specs.List.{All, slice_get}
 use Rattle.std.specs.List.Sorted.{IsStrictlyIncreasing}
-use Rattle.std.proofs.lemmas.Bool.{and_parts, false≢true, true≢false, le-ltb, leb-true, lt-ltb, ltb-true, ltb-false, eqb-true}
-use Rattle.std.specs.Prelude.{Result, option_map}
-use Rattle.std.proofs.lemmas.List.{length-map}
-use Rattle.std.proofs.lemmas.List.Elements.{All-nil, All-cons, All-contains}
-use Rattle.fb_types.specs.declared.deploy.Link.{Link}
-use Rattle.fb_types.specs.declared.deploy.ResourceEntry.{ResourceEntry}
-use Rattle.fb_types.specs.Limits.{IsWithinLimits}
-use Rattle.fb_types.specs.declared.latency.Entry.{Entry}
 use Rattle.fb_types.specs.Latencies.{IsLatencyTable}
-use Rattle.fb_inputs.specs.declared.document.LinkDraft.{LinkDraft}
-use Rattle.fb_inputs.specs.declared.document.LatencyDraft.{LatencyDraft}
-use Rattle.fb_inputs.specs.declared.deploy_location.DeployLocation.{DeployLocation}
 use Rattle.fb_inputs.specs.declared.deploy_location.DeployLocation.TheVariants as location
 use Rattle.fb_inputs.specs.declared.document.PlanDraft.{PlanDraft}
-use Rattle.fb_inputs.specs.Deployments.{among_links, either, entries_of_link, entry, excess, fault_in, first_failing, follows, has_latency, is_after, is_latency, is_short, is_zero, judged, latency_of_link, link_of, out_of_order, plan_of, start_of_link, unless}
+use Rattle.fb_inputs.specs.Deployments.{either, excess, fault_in, follows, is_after, is_latency, is_short, is_zero, judged, link_of, plan_of, unless}
 
 latency_within : (z : ℤ) → is_latency z ≡ true → (1 ≤ unsigned_abs z) × (unsigned_abs z ≤ 10 ^ 6)
 latency_within (pos n) h =

@@ -1,10 +1,7 @@
 -- Loops that look for the first element of which something does not hold.
-use Rattle.std.proofs.Common.{◌≡◌, ℕ, ◌+◌, ◌<◌, ◌≤◌, Bool, true, false, List, drop, get_or, length, Option, Some, None, unsigned_abs, refl, sym, ◌∙◌, ap}
-use Rattle.std.proofs.lemmas.List.{at_drop_more, drop_all}
-use Rattle.fb_inputs.specs.declared.document.LatencyDraft.{LatencyDraft}
-use Rattle.fb_inputs.specs.declared.document.LinkDraft.{LinkDraft}
-use Rattle.fb_inputs.specs.declared.deploy_location.DeployLocation.{DeployLocation}
-use Rattle.fb_inputs.specs.Deployments.{among_links, first_failing, follows, out_of_order}
+use Rattle.fb_inputs.proofs.lemmas.Common.{◌≡◌, ℕ, ◌+◌, ◌<◌, ◌≤◌, Bool, true, false, List, drop, get_or, length, Option, Some, None, refl, sym, ◌∙◌, ap, LatencyDraft, LinkDraft, DeployLocation, among_links, first_failing, out_of_order}
+use Rattle.fb_types.proofs.Common.{unsigned_abs, at_drop_more, drop_all}
+use Rattle.fb_inputs.specs.Deployments.{follows}
 use Rattle.fb_inputs.proofs.lemmas.Each.{dropped}
 
 -- ---- a test of each element

@@ -1,8 +1,6 @@
 -- Spans near positions, one after another.
-use Rattle.std.proofs.Common.{◌≡◌, ℕ, ◌+◌, ◌<◌, List, [], ◌∷◌, ◌++◌, get_or, length, take, sym, subst}
-use Rattle.std.proofs.lemmas.List.{take_more}
+use Rattle.fb_types.proofs.Common.{◌≡◌, ℕ, ◌+◌, ◌<◌, List, [], ◌∷◌, ◌++◌, get_or, length, take, sym, subst, take_more, AllZip}
 use Rattle.std.proofs.lemmas.Slice.Zip.{all_zipped_more}
-use Rattle.std.specs.List.{AllZip}
 use Rattle.fb_read.specs.declared.token.Span.{Span}
 use Rattle.fb_inputs.specs.Counts.{Text}
 use Rattle.fb_inputs.specs.NearSpans.{IsNearInStimuli}

@@ -1,11 +1,8 @@
 -- The fields of a record of three.
-use Rattle.std.proofs.Common.{◌≡◌, ℕ, suc, eqb, false, ◌==◌, cond, [], ◌∷◌, length, Some, None, refl, sym, ap, arith}
-use Rattle.std.proofs.lemmas.Bool.Decides.{nat_tests}
-use Rattle.std.proofs.lemmas.Option.{same_Some}
+use Rattle.fb_inputs.proofs.lemmas.Common.{◌≡◌, ℕ, suc, false, ◌==◌, cond, [], ◌∷◌, length, Some, None, refl, sym, ap, arith, Text, Row}
+use Rattle.fb_types.proofs.Common.{eqb, nat_tests, same_Some}
 use Rattle.csv.specs.Records.{field_at}
 use Rattle.fb_inputs.specs.Lists.{◌>>=◌}
-use Rattle.fb_inputs.specs.Words.{Text}
-use Rattle.fb_inputs.specs.Rows.{Row}
 use Rattle.fb_inputs.specs.Stimuli.{three}
 
 longer : (n : ℕ) → eqb (suc (suc (suc (suc n)))) 3 ≡ false

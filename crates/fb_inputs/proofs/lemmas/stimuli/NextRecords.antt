@@ -1,20 +1,16 @@
 -- What a reader returns next, appended to what was found.
-use Rattle.std.proofs.Common.{◌≡◌, ℕ, Bool, true, false, List, length, Some, Result, Ok, Err, Bor, refl, sym, ◌∙◌}
-use Rattle.std.specs.Option.{IfSome}
-use Rattle.std.proofs.lemmas.Option.{same_Some}
+use Rattle.fb_inputs.proofs.lemmas.Common.{◌≡◌, ℕ, Bool, true, false, List, length, Some, Result, Ok, Err, Bor, refl, sym, ◌∙◌, IfSome, Text, stimuli_from, all_after, IsAt, rows_from}
+use Rattle.fb_types.proofs.Common.{same_Some, Stimulus}
 use Rattle.csv.specs.Reading.{FlexibleStep, RowStep, strip_bom}
 use Rattle.csv.specs.Records.{fields_of}
 use Rattle.csv.specs.declared.error.Error.{Error}
 use Rattle.csv.specs.declared.iter.ByteRecordsIntoIter.{ByteRecordsIntoIter}
 use Rattle.csv.specs.declared.record.ByteRecord.{ByteRecord}
-use Rattle.fb_types.specs.declared.deploy.Stimulus.{Stimulus}
 use Rattle.fb_inputs.specs.declared.location.StimuliFault.{StimuliFault}
 use Rattle.fb_inputs.specs.declared.location.StimuliFault.TheVariants.{Memory}
 use Rattle.fb_inputs.specs.StimuliLocations.{location_of}
-use Rattle.fb_inputs.specs.Words.{Text}
-use Rattle.fb_inputs.specs.Stimuli.{is_head, stimuli_from}
-use Rattle.fb_inputs.specs.Lists.{all_after}
-use Rattle.fb_inputs.specs.Readers.{IsAdded, IsAt, IsOpened, IsRead, Opens, heading_of, known, rows_from}
+use Rattle.fb_inputs.specs.Stimuli.{is_head}
+use Rattle.fb_inputs.specs.Readers.{IsAdded, IsOpened, IsRead, Opens, heading_of, known}
 use Rattle.fb_inputs.proofs.lemmas.stimuli.Records.{at_more}
 use Rattle.fb_inputs.proofs.lemmas.stimuli.Rows.{next_found, next_refused, start_read}
 

@@ -1,8 +1,6 @@
 -- The records that a reader has left.
-use Rattle.std.proofs.Common.{◌≡◌, ◌==◌, ℕ, zero, suc, ◌+◌, ◌<◌, ◌≤◌, Bool, true, false, cond, List, [], ◌∷◌, ◌++◌, length, Option, Some, None, Bor, refl, sym, ap, ◌∙◌, arith, inl, inr}
-use Rattle.std.specs.Option.{IfSome}
-use Rattle.std.specs.Prelude.{Result, Ok, Err, IfErr}
-use Rattle.std.proofs.lemmas.Bool.{false≢true}
+use Rattle.fb_inputs.proofs.lemmas.Common.{◌≡◌, ◌==◌, ℕ, zero, suc, ◌+◌, ◌<◌, ◌≤◌, Bool, true, false, cond, List, [], ◌∷◌, ◌++◌, length, Option, Some, None, Bor, refl, sym, ap, ◌∙◌, arith, inl, inr, Result, Ok, Err, IfSome, IsAt, rows_from, Text, Row}
+use Rattle.fb_types.proofs.Common.{IfErr, false≢true}
 use Rattle.csv.specs.Machine.{Read, ends_at_end, next_record, step, is_end, fields_after, field_after, in_field, start_field, start_record, after_end, ends_with}
 use Rattle.csv.specs.Reading.{ExplainsRead, Reached, ReadRecord, RowStep, default_config, error_kind, records_from, records_next, source_of}
 use Rattle.csv.specs.declared.error.Error.{Error}
@@ -18,9 +16,7 @@ use Rattle.csv.specs.declared.reader.Reader.{Reader}
 use Rattle.csv.specs.declared.reader.Trim.TheVariants as trim
 use Rattle.csv.specs.declared.record.ByteRecord.{ByteRecord}
 use Rattle.csv.proofs.ReadFacts.{rows-end, rows-more}
-use Rattle.fb_inputs.specs.Readers.{IsAt, IsOpened, known, rows_from}
-use Rattle.fb_inputs.specs.Words.{Text}
-use Rattle.fb_inputs.specs.Rows.{Row}
+use Rattle.fb_inputs.specs.Readers.{IsOpened, known}
 use Rattle.fb_inputs.specs.Stimuli.{IsOfReading}
 
 -- ---- A record takes at least one byte, and the reader is between records after it.

@@ -1,18 +1,12 @@
 -- The stimulus of a row, by what is read of its fields.
-use Rattle.std.proofs.Common.{◌≡◌, Bool, true, false, not, ◌+◌, ◌<◌, ◌≤◌, ◌^◌, ℕ, min, List, [], ◌∷◌, Option, Some, None, Ok, Err, refl, sym, ◌∙◌, arith}
-use Rattle.std.specs.Prelude.{option_map, nat_le}
-use Rattle.std.proofs.lemmas.Bool.{le-leb, leb-false, leb-true, le-ltb, lt-leb, lt-ltb, not-false, not-true}
-use Rattle.std.proofs.lemmas.Option.{same_Some}
-use Rattle.fb_types.specs.declared.deploy.Setting.{Setting}
-use Rattle.fb_inputs.specs.declared.location.RowFault.{RowFault}
+use Rattle.fb_inputs.proofs.lemmas.Common.{◌≡◌, Bool, true, false, not, ◌+◌, ◌<◌, ◌≤◌, ◌^◌, ℕ, List, [], ◌∷◌, Option, Some, None, Ok, Err, refl, sym, ◌∙◌, arith, option_map, nat_le, le-leb, lt-ltb, RowFault, each_at, value_at, setting, stimulus, Text}
+use Rattle.fb_types.proofs.Common.{min, leb-false, leb-true, le-ltb, lt-leb, not-true, same_Some, Setting}
+use Rattle.std.proofs.lemmas.Bool.{not-false}
 use Rattle.fb_inputs.specs.declared.location.RowFault.TheVariants as fault
 use Rattle.fb_inputs.specs.declared.row.Draft.{Draft}
-use Rattle.fb_inputs.specs.Lists.{each_at}
 use Rattle.fb_inputs.specs.Numbers.{natural}
-use Rattle.fb_inputs.specs.StimuliLocations.{value_at}
-use Rattle.fb_inputs.specs.Rows.{draft, setting}
-use Rattle.fb_inputs.specs.Stimuli.{limited, most_rows, stimulus, three}
-use Rattle.fb_inputs.specs.Words.{Text}
+use Rattle.fb_inputs.specs.Rows.{draft}
+use Rattle.fb_inputs.specs.Stimuli.{limited, most_rows, three}
 
 -- a tick as it is read: the number, or one more than the greatest tick
 abbrev read_tick : Option ℕ → Option ℕ

@@ -1,27 +1,19 @@
 -- The stimuli of rows, read one after another.
-use Rattle.std.proofs.Common.{◌≡◌, ℕ, ◌+◌, ◌≤◌, true, false, List, [], ◌∷◌, ◌++◌, length, Option, Some, None, Ok, Err, refl, sym, ap, ◌∙◌, append-nil}
-use Rattle.std.specs.Option.{IfSome}
-use Rattle.std.specs.Prelude.{option_map}
-use Rattle.std.proofs.lemmas.List.{length_push}
-use Rattle.std.proofs.lemmas.Bool.{le-leb}
+use Rattle.fb_inputs.proofs.lemmas.Common.{◌≡◌, ℕ, ◌+◌, ◌≤◌, true, false, List, [], ◌∷◌, ◌++◌, length, Option, Some, None, Ok, Err, refl, sym, ap, ◌∙◌, option_map, length_push, le-leb, IfSome, all_after, fault_of, RowFault, Row, Text, stimulus, stimuli_from, rows_from}
+use Rattle.fb_types.proofs.Common.{append-nil, Stimulus}
 use Rattle.csv.specs.Reading.{default_config, records, strip_bom}
 use Rattle.csv.specs.declared.parser.State.{State}
 use Rattle.csv.specs.declared.parser.State.TheVariants as st
-use Rattle.fb_types.specs.declared.deploy.Stimulus.{Stimulus}
 use Rattle.fb_inputs.specs.declared.location.StimuliFault.{StimuliFault}
 use Rattle.fb_inputs.specs.declared.location.StimuliLocation.{StimuliLocation}
 use Rattle.fb_inputs.specs.declared.location.StimuliLocation.TheVariants.{Heading}
-use Rattle.fb_inputs.specs.Lists.{all_after}
-use Rattle.fb_inputs.specs.StimuliLocations.{InRow, Located, at_row, fault_of, number_at, numbered, location_of, row_at}
+use Rattle.fb_inputs.specs.StimuliLocations.{InRow, Located, at_row, number_at, numbered, location_of, row_at}
 use Rattle.fb_inputs.specs.Refusals.{number_of}
 use Rattle.fb_inputs.specs.declared.error.InputError.{InputError}
 use Rattle.fb_inputs.specs.declared.location.RowError.{RowError}
-use Rattle.fb_inputs.specs.declared.location.RowFault.{RowFault}
 use Rattle.fb_inputs.proofs.lemmas.Each.{nothing_before, regroup_at}
-use Rattle.fb_inputs.specs.Rows.{Row}
-use Rattle.fb_inputs.specs.Words.{Text}
-use Rattle.fb_inputs.specs.Stimuli.{stimulus, stimulus_at, stimuli_from, stimuli, stimuli_in, stimuli_of, is_head, most_bytes}
-use Rattle.fb_inputs.specs.Readers.{HasOtherHead, rows_from}
+use Rattle.fb_inputs.specs.Stimuli.{stimulus_at, stimuli, stimuli_in, stimuli_of, is_head, most_bytes}
+use Rattle.fb_inputs.specs.Readers.{HasOtherHead}
 
 abbrev found_all : List Stimulus → Located (List Stimulus)
 found_all all = Ok all

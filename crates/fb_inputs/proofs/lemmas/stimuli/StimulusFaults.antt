@@ -1,24 +1,17 @@
 -- Where stimuli are refused, something is wrong.
-use Rattle.std.proofs.Common.{◌≡◌, ℕ, zero, suc, ◌+◌, Bool, true, false, cond, leb, ltb, List, [], ◌∷◌, length, Option, Some, None, Ok, Err, refl, sym, ap, subst, ◌∙◌, arith}
-use Rattle.std.specs.Prelude.{Result, slice_get, ◌^◌, option_map}
-use Rattle.std.proofs.lemmas.Bool.{leb-false, ltb-false}
+use Rattle.fb_inputs.proofs.lemmas.Common.{◌≡◌, ℕ, zero, suc, ◌+◌, Bool, true, false, cond, ltb, List, [], ◌∷◌, length, Option, Some, None, Ok, Err, refl, sym, ap, subst, ◌∙◌, arith, Result, slice_get, ◌^◌, option_map, RowFault, each_at, each_in, placed, value_at, and_then, or_refuse, Row, setting, stimulus, stimuli_from, Text}
+use Rattle.fb_types.proofs.Common.{leb, leb-false, ltb-false, Setting, Stimulus}
 use Rattle.csv.specs.Reading.{records, default_config, strip_bom}
-use Rattle.fb_types.specs.declared.deploy.Setting.{Setting}
-use Rattle.fb_types.specs.declared.deploy.Stimulus.{Stimulus}
 use Rattle.fb_inputs.specs.declared.row.Draft.{Draft}
 use Rattle.fb_inputs.specs.declared.row.Word.{Word}
-use Rattle.fb_inputs.specs.declared.location.RowFault.{RowFault}
 use Rattle.fb_inputs.specs.declared.location.RowFault.TheVariants as fault
 use Rattle.fb_inputs.specs.declared.location.StimuliLocation.{StimuliLocation}
 use Rattle.fb_inputs.specs.declared.location.StimuliLocation.TheVariants as location
 use Rattle.fb_inputs.specs.Faults.{IsFaultAt, IsRefusedAt, IsRowFault}
-use Rattle.fb_inputs.specs.Lists.{each_at, each_in, placed}
 use Rattle.fb_inputs.specs.Numbers.{natural}
-use Rattle.fb_inputs.specs.StimuliLocations.{InRow, at_row, row_at, value_at, word_at}
-use Rattle.fb_inputs.specs.Refusals.{and_then, or_refuse}
-use Rattle.fb_inputs.specs.Rows.{Row, draft, event, setting, word, words}
-use Rattle.fb_inputs.specs.Stimuli.{is_head, limited, most_bytes, most_rows, stimulus, stimulus_at, stimuli, stimuli_from, stimuli_in, three}
-use Rattle.fb_inputs.specs.Words.{Text}
+use Rattle.fb_inputs.specs.StimuliLocations.{InRow, at_row, row_at, word_at}
+use Rattle.fb_inputs.specs.Rows.{draft, event, word, words}
+use Rattle.fb_inputs.specs.Stimuli.{is_head, limited, most_bytes, most_rows, stimulus_at, stimuli, stimuli_in, three}
 
 -- ---- lists of which each element may fail
 

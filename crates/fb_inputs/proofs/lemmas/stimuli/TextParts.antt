@@ -1,9 +1,6 @@
 -- The parts of a text.
-use Rattle.std.proofs.Common.{◌≡◌, ℕ, ◌+◌, ◌-◌, ◌<◌, ◌≤◌, ltb, nat_eq, true, false, length, get_or, take, drop, Some, None, refl, arith}
-use Rattle.std.proofs.lemmas.List.{take_all, length-drop}
-use Rattle.std.proofs.lemmas.Bool.{lt-ltb}
+use Rattle.fb_types.proofs.Common.{◌≡◌, ℕ, ◌+◌, ◌-◌, ◌<◌, ◌≤◌, ltb, nat_eq, true, false, length, get_or, take, drop, Some, None, refl, arith, take_all, length-drop, lt-ltb, position_or_len}
 use Rattle.std.proofs.lemmas.List.Sums.{position_or_len_is}
-use Rattle.std.specs.List.{position_or_len}
 use Rattle.fb_inputs.specs.Words.{Text, parted}
 
 -- the text from an offset on, as a slice has it

@@ -1,6 +1,5 @@
-use Rattle.std.proofs.Common.{refl, arith}
-use Rattle.fb_inputs.specs.Counts.{count_below}
-use Rattle.fb_inputs.specs.Lines.{begins_table, is_first}
+use Rattle.fb_inputs.proofs.lemmas.Common.{refl, arith, count_below, is_first}
+use Rattle.fb_inputs.specs.Lines.{begins_table}
 use Rattle.fb_inputs.proofs.lemmas.positions.Counting.{counts, first_more, fits}
 use Rattle.fb_inputs.proofs.lines.heading_begin.Goals as goal
 

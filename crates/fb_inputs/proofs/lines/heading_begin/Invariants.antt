@@ -1,6 +1,5 @@
-use Rattle.std.proofs.Common.{◌≡◌, ◌≤◌}
-use Rattle.fb_inputs.specs.Counts.{count_below}
-use Rattle.fb_inputs.specs.Lines.{begins_table, is_first}
+use Rattle.fb_inputs.proofs.lemmas.Common.{◌≡◌, ◌≤◌, count_below, is_first}
+use Rattle.fb_inputs.specs.Lines.{begins_table}
 use Rattle.fb_inputs.proofs.lines.heading_begin.Given as goal
 
 abbrev pub invariant-loop-at : goal.invariant-loop-at

@@ -1,7 +1,4 @@
-use Rattle.std.proofs.Common.{◌≡◌, ◌||◌, ◌&&◌, true, false, sym, ◌∙◌}
-use Rattle.std.specs.Prelude.{◌==◌}
-use Rattle.std.proofs.lemmas.Bool.{ne_eqb}
-use Rattle.fb_inputs.specs.Lines.{is_blank}
+use Rattle.fb_inputs.proofs.lemmas.Common.{◌≡◌, ◌||◌, ◌&&◌, true, false, sym, ◌∙◌, ◌==◌, ne_eqb, is_blank}
 use Rattle.fb_inputs.proofs.lines.is_first_after.Goals as goal
 
 pub returns-then-is_blank : goal.returns-then-is_blank

@@ -1,6 +1,4 @@
-use Rattle.std.proofs.Common.{◌≡◌, ◌==◌, ◌&&◌, ◌||◌, ◌<◌, ◌≤◌, ◌+◌, ℕ, Bool, true, false, drop, get_or, length, sym, ap, ◌∙◌}
-use Rattle.std.proofs.lemmas.Bool.{ne_eqb}
-use Rattle.std.proofs.lemmas.List.{at_drop_all, at_drop_more}
+use Rattle.fb_types.proofs.Common.{◌≡◌, ◌==◌, ◌&&◌, ◌||◌, ◌<◌, ◌≤◌, ◌+◌, ℕ, Bool, true, false, drop, get_or, length, sym, ap, ◌∙◌, ne_eqb, at_drop_all, at_drop_more}
 use Rattle.fb_inputs.specs.Counts.{Text}
 use Rattle.fb_inputs.specs.Lines.{is_blank, is_given}
 use Rattle.fb_inputs.proofs.lines.is_given.Goals as goal

@@ -1,5 +1,4 @@
-use Rattle.std.proofs.Common.{refl}
-use Rattle.fb_inputs.specs.Lines.{is_first}
+use Rattle.fb_inputs.proofs.lemmas.Common.{refl, is_first}
 use Rattle.fb_inputs.proofs.near_deployment.key_span.Goals as goal
 
 pub key_from-requires-clause-known : goal.key_from-requires-clause-known

@@ -1,6 +1,4 @@
-use Rattle.std.proofs.Common.{List, subst, arith}
-use Rattle.std.specs.List.{AllZip}
-use Rattle.std.proofs.lemmas.List.{take_all}
+use Rattle.fb_types.proofs.Common.{List, subst, arith, AllZip, take_all}
 use Rattle.fb_inputs.specs.NearSpans.{IsNearInStimuli}
 use Rattle.fb_inputs.specs.declared.position.StimuliPosition.{StimuliPosition}
 use Rattle.fb_inputs.proofs.lemmas.positions.NearestSpans.{one_near}

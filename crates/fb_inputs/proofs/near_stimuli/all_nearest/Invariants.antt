@@ -1,5 +1,4 @@
-use Rattle.std.proofs.Common.{◌≡◌, ◌≤◌, length, take, vec_len, vec_capacity}
-use Rattle.std.specs.List.{AllZip}
+use Rattle.fb_types.proofs.Common.{◌≡◌, ◌≤◌, length, take, vec_len, vec_capacity, AllZip}
 use Rattle.fb_inputs.specs.NearSpans.{IsNearInStimuli, IsSearch}
 use Rattle.fb_inputs.proofs.near_stimuli.all_nearest.Given as goal
 

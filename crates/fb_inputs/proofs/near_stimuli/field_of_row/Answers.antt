@@ -1,5 +1,4 @@
-use Rattle.std.proofs.Common.{ℕ, subst}
-use Rattle.std.specs.Prelude.{IfOk, IfSome}
+use Rattle.fb_types.proofs.Common.{ℕ, subst, IfOk, IfSome}
 use Rattle.fb_inputs.specs.NearSpans.{IsField}
 use Rattle.fb_inputs.proofs.near_stimuli.field_of_row.Goals as goal
 

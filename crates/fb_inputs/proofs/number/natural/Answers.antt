@@ -1,6 +1,4 @@
-use Rattle.std.proofs.Common.{◌≡◌, ◌+◌, ◌*◌, ◌≤◌, ℕ, true, get_or, take, sym, ap, ◌∙◌, arith}
-use Rattle.std.specs.Char.{is_ascii_digit}
-use Rattle.std.specs.List.{fold}
+use Rattle.fb_types.proofs.Common.{◌≡◌, ◌+◌, ◌*◌, ◌≤◌, ℕ, true, get_or, take, sym, ap, ◌∙◌, arith, is_ascii_digit, fold}
 use Rattle.fb_inputs.specs.Numbers.{with_digit}
 use Rattle.fb_inputs.proofs.lemmas.stimuli.Digits.{all_read, digit_within, digits_on, limit_passed, no_digit, none_read, not_digits, one_digit, read_on}
 use Rattle.fb_inputs.proofs.number.natural.Goals.{then-value-most, else-value-most}

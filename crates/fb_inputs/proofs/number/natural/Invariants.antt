@@ -1,6 +1,4 @@
-use Rattle.std.proofs.Common.{◌≡◌, ◌+◌, min, take, drop}
-use Rattle.std.specs.List.{fold, list_all}
-use Rattle.std.specs.Char.{is_ascii_digit}
+use Rattle.fb_types.proofs.Common.{◌≡◌, ◌+◌, min, take, drop, fold, list_all, is_ascii_digit}
 use Rattle.fb_inputs.specs.Numbers.{with_digit}
 use Rattle.fb_inputs.proofs.number.natural.Given as goal
 

@@ -1,5 +1,4 @@
-use Rattle.std.proofs.Common.{arith}
-use Rattle.std.proofs.lemmas.Int.{ints}
+use Rattle.fb_types.proofs.Common.{arith, ints}
 use Rattle.fb_inputs.proofs.number.negative.Goals as goal
 
 pub returns-else-magnitude-eq0 : goal.returns-else-magnitude-eq0

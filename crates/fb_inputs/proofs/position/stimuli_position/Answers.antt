@@ -1,6 +1,5 @@
-use Rattle.std.proofs.Common.{sym, ap, ◌∙◌, inl, inr}
+use Rattle.fb_inputs.proofs.lemmas.Common.{sym, ap, ◌∙◌, inl, inr, RowFault}
 use Rattle.fb_inputs.specs.Positions.{stimuli_position}
-use Rattle.fb_inputs.specs.declared.location.RowFault.{RowFault}
 use Rattle.fb_inputs.specs.declared.location.StimuliLocation.TheVariants as stimuli
 use Rattle.fb_inputs.proofs.position.stimuli_position.Goals as goal
 

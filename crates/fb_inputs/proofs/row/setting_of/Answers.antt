@@ -1,7 +1,4 @@
-use Rattle.std.proofs.Common.{◌≡◌, ℕ, Err, None, refl}
-use Rattle.fb_inputs.specs.StimuliLocations.{value_at}
-use Rattle.fb_inputs.specs.Refusals.{or_refuse}
-use Rattle.fb_inputs.specs.Rows.{setting}
+use Rattle.fb_inputs.proofs.lemmas.Common.{◌≡◌, ℕ, Err, None, refl, value_at, or_refuse, setting}
 use Rattle.fb_inputs.specs.declared.row.Word.{Word}
 use Rattle.fb_inputs.proofs.row.setting_of.Goals as goal
 

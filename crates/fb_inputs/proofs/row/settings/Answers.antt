@@ -1,10 +1,6 @@
-use Rattle.std.proofs.Common.{ap, arith, length}
-use Rattle.std.proofs.lemmas.Result.{err_from_is_err_and}
+use Rattle.fb_inputs.proofs.lemmas.Common.{ap, arith, length, err_from_is_err_and, fault_of, value_at, setting, RowFault}
 use Rattle.fb_inputs.proofs.lemmas.Each.{more_at, fails_at, not_refused, done_at}
 use Rattle.fb_inputs.proofs.lemmas.deployments.TableResults.{if-some}
-use Rattle.fb_inputs.specs.StimuliLocations.{fault_of, value_at}
-use Rattle.fb_inputs.specs.Rows.{setting}
-use Rattle.fb_inputs.specs.declared.location.RowFault.{RowFault}
 use Rattle.fb_inputs.proofs.row.settings.Goals as goal
 
 pub returns-in_err-setting : goal.returns-in_err-setting

@@ -1,7 +1,4 @@
-use Rattle.std.proofs.Common.{◌≡◌, length}
-use Rattle.fb_inputs.specs.Lists.{all_after, each_at}
-use Rattle.fb_inputs.specs.StimuliLocations.{value_at}
-use Rattle.fb_inputs.specs.Rows.{setting}
+use Rattle.fb_inputs.proofs.lemmas.Common.{◌≡◌, length, all_after, each_at, value_at, setting}
 use Rattle.fb_inputs.proofs.row.settings.Given as goal
 
 abbrev pub invariant-loop-word : goal.invariant-loop-word

@@ -1,14 +1,10 @@
-use Rattle.std.proofs.Common.{◌≡◌, not, ◌==◌, true, false, List, [], length, nat_eq, drop, sym, ap, ◌∙◌, arith, refl, rules, tests}
-use Rattle.std.specs.List.{filter, slice_split}
-use Rattle.std.proofs.lemmas.List.{length_push, drop_all}
-use Rattle.std.proofs.lemmas.Result.{err_from_is_err_and}
+use Rattle.fb_inputs.proofs.lemmas.Common.{◌≡◌, not, ◌==◌, true, false, List, [], length, nat_eq, drop, sym, ap, ◌∙◌, arith, refl, length_push, err_from_is_err_and, all_after, each_at, fault_of, Text, RowFault}
+use Rattle.fb_types.proofs.Common.{rules, filter, slice_split, drop_all}
+use Rattle.std.proofs.Common.{tests}
 use Rattle.std.proofs.lemmas.Iterator.Splits.{YieldsList-from_slice_split}
 use Rattle.std.proofs.lemmas.Iterator.Consumers.{YieldsList-turn, YieldsList-end}
-use Rattle.fb_inputs.specs.Lists.{all_after, each_at}
-use Rattle.fb_inputs.specs.StimuliLocations.{fault_of, word_at}
+use Rattle.fb_inputs.specs.StimuliLocations.{word_at}
 use Rattle.fb_inputs.specs.Rows.{word, words}
-use Rattle.fb_inputs.specs.Words.{Text}
-use Rattle.fb_inputs.specs.declared.location.RowFault.{RowFault}
 use Rattle.fb_inputs.proofs.lemmas.Each.{nothing_before, more_at, fails_at, not_refused, done_at, filter_skips, filter_takes}
 use Rattle.fb_inputs.proofs.lemmas.deployments.TableResults.{if-some}
 use Rattle.fb_inputs.proofs.row.words.Goals as goal

@@ -1,5 +1,4 @@
-use Rattle.std.proofs.Common.{◌≡◌, length, drop, nat_eq, not, ◌==◌}
-use Rattle.std.specs.List.{filter, slice_split}
+use Rattle.fb_types.proofs.Common.{◌≡◌, length, drop, nat_eq, not, ◌==◌, filter, slice_split}
 use Rattle.fb_inputs.specs.Lists.{all_after, each_at}
 use Rattle.fb_inputs.specs.StimuliLocations.{word_at}
 use Rattle.fb_inputs.specs.Rows.{word, words}

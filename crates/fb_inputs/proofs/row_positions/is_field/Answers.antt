@@ -1,7 +1,5 @@
-use Rattle.std.proofs.Common.{◌≡◌, Bor, List, ℕ, Option, Some, option_map, sym, subst, ap, ◌∙◌}
+use Rattle.fb_types.proofs.Common.{◌≡◌, Bor, List, ℕ, Option, Some, option_map, sym, subst, ap, ◌∙◌, Decides-eqb, slice_eq-Decides}
 use Rattle.std.specs.Prelude.{IsSomeAnd}
-use Rattle.std.proofs.lemmas.Bool.Decides.{Decides-eqb}
-use Rattle.std.proofs.lemmas.Slice.Eq.{slice_eq-Decides}
 use Rattle.csv.specs.Records.{field_at, fields_of}
 use Rattle.csv.specs.declared.record.ByteRecord.{ByteRecord}
 use Rattle.fb_inputs.proofs.row_positions.is_field.Goals as goal

@@ -1,8 +1,6 @@
-use Rattle.std.proofs.Common.{ℕ, List, refl, sym, ◌∙◌, ap, zero-add}
-use Rattle.std.specs.Prelude.{slice_get}
+use Rattle.fb_inputs.proofs.lemmas.Common.{ℕ, List, refl, sym, ◌∙◌, ap, slice_get, rows_from, Row}
+use Rattle.std.proofs.Common.{zero-add}
 use Rattle.csv.specs.Reading.{default_config, records, strip_bom}
-use Rattle.fb_inputs.specs.Readers.{rows_from}
-use Rattle.fb_inputs.specs.Rows.{Row}
 use Rattle.fb_inputs.proofs.lemmas.stimuli.Rows.{start_read}
 use Rattle.fb_inputs.proofs.row_positions.reader_of.Goals as goal
 

@@ -1,9 +1,7 @@
-use Rattle.std.proofs.Common.{List, refl, subst, sym, ◌≡◌}
-use Rattle.std.specs.Prelude.{IfOk, option_map, slice_get}
+use Rattle.fb_inputs.proofs.lemmas.Common.{List, refl, subst, sym, ◌≡◌, option_map, slice_get, rows_from, Row}
+use Rattle.fb_types.proofs.Common.{IfOk}
 use Rattle.csv.specs.Reading.{strip_bom}
 use Rattle.csv.specs.Records.{fields_of}
-use Rattle.fb_inputs.specs.Readers.{rows_from}
-use Rattle.fb_inputs.specs.Rows.{Row}
 use Rattle.fb_inputs.proofs.lemmas.stimuli.Rows.{start_read}
 use Rattle.fb_inputs.proofs.row_positions.record_at.Goals as goal
 

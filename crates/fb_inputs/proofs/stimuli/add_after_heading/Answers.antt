@@ -1,6 +1,5 @@
-use Rattle.std.proofs.lemmas.Result.{err_from_is_err_and}
+use Rattle.fb_inputs.proofs.lemmas.Common.{err_from_is_err_and, rows_from}
 use Rattle.csv.specs.Reading.{strip_bom}
-use Rattle.fb_inputs.specs.Readers.{rows_from}
 use Rattle.fb_inputs.proofs.lemmas.stimuli.Rows.{no_heading, headed, empty}
 use Rattle.fb_inputs.proofs.stimuli.add_after_heading.Goals as goal
 

@@ -1,8 +1,4 @@
-use Rattle.std.proofs.Common.{refl, ap, ◌∙◌, length}
-use Rattle.std.proofs.lemmas.Result.{err_from_is_err_and}
-use Rattle.fb_inputs.specs.Lists.{all_after}
-use Rattle.fb_inputs.specs.Stimuli.{stimuli_from}
-use Rattle.fb_inputs.specs.Readers.{rows_from}
+use Rattle.fb_inputs.proofs.lemmas.Common.{refl, ap, ◌∙◌, length, err_from_is_err_and, all_after, stimuli_from, rows_from}
 use Rattle.fb_inputs.proofs.lemmas.stimuli.Records.{at_end, failed_reading}
 use Rattle.fb_inputs.proofs.lemmas.stimuli.Rows.{none_left}
 use Rattle.fb_inputs.proofs.lemmas.stimuli.NextRecords.{one_left, turn_more, turn_refused}

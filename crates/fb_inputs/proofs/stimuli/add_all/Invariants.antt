@@ -1,8 +1,4 @@
-use Rattle.std.proofs.Common.{◌≡◌, length}
-use Rattle.fb_inputs.specs.Words.{Text}
-use Rattle.fb_inputs.specs.Lists.{all_after}
-use Rattle.fb_inputs.specs.Stimuli.{stimuli_from}
-use Rattle.fb_inputs.specs.Readers.{IsAt, rows_from}
+use Rattle.fb_inputs.proofs.lemmas.Common.{◌≡◌, length, Text, all_after, stimuli_from, IsAt, rows_from}
 use Rattle.fb_inputs.proofs.stimuli.add_all.Given as goal
 
 abbrev pub invariant-loop-read : goal.invariant-loop-read

@@ -1,6 +1,4 @@
-use Rattle.std.proofs.Common.{◌≡◌, ◌^◌, ℕ, not, sym, ap, ◌∙◌, inl, inr}
-use Rattle.std.specs.Prelude.{nat_le, nat_lt}
-use Rattle.std.proofs.lemmas.Bool.{cases_lt, le-leb, le-ltb, lt-leb, lt-ltb}
+use Rattle.fb_types.proofs.Common.{◌≡◌, ◌^◌, ℕ, not, sym, ap, ◌∙◌, inl, inr, nat_le, nat_lt, cases_lt, le-leb, le-ltb, lt-leb, lt-ltb}
 use Rattle.fb_inputs.proofs.stimuli.is_late.Goals as goal
 
 above : (a b : ℕ) → nat_lt a b ≡ not (nat_le b a)

@@ -1,5 +1,4 @@
-use Rattle.std.proofs.Common.{arith}
-use Rattle.std.proofs.lemmas.Result.{err_from_is_err_and}
+use Rattle.fb_types.proofs.Common.{arith, err_from_is_err_and}
 use Rattle.fb_inputs.proofs.stimuli.locate_stimuli.Goals as goal
 
 pub add_after_heading-read-requires : goal.add_after_heading-read-requires

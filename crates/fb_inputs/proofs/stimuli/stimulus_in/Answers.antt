@@ -1,7 +1,6 @@
-use Rattle.std.proofs.Common.{List, ℕ, sym, subst}
+use Rattle.fb_inputs.proofs.lemmas.Common.{List, ℕ, sym, subst, stimulus}
 use Rattle.csv.specs.Records.{fields_of}
 use Rattle.fb_inputs.specs.StimuliLocations.{AnswersInRow}
-use Rattle.fb_inputs.specs.Stimuli.{stimulus}
 use Rattle.fb_inputs.proofs.lemmas.stimuli.Fields.{three_row}
 use Rattle.fb_inputs.proofs.stimuli.stimulus_in.Goals as goal
 

@@ -1,6 +1,4 @@
-use Rattle.std.proofs.lemmas.Result.{err_from_is_err_and}
-use Rattle.fb_inputs.specs.StimuliLocations.{fault_of}
-use Rattle.fb_inputs.specs.declared.location.RowFault.{RowFault}
+use Rattle.fb_inputs.proofs.lemmas.Common.{err_from_is_err_and, fault_of, RowFault}
 use Rattle.fb_inputs.proofs.lemmas.stimuli.RowStimuli.{accepted, is_not_over, is_over, no_tick, refused_draft, refused_settings, too_late, too_many}
 use Rattle.fb_inputs.proofs.lemmas.deployments.TableResults.{if-some}
 use Rattle.fb_inputs.proofs.stimuli.stimulus_of.Goals as goal

@@ -1,6 +1,4 @@
-use Rattle.std.proofs.Common.{◌≡◌, ◌+◌, map, ap, ◌∙◌, length, arith}
-use Rattle.std.proofs.lemmas.List.{length_push}
-use Rattle.fb_inputs.specs.Deployments.{entries_of_link, entry, latency_of_link, start_of_link}
+use Rattle.fb_inputs.proofs.lemmas.Common.{◌≡◌, ◌+◌, map, ap, ◌∙◌, length, arith, length_push, entries_of_link, entry, latency_of_link, start_of_link}
 use Rattle.fb_inputs.proofs.lemmas.deployments.Tables.{latency_table, passes_first, passes_rest, links_more, links_done, right_count, right_latencies, right_starts}
 use Rattle.fb_inputs.proofs.table.links_of.Goals as goal
 

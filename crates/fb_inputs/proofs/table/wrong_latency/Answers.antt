@@ -1,6 +1,4 @@
-use Rattle.std.proofs.Common.{pos, sym, ◌∙◌}
-use Rattle.fb_inputs.specs.declared.document.LatencyDraft.{LatencyDraft}
-use Rattle.fb_inputs.specs.Deployments.{has_latency}
+use Rattle.fb_inputs.proofs.lemmas.Common.{pos, sym, ◌∙◌, LatencyDraft, has_latency}
 use Rattle.fb_inputs.proofs.lemmas.deployments.Tested.{failing_done, failing_here, failing_on}
 use Rattle.fb_inputs.proofs.table.wrong_latency.Goals as goal
 

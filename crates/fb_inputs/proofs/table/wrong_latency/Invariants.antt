@@ -1,5 +1,4 @@
-use Rattle.std.proofs.Common.{◌≡◌, drop}
-use Rattle.fb_inputs.specs.Deployments.{first_failing, has_latency}
+use Rattle.fb_inputs.proofs.lemmas.Common.{◌≡◌, drop, first_failing, has_latency}
 use Rattle.fb_inputs.proofs.table.wrong_latency.Given as goal
 
 abbrev pub invariant-loop-entry : goal.invariant-loop-entry

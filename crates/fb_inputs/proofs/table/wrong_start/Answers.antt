@@ -1,5 +1,4 @@
-use Rattle.std.proofs.Common.{pos, sym, ◌∙◌}
-use Rattle.fb_inputs.specs.declared.document.LatencyDraft.{LatencyDraft}
+use Rattle.fb_inputs.proofs.lemmas.Common.{pos, sym, ◌∙◌, LatencyDraft}
 use Rattle.fb_inputs.proofs.lemmas.deployments.Tested.{order_done, order_here, order_on}
 use Rattle.fb_inputs.proofs.table.wrong_start.Goals as goal
 

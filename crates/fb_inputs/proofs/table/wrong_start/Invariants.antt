@@ -1,5 +1,4 @@
-use Rattle.std.proofs.Common.{◌≡◌, drop, None}
-use Rattle.fb_inputs.specs.Deployments.{out_of_order}
+use Rattle.fb_inputs.proofs.lemmas.Common.{◌≡◌, drop, None, out_of_order}
 use Rattle.fb_inputs.proofs.table.wrong_start.Given as goal
 
 abbrev pub invariant-loop-entry : goal.invariant-loop-entry

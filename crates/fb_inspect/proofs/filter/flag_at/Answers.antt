@@ -1,6 +1,4 @@
-use Rattle.std.proofs.Common.{Bool, Option, ap, false, sym}
-use Rattle.std.specs.Prelude.{unwrap_or}
-use Rattle.std.proofs.lemmas.Option.{slice_get_past}
+use Rattle.fb_types.proofs.Common.{Bool, Option, ap, false, sym, unwrap_or, slice_get_past}
 use Rattle.fb_inspect.proofs.lemmas.reactions.Placed.{item_is}
 use Rattle.fb_inspect.proofs.filter.flag_at.Goals as goal
 

@@ -1,7 +1,5 @@
-use Rattle.std.proofs.Common.{ℕ, List, refl, subst}
-use Rattle.fb_types.specs.Headline.{system_of}
+use Rattle.fb_inspect.proofs.lemmas.Common.{ℕ, List, refl, subst, system_of, IsNext}
 use Rattle.fb_wave.proofs.lemmas.Forming.{ShowsForm}
-use Rattle.fb_inspect.specs.walk.Lines.{IsNext}
 use Rattle.fb_inspect.proofs.insides.first_reading.Goals as goal
 
 pub returns-clause-read : goal.returns-clause-read

@@ -1,10 +1,5 @@
-use Rattle.std.proofs.Common.{◌≡◌, List, ℕ, Bool, true, refl, sym, subst}
-use Rattle.std.specs.Prelude.{IfSome}
-use Rattle.fb_types.specs.Headline.{system_of}
-use Rattle.fb_coverage.specs.declared.marks.Marks.{Marks}
-use Rattle.fb_wave.specs.CutOff.{is_unended}
+use Rattle.fb_inspect.proofs.lemmas.Common.{◌≡◌, List, ℕ, Bool, true, refl, sym, subst, IfSome, system_of, Marks, is_unended, BeginsText}
 use Rattle.fb_inspect.specs.Covering.{IsCoveredBy, IsCutCovered}
-use Rattle.fb_inspect.specs.walk.Standing.{BeginsText}
 use Rattle.fb_inspect.proofs.lemmas.walk.Ended.{front_none, severed_covered, severed_none, severed_part, severed_shown, shown_cut}
 use Rattle.fb_wave.proofs.lemmas.Handing.{on_ok}
 use Rattle.fb_inspect.proofs.lemmas.results.Joined.{err_joined, fails_joined, ok_joined, ok_passed, on_joined}

@@ -1,5 +1,4 @@
-use Rattle.std.proofs.lemmas.Result.{err_from_is_err_and}
-use Rattle.fb_types.specs.Headline.{system_of}
+use Rattle.fb_types.proofs.Common.{err_from_is_err_and, system_of}
 use Rattle.fb_inspect.proofs.lemmas.walk.Ended.{front_none}
 use Rattle.fb_inspect.proofs.lemmas.reactions.Placed.{err_any}
 use Rattle.fb_inspect.specs.Selections.{selection_of}

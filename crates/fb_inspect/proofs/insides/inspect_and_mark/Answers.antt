@@ -1,13 +1,8 @@
-use Rattle.std.proofs.Common.{subst, ◌∙◌}
-use Rattle.std.specs.Prelude.{IfErr, IfOk, IfSome, OnErr, OnOk, ◌≤◌}
-use Rattle.fb_types.specs.Headline.{Inputs, system_of}
+use Rattle.fb_inspect.proofs.lemmas.Common.{subst, ◌∙◌, IfErr, IfOk, IfSome, OnErr, OnOk, ◌≤◌, Inputs, system_of, HasNames, most, IsWrongAt, OfRefusal}
 use Rattle.fb_inspect.specs.Covering.{Covers}
 use Rattle.fb_inspect.specs.Inspections.{IsShownBy, ShowsFront}
 use Rattle.fb_inspect.proofs.lemmas.walk.Ended.{front_none}
 use Rattle.fb_inspect.proofs.lemmas.reactions.Placed.{err_any, of_table}
-use Rattle.fb_wave.specs.Named.{HasNames}
-use Rattle.fb_inspect.specs.walk.Looks.{most}
-use Rattle.fb_inspect.specs.Refusals.{IsWrongAt, OfRefusal}
 use Rattle.fb_inspect.proofs.lemmas.results.Joined.{ok_passed}
 use Rattle.fb_inspect.proofs.lemmas.results.Refused.{none_passed}
 use Rattle.fb_inspect.specs.Selections.{selection_of}

@@ -1,14 +1,5 @@
-use Rattle.std.proofs.Common.{◌≡◌, List, ℕ, false, refl, sym, ap, subst}
-use Rattle.std.specs.Prelude.{IfSome}
-use Rattle.std.specs.Io.KnownBytes.{Consumes}
-use Rattle.std.proofs.lemmas.Result.{err_from_is_err_and}
-use Rattle.fb_types.specs.Headline.{system_of}
-use Rattle.fb_coverage.specs.declared.marks.Marks.{Marks}
-use Rattle.fb_wave.specs.Copying.{IsFirstLine}
+use Rattle.fb_inspect.proofs.lemmas.Common.{◌≡◌, List, ℕ, false, refl, sym, ap, subst, IfSome, Consumes, err_from_is_err_and, system_of, Marks, IsFirstLine, IsWrongAt, BeginsText, Reading}
 use Rattle.fb_inspect.specs.Covering.{Covers}
-use Rattle.fb_inspect.specs.Refusals.{IsWrongAt}
-use Rattle.fb_inspect.specs.walk.Standing.{BeginsText}
-use Rattle.fb_inspect.specs.declared.walk.reading.Reading.{Reading}
 use Rattle.fb_inspect.proofs.lemmas.walk.Ended.{covers_of, front_none, starts_of}
 use Rattle.fb_inspect.proofs.lemmas.results.Errors.{of_known}
 use Rattle.fb_inspect.proofs.lemmas.walk.UpToRefusal.{text_begins}

@@ -1,5 +1,4 @@
-use Rattle.std.proofs.Common.{◌≡◌, false, take}
-use Rattle.std.specs.List.{list_any}
+use Rattle.fb_types.proofs.Common.{◌≡◌, false, take, list_any}
 use Rattle.fb_inspect.specs.Selections.{is_within}
 use Rattle.fb_inspect.proofs.insides.is_one_of.Given as goal
 

@@ -1,6 +1,4 @@
-use Rattle.std.proofs.Common.{ℕ, Bool}
-use Rattle.fb_types.specs.Headline.{system_of}
-use Rattle.fb_types.specs.Numbers.{path_at}
+use Rattle.fb_types.proofs.Common.{ℕ, Bool, system_of, path_at}
 use Rattle.fb_inspect.specs.Selections.{is_kept}
 use Rattle.fb_inspect.proofs.lemmas.walk.Opened.{counted_more, shown_more}
 use Rattle.fb_inspect.proofs.insides.shown_of.Goals as goal

@@ -1,6 +1,4 @@
-use Rattle.std.proofs.Common.{◌≡◌, ◌<◌, ℕ, length}
-use Rattle.fb_types.specs.Headline.{system_of}
-use Rattle.fb_types.specs.Numbers.{path_at}
+use Rattle.fb_types.proofs.Common.{◌≡◌, ◌<◌, ℕ, length, system_of, path_at}
 use Rattle.fb_inspect.specs.Selections.{is_kept}
 use Rattle.fb_inspect.specs.walk.Walking.{flag_at}
 use Rattle.fb_inspect.proofs.insides.shown_of.Given as goal

@@ -1,6 +1,4 @@
-use Rattle.std.proofs.Common.{◌∙◌}
-use Rattle.fb_types.specs.Headline.{stimuli_of, system_of}
-use Rattle.fb_types.specs.Simulation.{ending_of}
+use Rattle.fb_types.proofs.Common.{◌∙◌, stimuli_of, system_of, ending_of}
 use Rattle.fb_inspect.proofs.lemmas.runs.BeginsSo.{run_begins}
 use Rattle.fb_inspect.proofs.lemmas.runs.Followed.{run_row}
 use Rattle.fb_inspect.proofs.lemmas.runs.RunContinues.{run_goes_on}

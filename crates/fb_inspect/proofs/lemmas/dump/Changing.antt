@@ -1,26 +1,12 @@
 -- What changes inside a block, and what is kept of it.
-use Rattle.std.proofs.Common.{◌≡◌, ◌<◌, ℕ, Bool, cond, List, [], ◌∷◌, ◌++◌, length, get_or, map, Option, Some, None, refl, sym, ap, subst, ◌∙◌, append_assoc, append-nil, arith}
-use Rattle.std.specs.Prelude.{IfNone, codes, decimal, slice_get}
-use Rattle.std.specs.List.{list_any}
-use Rattle.std.proofs.lemmas.Bool.{false_from_ne_true}
-use Rattle.std.proofs.lemmas.List.{get_or-map}
-use Rattle.fb_types.specs.Blocks.{Kind, Basic, Composite, Event}
-use Rattle.fb_types.specs.Names.{Name, Path, same_name}
-use Rattle.fb_types.specs.Numbers.{path_at}
-use Rattle.fb_types.specs.Systems.{System}
-use Rattle.fb_types.specs.Values.{Values, same_value}
-use Rattle.fb_types.specs.declared.value.Value.{Value}
-use Rattle.fb_types.specs.declared.library.BasicType.{BasicType}
+use Rattle.fb_inspect.proofs.lemmas.Common.{◌≡◌, ◌<◌, ℕ, Bool, cond, List, [], ◌∷◌, ◌++◌, length, get_or, map, Option, Some, None, refl, sym, ap, subst, ◌∙◌, append_assoc, append-nil, arith, IfNone, codes, decimal, slice_get, list_any, false_from_ne_true, Kind, Basic, Composite, Event, Name, Path, same_name, path_at, System, Values, Value, BasicType, is_loss, Look, Seen, Taking, AreKept, IsKept, Chart, Remembered, internal_change, internal_code}
+use Rattle.fb_types.proofs.Common.{get_or-map}
+use Rattle.fb_types.specs.Values.{same_value}
 use Rattle.fb_types.proofs.lemmas.lists.ByIndex.{element_at}
 use Rattle.fb_types.proofs.lemmas.names.NameLaws.{same_from_same_name, same_name-itself}
-use Rattle.fb_inspect.specs.walk.Chains.{is_loss}
 use Rattle.fb_wave.specs.Scopes.{declares}
-use Rattle.fb_inspect.specs.walk.Looks.{Look, Seen, Taking}
-use Rattle.fb_inspect.specs.walk.Walking.{AreKept, IsKept}
-use Rattle.fb_inspect.specs.declared.walk.blocks.Chart.{Chart}
-use Rattle.fb_inspect.specs.declared.walk.blocks.Remembered.{Remembered}
 use Rattle.fb_inspect.specs.declared.walk.blocks.Remembered.TheVariants as kept
-use Rattle.fb_inspect.specs.dump.Inner.{chart_changes, internal_change, internal_code, lost_code, of_chart, state_change, state_changed, state_code, taking_changes, value_by}
+use Rattle.fb_inspect.specs.dump.Inner.{chart_changes, lost_code, of_chart, state_change, state_changed, state_code, taking_changes, value_by}
 use Rattle.fb_inspect.specs.dump.Saved.{IsBefore, IsSaved}
 use Rattle.fb_inspect.specs.declared.dump.before.Before.{Before}
 

@@ -1,47 +1,19 @@
 -- One step of a dump: what was taken was shown, or the trace is over.
-use Rattle.std.proofs.Common.{◌≡◌, ◌<◌, ◌≤◌, ◌⊎◌, ℕ, ◌+◌, true, List, [], ◌∷◌, ◌++◌, length, map, Option, Some, None, refl, sym, ◌∙◌, ap, subst, inl, inr, append_assoc}
-use Rattle.std.specs.Prelude.{All, IfSome}
-use Rattle.std.specs.Io.KnownBytes.{Consumes}
-use Rattle.std.proofs.lemmas.List.{map-append}
-use Rattle.std.proofs.lemmas.List.Elements.{All-append, All-cons}
-use Rattle.fb_types.specs.Numbers.{line_of, path_at}
+use Rattle.fb_inspect.proofs.lemmas.Common.{◌≡◌, ◌<◌, ◌≤◌, ◌⊎◌, ℕ, ◌+◌, true, List, [], ◌∷◌, ◌++◌, length, map, Option, Some, None, refl, sym, ◌∙◌, ap, subst, inl, inr, append_assoc, All, IfSome, Consumes, map-append, All-append, All-cons, line_of, path_at, System, line_text, lines_text, BlockType, Form, Line, Reason, Steps, ending_of, Outcome, last_tick, BelongsTo, IsLast, IsLineOf, AreTaken, AreTakings, EndsSo, last_look, limited, most, IsNext, IsTaking, Look, Taking, opening_look, IsLineAt, AreCutOff, AreKept, IsCutAfter, IsLookOf, WalkTakes, Ahead, Next, Step, Walk, Shows, Taken, lines_of, takings_of, HasWaved, Trail}
 use Rattle.fb_types.specs.States as model
-use Rattle.fb_types.specs.Systems.{System}
-use Rattle.fb_types.specs.Text.{line_text, lines_text}
-use Rattle.fb_types.specs.declared.library.BlockType.{BlockType}
-use Rattle.fb_types.specs.declared.run.Form.{Form}
-use Rattle.fb_types.specs.declared.run.Line.{Line}
-use Rattle.fb_types.specs.declared.value.Reason.{Reason}
-use Rattle.fb_types.specs.declared.value.Reason.TheVariants.{Steps}
-use Rattle.fb_trace.specs.End.{ending_of}
-use Rattle.fb_trace.specs.declared.last.Outcome.{Outcome}
 use Rattle.fb_wave.specs.Copying.{IsAfter}
-use Rattle.fb_wave.specs.Dumps.{last_tick}
-use Rattle.fb_system.specs.Lines.{BelongsTo}
-use Rattle.fb_wave.specs.Lines.{IsLast, IsLineOf}
-use Rattle.fb_inspect.specs.Inspections.{AreTaken, AreTakings, EndsSo, last_look, limited, most}
-use Rattle.fb_inspect.specs.walk.Lines.{IsNext}
-use Rattle.fb_inspect.specs.walk.Looks.{IsTaking, Look, Taking, opening_look}
-use Rattle.fb_inspect.specs.walk.Moves.{IsLineAt}
 use Rattle.fb_inspect.specs.walk.Stepping.{EndsAfter, EndsHere, GoesOn, GoesWith, IsStopped, IsUsedUp, StepGoes, stop_at}
-use Rattle.fb_inspect.specs.walk.Walking.{AreCutOff, AreKept, IsCutAfter, IsLookOf, WalkTakes}
-use Rattle.fb_inspect.specs.declared.walk.ahead.Ahead.{Ahead}
-use Rattle.fb_inspect.specs.declared.walk.reading.Next.{Next}
 use Rattle.fb_inspect.specs.declared.walk.reading.Next.TheVariants as next
-use Rattle.fb_inspect.specs.declared.walk.Step.{Step}
 use Rattle.fb_inspect.specs.declared.walk.Step.TheVariants as step
-use Rattle.fb_inspect.specs.declared.walk.Walk.{Walk}
 use Rattle.fb_inspect.proofs.lemmas.walk.WalkedTakings.{chain_more, each_of, rise_more}
 use Rattle.fb_inspect.proofs.lemmas.lines.Moving.{lines-append}
 use Rattle.fb_inspect.proofs.lemmas.walk.Stepped.{ends_between, ends_stopped, ends_used, last_limited}
-use Rattle.fb_inspect.specs.dump.Dumping.{IsPortDump, Shows, ShowsUntaken}
+use Rattle.fb_inspect.specs.dump.Dumping.{IsPortDump, ShowsUntaken}
 use Rattle.fb_inspect.specs.dump.Saved.{IsBefore}
-use Rattle.fb_inspect.specs.dump.StateDumps.{Taken, lines_of, takings_of}
-use Rattle.fb_inspect.specs.dump.Waving.{CanShow, HasGoneOn, HasWaved, IsCut, IsEventKept, IsNextKept, IsWhole, ShowsTaking, TakingGoes}
+use Rattle.fb_inspect.specs.dump.Waving.{CanShow, HasGoneOn, IsCut, IsEventKept, IsNextKept, IsWhole, ShowsTaking, TakingGoes}
 use Rattle.fb_inspect.specs.declared.dump.before.Before.{Before}
 use Rattle.fb_inspect.specs.declared.dump.state_wave.EventAt.{EventAt}
 use Rattle.fb_inspect.specs.declared.dump.state_wave.StateWave.{StateWave}
-use Rattle.fb_inspect.specs.declared.walk.trail.Trail.{Trail}
 use Rattle.fb_inspect.proofs.lemmas.dump.Growing.{look-one, takings-one}
 use Rattle.fb_inspect.proofs.lemmas.marks.Losses.{lost_is}
 use Rattle.fb_inspect.proofs.lemmas.dump.Waved.{last_is, lines_belong, passed_are, stops_more, waved_more}

@@ -1,39 +1,19 @@
 -- How a dump ends, and what the writer got where it does not.
-use Rattle.std.proofs.Common.{◌≡◌, ◌<◌, ◌+◌, ℕ, true, List, [], ◌∷◌, ◌++◌, length, map, Option, Some, None, refl, sym, ◌∙◌, ap, subst, inl, inr, append_assoc, append-nil, arith}
-use Rattle.std.specs.Prelude.{IfSome}
-use Rattle.std.specs.Io.KnownBytes.{Appends, Consumes, IsAtEnd, prepend_known}
-use Rattle.std.proofs.KnownBytes.{Appends-nil, Appends-trans}
-use Rattle.std.proofs.lemmas.List.{map-append}
-use Rattle.std.proofs.lemmas.List.Elements.{All-nil}
-use Rattle.fb_types.specs.Numbers.{line_of}
-use Rattle.fb_types.specs.Simulation.{AtHorizon}
+use Rattle.fb_inspect.proofs.lemmas.Common.{◌≡◌, ◌<◌, ◌+◌, ℕ, true, List, [], ◌∷◌, ◌++◌, length, map, Option, Some, None, refl, sym, ◌∙◌, ap, subst, inl, inr, append_assoc, append-nil, arith, IfSome, Appends, Consumes, Appends-nil, Appends-trans, map-append, All-nil, line_of, AtHorizon, System, lines_text, Form, Line, ending_of, Outcome, IsFirstLine, is_unended, last_tick, IsLineOf, all_lines, taking_lines, IsWrongAt, Page, Reading, Shows, Taken, lines_of, takings_of, HasWaved}
+use Rattle.fb_types.proofs.Common.{IsAtEnd, trace_text}
+use Rattle.std.specs.Io.KnownBytes.{prepend_known}
 use Rattle.fb_types.specs.States as model
-use Rattle.fb_types.specs.Systems.{System}
-use Rattle.fb_types.specs.Text.{lines_text, trace_text}
-use Rattle.fb_types.specs.declared.run.Form.{Form}
-use Rattle.fb_types.specs.declared.run.Line.{Line}
-use Rattle.fb_trace.specs.End.{ending_of}
-use Rattle.fb_trace.specs.declared.last.Outcome.{Outcome}
-use Rattle.fb_wave.specs.Copying.{IsFirstLine}
-use Rattle.fb_wave.specs.CutOff.{is_unended}
-use Rattle.fb_wave.specs.Dumps.{last_tick}
-use Rattle.fb_wave.specs.Lines.{IsLineOf}
 use Rattle.fb_inspect.proofs.lemmas.walk.Stepped.{none_ahead}
 use Rattle.fb_wave.specs.declared.truncation.Cut.{Cut}
 use Rattle.fb_wave.specs.declared.truncation.Cut.TheVariants as cut
 use Rattle.fb_wave.proofs.lemmas.Copied.{ends_after}
-use Rattle.fb_inspect.specs.Inspections.{all_lines}
-use Rattle.fb_inspect.specs.walk.Looks.{taking_lines}
 use Rattle.fb_wave.specs.Pages.{IsCutShort}
-use Rattle.fb_inspect.specs.Refusals.{IsWrongAt}
-use Rattle.fb_wave.specs.declared.page.Page.{Page}
 use Rattle.fb_wave.specs.declared.page.PageFault.{PageFault}
-use Rattle.fb_inspect.specs.declared.walk.reading.Reading.{Reading}
 use Rattle.fb_inspect.proofs.lemmas.lines.Severing.{cut_whole, on_some}
-use Rattle.fb_inspect.specs.dump.Dumping.{Shows, ShowsUntaken}
-use Rattle.fb_inspect.specs.dump.StateDumps.{HaveLines, Taken, cut_dump, lines_of, state_dump, takings_of}
+use Rattle.fb_inspect.specs.dump.Dumping.{ShowsUntaken}
+use Rattle.fb_inspect.specs.dump.StateDumps.{HaveLines, cut_dump, state_dump}
 use Rattle.fb_inspect.specs.StateWaves.{IsCutStateWave, IsShownWith, IsStateWave, WritesFront}
-use Rattle.fb_inspect.specs.dump.Waving.{Begins, Finishes, FinishesCut, HasWaved, IsCut, IsWhole, SendsCutPart, SendsPart}
+use Rattle.fb_inspect.specs.dump.Waving.{Begins, Finishes, FinishesCut, IsCut, IsWhole, SendsCutPart, SendsPart}
 use Rattle.fb_inspect.specs.declared.dump.state_wave.StateWave.{StateWave}
 use Rattle.fb_inspect.proofs.lemmas.dump.Growing.{shows_cut_front, shows_front, shows_untaken_none}
 

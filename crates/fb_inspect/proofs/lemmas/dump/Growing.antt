@@ -1,26 +1,15 @@
 -- What one more taking shows, and how the text grows.
-use Rattle.std.specs.Prelude.{All, OnOk}
-use Rattle.std.proofs.Common.{◌≡◌, ℕ, suc, Bool, true, cond, List, [], ◌∷◌, ◌++◌, Result, Ok, Err, refl, sym, ap, subst, ◌∙◌, append_assoc, append-nil, arith}
-use Rattle.std.proofs.lemmas.Bool.{eq-eqb, ne_eqb}
-use Rattle.std.proofs.lemmas.List.{map-append}
-use Rattle.fb_types.specs.Simulation.{Ending}
-use Rattle.fb_types.specs.Systems.{System}
-use Rattle.fb_types.specs.declared.run.Line.{Line}
-use Rattle.fb_types.specs.declared.value.Value.{Value}
+use Rattle.fb_inspect.proofs.lemmas.Common.{All, OnOk, ◌≡◌, ℕ, suc, Bool, true, cond, List, [], ◌∷◌, ◌++◌, Result, Ok, Err, refl, sym, ap, subst, ◌∙◌, append_assoc, append-nil, arith, eq-eqb, ne_eqb, map-append, Ending, System, Line, Value, last_tick, fires_of, has_signal, touches_of, sizes_of, last_look, Look, opening_look, IsLineAt, Shows, ShowsLines, Taken, lines_of, takings_of}
 use Rattle.fb_wave.specs.Changes.{changes, time_text}
 use Rattle.fb_wave.specs.CutOff.{cut_comment}
-use Rattle.fb_wave.specs.Dumps.{end_text, last_tick, tick_changes, ticks_text}
+use Rattle.fb_wave.specs.Dumps.{end_text, tick_changes, ticks_text}
 use Rattle.fb_wave.specs.Levels.{AreLevels}
-use Rattle.fb_wave.specs.LineSignals.{fired, fires_of, has_signal, set_by, touched, touches_of}
-use Rattle.fb_wave.specs.Signals.{sizes_of}
+use Rattle.fb_wave.specs.LineSignals.{fired, set_by, touched}
 use Rattle.fb_wave.proofs.lemmas.Showing.{fires-one, sets-one, touches-one}
-use Rattle.fb_inspect.specs.Inspections.{last_look}
-use Rattle.fb_inspect.specs.walk.Looks.{Look, opening_look}
-use Rattle.fb_inspect.specs.walk.Moves.{IsLineAt}
-use Rattle.fb_inspect.specs.dump.Dumping.{Shows, ShowsLines, ShowsUntaken, ShowsUpTo}
+use Rattle.fb_inspect.specs.dump.Dumping.{ShowsUntaken, ShowsUpTo}
 use Rattle.fb_inspect.specs.dump.Heads.{state_head}
 use Rattle.fb_inspect.specs.dump.Inner.{taking_changes}
-use Rattle.fb_inspect.specs.dump.StateDumps.{Taken, cut_dump, lines_of, state_dump, takings_of, takings_text, tick_of}
+use Rattle.fb_inspect.specs.dump.StateDumps.{cut_dump, state_dump, takings_text, tick_of}
 use Rattle.fb_inspect.specs.declared.dump.port_dump.PortDump.{PortDump}
 
 -- ---- One more taking

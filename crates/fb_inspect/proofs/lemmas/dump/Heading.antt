@@ -1,10 +1,5 @@
 -- The head of a dump with the inside of blocks, instance by instance and resource by resource.
-use Rattle.std.proofs.Common.{◌≡◌, ℕ, ◌+◌, ◌-◌, ◌<◌, ◌≤◌, Bool, cond, true, List, [], ◌∷◌, ◌++◌, length, drop, get_or, sym, ap, ◌∙◌, append-nil, append_assoc}
-use Rattle.std.proofs.lemmas.Bool.{eq-eqb, ne_eqb}
-use Rattle.std.proofs.lemmas.List.{drop_all, drop_more}
-use Rattle.fb_types.specs.Names.{Name, Path}
-use Rattle.fb_types.specs.Numbers.{path_at, ports_at}
-use Rattle.fb_types.specs.Systems.{System}
+use Rattle.fb_types.proofs.Common.{◌≡◌, ℕ, ◌+◌, ◌-◌, ◌<◌, ◌≤◌, Bool, cond, true, List, [], ◌∷◌, ◌++◌, length, drop, get_or, sym, ap, ◌∙◌, append-nil, append_assoc, eq-eqb, ne_eqb, drop_all, drop_more, Name, Path, path_at, ports_at, System}
 use Rattle.fb_wave.specs.Scopes.{closed, opened, own_name, ports_declared}
 use Rattle.fb_wave.specs.Signals.{first_signal, size_of}
 use Rattle.fb_wave.proofs.lemmas.Numbering.{first_signal-next, paths_from}

@@ -1,32 +1,13 @@
 -- Takings that are gone through and shown, one after another.
-use Rattle.std.proofs.Common.{◌≡◌, ◌≤◌, ℕ, ◌+◌, Bool, true, List, [], ◌∷◌, ◌++◌, length, map, Option, None, sym, ◌∙◌, ap, subst, inl, append_assoc, arith, length-append}
-use Rattle.std.specs.Prelude.{All}
-use Rattle.std.specs.Io.KnownBytes.{Consumes}
-use Rattle.std.proofs.KnownBytes.{Appends-nil, Appends-trans, Consumes-trans}
-use Rattle.std.proofs.lemmas.List.{map-append}
-use Rattle.std.proofs.lemmas.List.Elements.{All-append, All-nil}
-use Rattle.fb_types.specs.Numbers.{line_of}
+use Rattle.fb_inspect.proofs.lemmas.Common.{◌≡◌, ◌≤◌, ℕ, ◌+◌, Bool, true, List, [], ◌∷◌, ◌++◌, length, map, Option, None, sym, ◌∙◌, ap, subst, inl, append_assoc, arith, length-append, All, Consumes, Appends-nil, Appends-trans, Consumes-trans, map-append, All-append, All-nil, line_of, System, lines_text, Form, Line, Reason, BelongsTo, last_tick, IsLineOf, RiseFrom, AreTaken, NoneStops, Look, taking_lines, IsLineAt, Page, Shows, Taken, lines_of, takings_of, HasWaved}
 use Rattle.fb_types.specs.States as model
-use Rattle.fb_types.specs.Systems.{System}
-use Rattle.fb_types.specs.Text.{lines_text}
-use Rattle.fb_types.specs.declared.run.Form.{Form}
-use Rattle.fb_types.specs.declared.run.Line.{Line}
-use Rattle.fb_types.specs.declared.value.Reason.{Reason}
-use Rattle.fb_system.specs.Lines.{BelongsTo}
-use Rattle.fb_wave.specs.Dumps.{last_tick}
-use Rattle.fb_wave.specs.Lines.{IsLineOf}
-use Rattle.fb_wave.specs.Waves.{RiseFrom}
-use Rattle.fb_inspect.specs.Inspections.{AreTaken, NoneStops}
-use Rattle.fb_inspect.specs.walk.Looks.{Look, taking_lines}
-use Rattle.fb_inspect.specs.walk.Moves.{HavePassed, IsLineAt, lines_kept}
+use Rattle.fb_inspect.specs.walk.Moves.{HavePassed, lines_kept}
 use Rattle.fb_wave.specs.Pages.{IsFlushed}
-use Rattle.fb_wave.specs.declared.page.Page.{Page}
 use Rattle.fb_inspect.specs.declared.walk.trail.PassedLines.{PassedLines}
 use Rattle.fb_inspect.proofs.lemmas.walk.WalkedTakings.{each_of, none_more, rise_more}
 use Rattle.fb_inspect.proofs.lemmas.lines.Moving.{lines-append}
-use Rattle.fb_inspect.specs.dump.Dumping.{Shows}
-use Rattle.fb_inspect.specs.dump.StateDumps.{HaveLines, Taken, lines_of, takings_of}
-use Rattle.fb_inspect.specs.dump.Waving.{HasWaved, IsWaved, TakingGoes, WaveStarts}
+use Rattle.fb_inspect.specs.dump.StateDumps.{HaveLines}
+use Rattle.fb_inspect.specs.dump.Waving.{IsWaved, TakingGoes, WaveStarts}
 use Rattle.fb_inspect.specs.declared.dump.state_wave.StateWave.{StateWave}
 use Rattle.fb_inspect.proofs.lemmas.dump.Growing.{lines-one, takings-one}
 use Rattle.fb_inspect.proofs.lemmas.dump.WithoutInside.{last_lines}

@@ -1,22 +1,14 @@
 -- Without what is shown of the inside of blocks, a dump is that of the lines of its takings.
-use Rattle.std.proofs.Common.{◌≡◌, ℕ, ◌+◌, ◌-◌, Bool, false, cond, List, [], ◌∷◌, ◌++◌, length, map, codes, refl, sym, ap, subst, inl, inr, ◌∙◌, append_assoc, append-nil}
-use Rattle.std.specs.Prelude.{◌==◌, ◌⊎◌}
-use Rattle.std.proofs.lemmas.Bool.{cases_eq, eq-eqb, ne_eqb}
-use Rattle.fb_types.specs.Blocks.{Emission}
-use Rattle.fb_types.specs.Names.{Name, Path}
-use Rattle.fb_types.specs.Numbers.{line_of, ports_at}
+use Rattle.fb_inspect.proofs.lemmas.Common.{◌≡◌, ℕ, ◌+◌, ◌-◌, Bool, false, cond, List, [], ◌∷◌, ◌++◌, length, map, codes, refl, sym, ap, subst, inl, inr, ◌∙◌, append_assoc, append-nil, ◌==◌, ◌⊎◌, cases_eq, eq-eqb, ne_eqb, Emission, Name, Path, line_of, ports_at, System, Line, line, last_tick, Look, emission_line, opening_look, taking_lines, insides_begun, instances_opened, resources_opened, Taken, lines_of}
 use Rattle.fb_types.specs.States as model
-use Rattle.fb_types.specs.Systems.{System}
-use Rattle.fb_types.specs.declared.run.Line.{Line}
-use Rattle.fb_wave.specs.Changes.{line, time_text}
+use Rattle.fb_wave.specs.Changes.{time_text}
 use Rattle.fb_wave.specs.CutOff.{cut_comment}
-use Rattle.fb_wave.specs.Dumps.{end_text, last_tick, tick_changes, ticks_text}
+use Rattle.fb_wave.specs.Dumps.{end_text, tick_changes, ticks_text}
 use Rattle.fb_wave.specs.Scopes.{closed, head_text, instances_begun, instances_declared, opened, own_name, ports_declared, resources_declared}
 use Rattle.fb_wave.specs.Signals.{size_of}
-use Rattle.fb_inspect.specs.walk.Looks.{Look, emission_line, opening_look, taking_lines}
-use Rattle.fb_inspect.specs.dump.Heads.{insides_begun, instances_opened, resources_opened, state_head}
+use Rattle.fb_inspect.specs.dump.Heads.{state_head}
 use Rattle.fb_inspect.specs.dump.StateLaws.{AddsOnlyStates}
-use Rattle.fb_inspect.specs.dump.StateDumps.{HaveLines, Taken, lines_of, takings_text, tick_of}
+use Rattle.fb_inspect.specs.dump.StateDumps.{HaveLines, takings_text, tick_of}
 
 -- ---- The head
 

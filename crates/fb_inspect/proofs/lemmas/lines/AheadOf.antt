@@ -1,20 +1,8 @@
 -- What is ahead of a line once lines were read ahead.
-use Rattle.std.proofs.Common.{◌≡◌, ◌⊎◌, ℕ, List, [], ◌++◌, Option, Some, None, refl, sym, ap, ◌∙◌, inl, inr, arith}
-use Rattle.std.specs.Prelude.{IfSome}
-use Rattle.std.specs.Io.BufRead.{take_through}
-use Rattle.fb_types.specs.Headline.{system_of}
-use Rattle.fb_types.specs.Systems.{System}
-use Rattle.fb_types.specs.declared.run.Form.{Form}
-use Rattle.fb_types.specs.declared.run.Line.{Line}
-use Rattle.fb_trace.specs.End.{ending_of}
-use Rattle.fb_wave.specs.Lines.{IsTextOf}
-use Rattle.fb_wave.specs.Named.{HasNames}
-use Rattle.fb_wave.specs.declared.table.PortTable.{PortTable}
+use Rattle.fb_inspect.proofs.lemmas.Common.{◌≡◌, ◌⊎◌, ℕ, List, [], ◌++◌, Option, Some, None, refl, sym, ap, ◌∙◌, inl, inr, arith, IfSome, take_through, system_of, System, Form, Line, ending_of, IsTextOf, HasNames, PortTable, IsNext, AreAhead, IsLeft, Next}
 use Rattle.fb_wave.proofs.lemmas.Lining.{line_not_last}
-use Rattle.fb_inspect.specs.walk.Lines.{IsNext}
-use Rattle.fb_inspect.specs.walk.Standing.{AreAhead, IsLeft, MayBeAhead}
+use Rattle.fb_inspect.specs.walk.Standing.{MayBeAhead}
 use Rattle.fb_inspect.specs.walk.Walking.{AreGathered, IsOwnRow}
-use Rattle.fb_inspect.specs.declared.walk.reading.Next.{Next}
 use Rattle.fb_inspect.specs.declared.walk.reading.Next.TheVariants as next
 use Rattle.fb_inspect.proofs.lemmas.lines.OneLine.{line_once}
 

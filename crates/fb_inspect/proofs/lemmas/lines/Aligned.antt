@@ -1,22 +1,8 @@
 -- Two texts of a system that begin alike begin with the same lines, as far as their form shows them.
-use Rattle.std.proofs.Common.{◌≡◌, ℕ, ◌+◌, List, [], ◌∷◌, ◌++◌, length, map, take, All, refl, sym, ap, subst, ◌∙◌, append-nil, append_assoc, arith}
-use Rattle.std.specs.Io.BufRead.{take_through}
-use Rattle.std.proofs.lemmas.List.{append_cancel_left, length-append}
-use Rattle.std.proofs.lemmas.List.Elements.{All-head, All-nil, All-tail}
-use Rattle.fb_types.specs.Headline.{AreAccepted, Inputs, system_of}
-use Rattle.fb_types.specs.Numbers.{line_of}
-use Rattle.fb_types.specs.Simulation.{Ending}
+use Rattle.fb_inspect.proofs.lemmas.Common.{◌≡◌, ℕ, ◌+◌, List, [], ◌∷◌, ◌++◌, length, map, take, All, refl, sym, ap, subst, ◌∙◌, append-nil, append_assoc, arith, take_through, append_cancel_left, length-append, All-head, All-nil, All-tail, AreAccepted, Inputs, system_of, line_of, Ending, System, last_line, line_text, lines_text, Form, One, Two, last_tick, IsEndOf, IsLineOf, IsTextOf, HasNames, RiseFrom}
 use Rattle.fb_types.specs.States.{Line}
-use Rattle.fb_types.specs.Systems.{System}
-use Rattle.fb_types.specs.Text.{last_line, line_text, lines_text}
-use Rattle.fb_types.specs.declared.run.Form.{Form}
-use Rattle.fb_types.specs.declared.run.Form.TheVariants.{One, Two}
 use Rattle.fb_types.specs.declared.run.Line as run
-use Rattle.fb_wave.specs.Dumps.{last_tick}
-use Rattle.fb_wave.specs.Lines.{IsEndOf, IsLineOf, IsTextOf}
-use Rattle.fb_wave.specs.Named.{HasNames}
 use Rattle.fb_wave.specs.Refusals.{lines_in}
-use Rattle.fb_wave.specs.Waves.{RiseFrom}
 use Rattle.fb_wave.proofs.lemmas.Lining.{IsOneLine, last_one, line_not_last, line_one, same_line}
 use Rattle.fb_wave.proofs.lemmas.Refusing.{one_first, one_line}
 use Rattle.fb_inspect.specs.walk.SameLines.{IsSameLine}

@@ -1,23 +1,9 @@
 -- What is shown of emissions: their lines.
-use Rattle.std.proofs.Common.{◌≡◌, ℕ, Bool, false, List, [], ◌∷◌, ◌++◌, map, Option, refl, sym, ◌∙◌, ap, append_assoc, append-nil}
-use Rattle.std.proofs.lemmas.List.{map-append}
-use Rattle.std.specs.Prelude.{if◌then◌else◌}
-use Rattle.fb_types.specs.Blocks.{Emission, inputs_with, outputs_with}
-use Rattle.fb_types.specs.Names.{Path}
-use Rattle.fb_types.specs.Numbers.{emission_of, event_at, line_of, pair_up, path_at, ports_at}
+use Rattle.fb_inspect.proofs.lemmas.Common.{◌≡◌, ℕ, Bool, false, List, [], ◌∷◌, ◌++◌, map, Option, refl, sym, ◌∙◌, ap, append_assoc, append-nil, map-append, if◌then◌else◌, Emission, inputs_with, outputs_with, Path, emission_of, event_at, line_of, pair_up, path_at, ports_at, System, line_text, lines_text, Key, Ports, Form, Line, Value, Piece, emission_line, pieces_text, EmitsGo, Goes, StaysAlone, shown_text, Trail}
 use Rattle.fb_types.specs.States as model
-use Rattle.fb_types.specs.Systems.{System}
-use Rattle.fb_types.specs.Text.{line_text, lines_text}
-use Rattle.fb_types.specs.declared.key.Key.{Key}
-use Rattle.fb_types.specs.declared.library.Ports.{Ports}
 use Rattle.fb_types.specs.declared.run.Emission as run
-use Rattle.fb_types.specs.declared.run.Form.{Form}
-use Rattle.fb_types.specs.declared.run.Line.{Line}
-use Rattle.fb_types.specs.declared.value.Value.{Value}
-use Rattle.fb_inspect.specs.walk.Chains.{Piece}
-use Rattle.fb_inspect.specs.walk.Looks.{emission_line, piece_text, pieces_text}
-use Rattle.fb_inspect.specs.walk.Moves.{AreEmissions, EmitsGo, Goes, IsEmission, StaysAlone, shown_text}
-use Rattle.fb_inspect.specs.declared.walk.trail.Trail.{Trail}
+use Rattle.fb_inspect.specs.walk.Looks.{piece_text}
+use Rattle.fb_inspect.specs.walk.Moves.{AreEmissions, IsEmission}
 use Rattle.fb_inspect.proofs.lemmas.lines.Moving.{aside_none, goes_as, goes_note, goes_then, lines-append, shown-append, shown-nil}
 use Rattle.fb_inspect.proofs.lemmas.reactions.Showing.{emits_pieces}
 

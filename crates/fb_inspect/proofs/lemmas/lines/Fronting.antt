@@ -1,24 +1,9 @@
 -- Where a line stands in what was read ahead: it is one of the rows, or the line after them.
-use Rattle.std.proofs.Common.{◌≡◌, ◌⊎◌, ◌==◌, ℕ, Bool, true, false, cond, List, [], ◌∷◌, ◌++◌, map, refl, sym, ap, ◌∙◌, inl, inr, append_assoc, append-nil}
-use Rattle.std.specs.Prelude.{All, not}
-use Rattle.std.specs.Io.BufRead.{take_through}
-use Rattle.std.proofs.lemmas.Bool.{and_parts, not-true}
-use Rattle.std.proofs.lemmas.List.{append_cancel_left}
-use Rattle.std.proofs.lemmas.List.Elements.{All-head, All-tail}
-use Rattle.fb_types.specs.Headline.{system_of}
-use Rattle.fb_types.specs.Numbers.{line_of}
-use Rattle.fb_types.specs.Simulation.{Ending}
-use Rattle.fb_types.specs.Systems.{System}
-use Rattle.fb_types.specs.Text.{last_line, line_text, lines_text}
-use Rattle.fb_types.specs.declared.run.Form.{Form}
-use Rattle.fb_types.specs.declared.run.Line.{Line}
-use Rattle.fb_wave.specs.Lines.{IsTextOf}
-use Rattle.fb_wave.specs.Named.{HasNames}
-use Rattle.fb_wave.specs.declared.table.PortTable.{PortTable}
+use Rattle.fb_inspect.proofs.lemmas.Common.{◌≡◌, ◌⊎◌, ◌==◌, ℕ, Bool, true, false, cond, List, [], ◌∷◌, ◌++◌, map, refl, sym, ap, ◌∙◌, inl, inr, append_assoc, append-nil, All, not, take_through, and_parts, append_cancel_left, All-head, All-tail, system_of, line_of, Ending, System, last_line, line_text, lines_text, Form, Line, IsTextOf, HasNames, PortTable, IsOwnLine, AreAhead}
+use Rattle.fb_types.proofs.Common.{not-true}
 use Rattle.fb_wave.proofs.lemmas.Lining.{IsOneLine, line_not_last, line_one}
 use Rattle.fb_wave.proofs.lemmas.Plain.{is_flat}
-use Rattle.fb_inspect.specs.Inspections.{IsOwnLine}
-use Rattle.fb_inspect.specs.walk.Standing.{AreAhead, MayBeAhead}
+use Rattle.fb_inspect.specs.walk.Standing.{MayBeAhead}
 use Rattle.fb_inspect.specs.walk.Walking.{IsOwnRow}
 use Rattle.fb_inspect.proofs.lemmas.lines.OneLine.{line_once}
 

@@ -1,21 +1,8 @@
 -- Lines that are read ahead.
-use Rattle.std.proofs.Common.{◌≡◌, ℕ, List, [], ◌∷◌, ◌++◌, map, true, Option, sym, ◌∙◌, ap, subst, append-nil}
-use Rattle.std.specs.Prelude.{All}
-use Rattle.std.specs.Io.KnownBytes.{Consumes}
-use Rattle.std.proofs.KnownBytes.{Consumes-nil, Consumes-trans}
-use Rattle.std.proofs.lemmas.List.{map-append}
-use Rattle.std.proofs.lemmas.List.Elements.{All-nil, All-push}
-use Rattle.fb_types.specs.Numbers.{line_of}
-use Rattle.fb_types.specs.Systems.{System}
-use Rattle.fb_types.specs.Text.{line_text, lines_text}
-use Rattle.fb_types.specs.declared.run.Form.{Form}
-use Rattle.fb_types.specs.declared.run.Line.{Line}
-use Rattle.fb_wave.specs.Copying.{IsFirstLine}
-use Rattle.fb_wave.specs.CutOff.{is_unended}
-use Rattle.fb_inspect.specs.Inspections.{IsOwnLine}
-use Rattle.fb_inspect.specs.walk.Lines.{IsNext}
-use Rattle.fb_inspect.specs.walk.Walking.{AreCutOff, AreGathered, AreRows, IsOwnRow}
-use Rattle.fb_inspect.specs.declared.walk.reading.Next.{Next}
+use Rattle.fb_inspect.proofs.lemmas.Common.{◌≡◌, ℕ, List, [], ◌∷◌, ◌++◌, map, true, Option, sym, ◌∙◌, ap, subst, append-nil, All, Consumes, Consumes-trans, map-append, All-nil, line_of, System, line_text, lines_text, Form, Line, IsFirstLine, is_unended, IsOwnLine, IsNext, AreCutOff, Next}
+use Rattle.fb_types.proofs.Common.{All-push}
+use Rattle.std.proofs.KnownBytes.{Consumes-nil}
+use Rattle.fb_inspect.specs.walk.Walking.{AreGathered, AreRows, IsOwnRow}
 use Rattle.fb_inspect.specs.declared.walk.reading.Next.TheVariants as event
 use Rattle.fb_inspect.proofs.lemmas.lines.Moving.{lines-append}
 use Rattle.fb_inspect.proofs.lemmas.lines.Severing.{alone_of, cut_rest}

@@ -1,15 +1,7 @@
 -- What the next line is, as far as its form shows it, and why it may be none.
-use Rattle.std.proofs.Common.{◌<◌, ℕ, List, refl, sym, ◌∙◌, arith}
-use Rattle.fb_types.specs.Headline.{system_of}
-use Rattle.fb_types.specs.Systems.{System}
-use Rattle.fb_types.specs.declared.run.Form.{Form}
-use Rattle.fb_types.specs.declared.run.Line.{Line}
-use Rattle.fb_trace.specs.End.{ending_of}
-use Rattle.fb_trace.specs.declared.last.Outcome.{Outcome}
+use Rattle.fb_inspect.proofs.lemmas.Common.{◌<◌, ℕ, List, refl, sym, ◌∙◌, arith, system_of, System, Form, Line, ending_of, Outcome, IsLast, IsNoLast, IsTextOf, HasNames, PortTable}
 use Rattle.fb_wave.specs.Copying.{IsAfter, IsNoLineFrom}
-use Rattle.fb_wave.specs.Lines.{IsLast, IsNoLast, IsNoTextOf, IsTextOf}
-use Rattle.fb_wave.specs.Named.{HasNames}
-use Rattle.fb_wave.specs.declared.table.PortTable.{PortTable}
+use Rattle.fb_wave.specs.Lines.{IsNoTextOf}
 use Rattle.fb_wave.proofs.lemmas.Ends.{after_once}
 use Rattle.fb_wave.proofs.lemmas.Lining.{line_not_last}
 use Rattle.fb_inspect.specs.walk.Lines.{IsNoEndFrom}

@@ -1,35 +1,10 @@
 -- The next line of a walk: an event, an end that may not come there, or none.
-use Rattle.std.proofs.Common.{◌≡◌, ℕ, Bool, true, false, List, [], ◌∷◌, ◌++◌, map, refl, sym, ap, subst, ◌∙◌, inl, inr, append-nil}
-use Rattle.std.specs.Io.BufRead.{take_through}
-use Rattle.std.proofs.lemmas.List.Elements.{All-nil}
-use Rattle.fb_types.specs.Numbers.{line_of}
-use Rattle.fb_types.specs.Simulation.{AtStop}
+use Rattle.fb_inspect.proofs.lemmas.Common.{◌≡◌, ℕ, Bool, true, false, List, [], ◌∷◌, ◌++◌, map, refl, sym, ap, subst, ◌∙◌, inl, inr, append-nil, take_through, All-nil, line_of, AtStop, System, last_line, lines_text, Form, Line, StopMark, Reason, Divide, Range, Steps, ending_of, Outcome, Stop, last_tick, IsEndOf, IsLineOf, IsTextOf, HasNames, all_lines, last_look, IsNext, Taking, opening_look, IsWrongLine, OfRefusal, StandsWell, Watches, MayEnd, Ahead, InspectError, Refused, Next, Walk}
 use Rattle.fb_types.specs.States as model
-use Rattle.fb_types.specs.Systems.{System}
-use Rattle.fb_types.specs.Text.{last_line, lines_text}
-use Rattle.fb_types.specs.declared.run.Form.{Form}
-use Rattle.fb_types.specs.declared.run.Line.{Line}
-use Rattle.fb_types.specs.declared.run.StopMark.{StopMark}
-use Rattle.fb_types.specs.declared.value.Reason.{Reason}
-use Rattle.fb_types.specs.declared.value.Reason.TheVariants.{Divide, Range, Steps}
-use Rattle.fb_trace.specs.End.{ending_of}
-use Rattle.fb_trace.specs.declared.last.Outcome.{Outcome}
-use Rattle.fb_trace.specs.declared.last.Outcome.TheVariants.{End, Stop}
-use Rattle.fb_wave.specs.Dumps.{last_tick}
-use Rattle.fb_wave.specs.Lines.{IsEndOf, IsLineOf, IsTextOf}
-use Rattle.fb_wave.specs.Named.{HasNames}
-use Rattle.fb_inspect.specs.Inspections.{all_lines, last_look}
-use Rattle.fb_inspect.specs.walk.Lines.{IsNext}
-use Rattle.fb_inspect.specs.walk.Looks.{Taking, opening_look}
-use Rattle.fb_inspect.specs.Refusals.{IsWrongAfter, IsWrongLine, OfRefusal}
-use Rattle.fb_inspect.specs.walk.Standing.{AreApart, AreNumbered, IsStepsStop, Stands, StandsAt, StandsOn, StandsWell, Watches}
-use Rattle.fb_inspect.specs.walk.Walking.{MayEnd}
-use Rattle.fb_inspect.specs.declared.walk.ahead.Ahead.{Ahead}
-use Rattle.fb_inspect.specs.declared.error.InspectError.{InspectError}
-use Rattle.fb_inspect.specs.declared.error.InspectError.TheVariants.{Refused}
-use Rattle.fb_inspect.specs.declared.walk.reading.Next.{Next}
+use Rattle.fb_trace.specs.declared.last.Outcome.TheVariants.{End}
+use Rattle.fb_inspect.specs.Refusals.{IsWrongAfter}
+use Rattle.fb_inspect.specs.walk.Standing.{AreApart, AreNumbered, IsStepsStop, Stands, StandsAt, StandsOn}
 use Rattle.fb_inspect.specs.declared.walk.reading.Next.TheVariants as next
-use Rattle.fb_inspect.specs.declared.walk.Walk.{Walk}
 use Rattle.fb_inspect.proofs.lemmas.results.Errors.{of_number}
 use Rattle.fb_inspect.proofs.lemmas.walk.Watched.{too_many_wrong}
 

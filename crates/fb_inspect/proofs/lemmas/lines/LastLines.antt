@@ -1,19 +1,6 @@
 -- The last line of a trace says which stop it is.
-use Rattle.std.proofs.Common.{◌≡◌, ◌<◌, ◌^◌, ℕ, List, [], ◌∷◌, ◌++◌, length, map, codes, Option, Some, None, Contains, refl, sym, ap, ◌∙◌, inl, append_assoc, arith}
-use Rattle.std.specs.Prelude.{decimal, flat_map, position, slice_get, unwrap_or}
-use Rattle.std.proofs.lemmas.List.{append_cancel_left, append_cancel_right}
-use Rattle.std.proofs.lemmas.List.Elements.{Contains-append_right}
-use Rattle.std.proofs.lemmas.Option.{same_Some}
-use Rattle.fb_types.specs.Flat.{resource_names_of}
-use Rattle.fb_types.specs.Headline.{AreAccepted, Inputs, system_of}
-use Rattle.fb_types.specs.Names.{Name, same_name}
-use Rattle.fb_types.specs.Repeated.{Twice, algorithm_names, basics, block_type_names, instance_names, interfaces, name_spaces, networks, parameter_lists, port_names, state_names, with_lists}
-use Rattle.fb_types.specs.Simulation.{AtHorizon, AtStop}
-use Rattle.fb_types.specs.Systems.{System}
-use Rattle.fb_types.specs.Text.{last_line, reason_text, tick_and_resource_text}
-use Rattle.fb_types.specs.declared.deploy.ResourceEntry.{ResourceEntry}
-use Rattle.fb_types.specs.declared.value.Reason.{Reason}
-use Rattle.fb_types.specs.declared.value.Reason.TheVariants.{Steps, Divide, Range}
+use Rattle.fb_types.proofs.Common.{◌≡◌, ◌<◌, ◌^◌, ℕ, List, [], ◌∷◌, ◌++◌, length, map, codes, Option, Some, None, Contains, refl, sym, ap, ◌∙◌, inl, append_assoc, arith, decimal, flat_map, position, slice_get, unwrap_or, append_cancel_left, Contains-append_right, same_Some, resource_names_of, AreAccepted, Inputs, system_of, Name, same_name, Twice, algorithm_names, basics, block_type_names, instance_names, interfaces, name_spaces, networks, parameter_lists, port_names, state_names, with_lists, AtHorizon, AtStop, System, last_line, reason_text, tick_and_resource_text, ResourceEntry, Reason, Steps, Divide, Range}
+use Rattle.std.proofs.lemmas.List.{append_cancel_right}
 use Rattle.fb_types.proofs.lemmas.lists.Elements.{Contains-here}
 use Rattle.fb_types.proofs.lemmas.lists.Positions.{position_of_once}
 use Rattle.fb_laws.proofs.lemmas.lists.Indexes.{has_at, map_has}

@@ -1,40 +1,21 @@
 -- A line of a run is a line of its system, by numbers.
-use Rattle.std.proofs.Common.{◌≡◌, ◌<◌, ◌^◌, ℕ, Bool, true, false, cond, List, [], ◌∷◌, map, filter, length, Option, Some, None, refl, sym, ap, subst, ◌∙◌, arith}
-use Rattle.std.specs.Prelude.{if◌then◌else◌, option_and_then, option_map, position, slice_get, unwrap_or}
-use Rattle.std.specs.List.{list_any}
-use Rattle.std.proofs.lemmas.Bool.{and_from}
-use Rattle.std.proofs.lemmas.List.{length-map}
-use Rattle.std.proofs.lemmas.List.Elements.{All-cons, All-nil}
-use Rattle.std.proofs.lemmas.Option.{slice_get-map}
-use Rattle.fb_types.specs.Blocks.{Bound, Kind, among, bound, goes_with, inputs_with, named, outputs_with, ports, ports_of, variable_names, variables_with}
-use Rattle.fb_types.specs.Counts.{IsNarrow}
-use Rattle.fb_types.specs.Headline.{Inputs, system_of}
-use Rattle.fb_types.specs.Machines.{Each}
-use Rattle.fb_types.specs.Names.{Name, Path, same_name}
-use Rattle.fb_types.specs.Numbers.{event_at, line_of, pair_up, path_at, ports_at}
+use Rattle.fb_inspect.proofs.lemmas.Common.{◌≡◌, ◌<◌, ◌^◌, ℕ, Bool, true, false, cond, List, [], ◌∷◌, map, length, Option, Some, None, refl, sym, ap, subst, ◌∙◌, arith, if◌then◌else◌, option_map, position, slice_get, unwrap_or, list_any, length-map, All-cons, All-nil, Bound, Kind, among, bound, inputs_with, outputs_with, ports_of, variable_names, Inputs, system_of, Each, Name, Path, same_name, event_at, line_of, pair_up, path_at, ports_at, System, Values, fits, Key, EventPort, Ports, Variable, Value, AllFit, AreIndexes, line_variables, IsInRange, IsLineOf, fit_each, type_at, IsGiven}
+use Rattle.fb_types.proofs.Common.{option_and_then, and_from, slice_get-map, named, ports, variables_with, IsNarrow}
+use Rattle.std.proofs.Common.{filter}
+use Rattle.fb_types.specs.Blocks.{goes_with}
 use Rattle.fb_types.specs.States.{Line}
-use Rattle.fb_types.specs.Systems.{System}
-use Rattle.fb_types.specs.Values.{Values, fits}
-use Rattle.fb_types.specs.declared.key.Key.{Key}
-use Rattle.fb_types.specs.declared.library.EventPort.{EventPort}
-use Rattle.fb_types.specs.declared.library.Ports.{Ports}
-use Rattle.fb_types.specs.declared.library.Variable.{Variable}
 use Rattle.fb_types.specs.declared.run.Line as run
 use Rattle.fb_types.specs.declared.value.Ty.TheVariants.{Bool as Boolean}
-use Rattle.fb_types.specs.declared.value.Value.{Value}
 use Rattle.fb_types.proofs.lemmas.names.NameLaws.{any_from_contains}
 use Rattle.fb_types.proofs.lemmas.lists.Options.{some_from_is_some}
 use Rattle.fb_types.proofs.lemmas.lists.Positions.{is_some-position, named-position, position_is}
 use Rattle.fb_laws.specs.Sound.{AreGood}
-use Rattle.fb_laws.specs.Typed.{AllFit}
 use Rattle.fb_laws.proofs.lemmas.soundness.Accepting.{sound_of}
 use Rattle.fb_laws.proofs.lemmas.lists.Indexes.{is_at}
-use Rattle.fb_system.specs.IndexLists.{AreIndexes, variable_at}
-use Rattle.fb_system.specs.Lines.{line_variables}
+use Rattle.fb_system.specs.IndexLists.{variable_at}
 use Rattle.fb_system.specs.Networks.{AreNarrow}
-use Rattle.fb_wave.specs.Lines.{IsInRange, IsLineOf, line_side}
-use Rattle.fb_wave.specs.Reading.{fit_each, type_at}
-use Rattle.fb_inspect.specs.walk.RunLines.{IsGiven, side_events, side_variables}
+use Rattle.fb_wave.specs.Lines.{line_side}
+use Rattle.fb_inspect.specs.walk.RunLines.{side_events, side_variables}
 use Rattle.fb_inspect.proofs.lemmas.runs.Numbered.{numbered}
 use Rattle.fb_inspect.proofs.lemmas.reactions.EventPorts.{each_of, kind_narrow, low}
 

@@ -1,26 +1,14 @@
 -- Lines that are gone through one after another.
-use Rattle.std.proofs.Common.{◌≡◌, ℕ, Bool, true, false, List, [], ◌∷◌, ◌++◌, ◌+◌, map, length, Option, refl, sym, ◌∙◌, ap, subst, append_assoc, append-nil, arith, length-append}
-use Rattle.std.specs.Prelude.{All}
-use Rattle.std.specs.Io.KnownBytes.{Consumes}
-use Rattle.std.proofs.KnownBytes.{Consumes-nil, Consumes-trans}
-use Rattle.std.proofs.lemmas.List.{map-append}
-use Rattle.std.proofs.lemmas.List.Elements.{All-append, All-nil, All-push}
-use Rattle.fb_types.specs.Numbers.{line_of}
+use Rattle.fb_inspect.proofs.lemmas.Common.{◌≡◌, ℕ, Bool, true, false, List, [], ◌∷◌, ◌++◌, ◌+◌, map, length, Option, refl, sym, ◌∙◌, ap, subst, append_assoc, append-nil, arith, length-append, All, Consumes, Consumes-trans, map-append, All-append, All-nil, line_of, System, line_text, lines_text, Form, Line, IsLineOf, IsTextOf, IsAlone, IsNext, IsNextLine, Next, Goes, IsLineAt, StaysAlone, shown_text, Trail}
+use Rattle.fb_types.proofs.Common.{All-push}
+use Rattle.std.proofs.KnownBytes.{Consumes-nil}
 use Rattle.fb_types.specs.States as model
-use Rattle.fb_types.specs.Systems.{System}
-use Rattle.fb_types.specs.Text.{line_text, lines_text}
-use Rattle.fb_types.specs.declared.run.Form.{Form}
-use Rattle.fb_types.specs.declared.run.Line.{Line}
-use Rattle.fb_wave.specs.Lines.{IsLineOf, IsTextOf}
 use Rattle.fb_coverage.specs.Sets.{with_port}
 use Rattle.fb_coverage.specs.declared.marks.PortMarks.{PortMarks}
-use Rattle.fb_inspect.specs.walk.Lines.{IsAlone, IsNext, IsNextLine}
-use Rattle.fb_inspect.specs.declared.walk.reading.Next.{Next}
 use Rattle.fb_inspect.specs.declared.walk.reading.Next.TheVariants as next
 use Rattle.fb_inspect.specs.Markings.{lines_marked}
-use Rattle.fb_inspect.specs.walk.Moves.{Goes, HavePassed, IsAside, IsLineAt, StaysAlone, lines_kept, shown_text}
+use Rattle.fb_inspect.specs.walk.Moves.{HavePassed, IsAside, lines_kept}
 use Rattle.fb_inspect.specs.declared.walk.trail.PassedLines.{PassedLines}
-use Rattle.fb_inspect.specs.declared.walk.trail.Trail.{Trail}
 
 -- the text of lines, and of others after them
 pub lines-append : (form : Form) (sys : System) (ls ks : List model.Line) → lines_text form sys (ls ++ ks) ≡ lines_text form sys ls ++ lines_text form sys ks

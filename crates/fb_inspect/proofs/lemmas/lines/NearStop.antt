@@ -1,35 +1,11 @@
 -- Whether the line that was read ahead is the stop of the resource of a line in its tick for its steps.
-use Rattle.std.proofs.Common.{◌≡◌, ◌<◌, ◌≤◌, ◌+◌, ◌-◌, ◌⊎◌, not, get_or, take, Bool, true, false, ℕ, suc, List, length, Option, Some, None, inl, inr, refl, sym, subst, ap, ◌∙◌, arith}
-use Rattle.std.specs.Bool.{OnFalse, OnTrue}
-use Rattle.std.proofs.lemmas.List.{take_more}
-use Rattle.std.proofs.lemmas.List.Elements.{All-push}
-use Rattle.std.proofs.lemmas.Option.{get_or_from_slice_get}
-use Rattle.std.specs.Prelude.{All, slice_get, slice_set}
-use Rattle.fb_types.specs.Blocks.{Basic, Composite, Event, Kind}
-use Rattle.fb_types.specs.Numbers.{line_of}
-use Rattle.fb_types.specs.Simulation.{AtStop}
-use Rattle.fb_types.specs.Systems.{System}
-use Rattle.fb_types.specs.Text.{last_line}
-use Rattle.fb_types.specs.declared.key.Key.{Key}
-use Rattle.fb_types.specs.declared.library.BasicType.{BasicType}
-use Rattle.fb_types.specs.declared.run.Line.{Line}
-use Rattle.fb_types.specs.declared.run.StopMark.{StopMark}
-use Rattle.fb_types.specs.declared.value.Reason.{Reason}
-use Rattle.fb_types.specs.declared.value.Reason.TheVariants.{Divide, Range, Steps}
+use Rattle.fb_inspect.proofs.lemmas.Common.{◌≡◌, ◌<◌, ◌≤◌, ◌+◌, ◌-◌, ◌⊎◌, not, get_or, take, Bool, true, false, ℕ, suc, List, length, Option, Some, None, inl, inr, refl, sym, subst, ap, ◌∙◌, arith, All, slice_get, slice_set, Basic, Composite, Event, Kind, line_of, AtStop, System, last_line, Key, BasicType, Line, StopMark, Reason, Divide, Range, Steps, Outcome, Stop, IsLast, IsLineOf, IsNoLast, HasNames, left_of, KeepSteps, Look, Seen, left_at, most, steps_stop, IsKept, MayEnd, Chart, TickSteps}
+use Rattle.fb_types.proofs.Common.{OnFalse, OnTrue, take_more, All-push, get_or_from_slice_get}
 use Rattle.fb_types.proofs.lemmas.lists.ByIndex.{element_at}
-use Rattle.fb_trace.specs.declared.last.Outcome.{Outcome}
-use Rattle.fb_trace.specs.declared.last.Outcome.TheVariants.{End, Stop}
-use Rattle.fb_wave.specs.Lines.{IsLast, IsLineOf, IsNoLast}
-use Rattle.fb_wave.specs.Named.{HasNames}
-use Rattle.fb_inspect.specs.walk.Counted.{left_of}
-use Rattle.fb_inspect.specs.Inspections.{KeepSteps}
-use Rattle.fb_inspect.specs.walk.Looks.{Look, Seen, left_at, most}
-use Rattle.fb_inspect.specs.Refusals.{steps_stop}
+use Rattle.fb_trace.specs.declared.last.Outcome.TheVariants.{End}
 use Rattle.fb_inspect.specs.walk.Standing.{AreApart}
-use Rattle.fb_inspect.specs.walk.Walking.{HasLimited, HasStepped, IsKept, MayEnd}
-use Rattle.fb_inspect.specs.declared.walk.blocks.Chart.{Chart}
+use Rattle.fb_inspect.specs.walk.Walking.{HasLimited, HasStepped}
 use Rattle.fb_inspect.specs.declared.walk.blocks.Remembered.TheVariants as kept
-use Rattle.fb_inspect.specs.declared.walk.steps.TickSteps.{TickSteps}
 use Rattle.fb_inspect.proofs.lemmas.lines.OneEnd.{end_once}
 use Rattle.fb_inspect.proofs.lemmas.reactions.Placed.{item_is}
 

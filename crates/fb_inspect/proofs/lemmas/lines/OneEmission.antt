@@ -1,37 +1,17 @@
 -- The line of an emission is that of no other, as far as a form shows it, and where the next line is another one.
-use Rattle.std.proofs.Common.{◌≡◌, ◌<◌, ◌≤◌, ◌^◌, ℕ, Bool, true, false, List, [], ◌∷◌, ◌++◌, length, codes, refl, sym, ap, subst, ◌∙◌, arith}
-use Rattle.std.specs.Prelude.{if◌then◌else◌, slice_index_or}
-use Rattle.fb_types.specs.Blocks.{Bound, outputs_with}
-use Rattle.fb_types.specs.Headline.{system_of}
-use Rattle.fb_types.specs.Names.{Name, Path}
-use Rattle.fb_types.specs.Numbers.{emission_of, event_at, line_of, pair_up, path_at, ports_at}
+use Rattle.fb_inspect.proofs.lemmas.Common.{◌≡◌, ◌<◌, ◌≤◌, ◌^◌, ℕ, Bool, true, false, List, [], ◌∷◌, ◌++◌, length, codes, refl, sym, ap, subst, ◌∙◌, arith, if◌then◌else◌, Bound, outputs_with, system_of, Name, Path, emission_of, event_at, line_of, pair_up, path_at, ports_at, System, Key, Ports, Form, One, Two, Line, Value, IsEmission as IsEmissionOf, line_variables, ending_of, Outcome, IsLast, IsLineOf, IsTextOf, Port, PortTable, IsNext, emission_line, Next}
+use Rattle.fb_types.proofs.Common.{slice_index_or, path_text}
 use Rattle.fb_types.specs.States as model
-use Rattle.fb_types.specs.Systems.{System}
-use Rattle.fb_types.specs.Text.{path_text}
-use Rattle.fb_types.specs.declared.key.Key.{Key}
-use Rattle.fb_types.specs.declared.library.Ports.{Ports}
 use Rattle.fb_types.specs.declared.run.Emission.{Emission}
-use Rattle.fb_types.specs.declared.run.Form.{Form}
-use Rattle.fb_types.specs.declared.run.Form.TheVariants.{One, Two}
-use Rattle.fb_types.specs.declared.run.Line.{Line}
-use Rattle.fb_types.specs.declared.value.Value.{Value}
-use Rattle.fb_system.specs.Lines.{IsEmission as IsEmissionOf, line_variables}
-use Rattle.fb_trace.specs.End.{ending_of}
-use Rattle.fb_trace.specs.declared.last.Outcome.{Outcome}
 use Rattle.fb_wave.specs.Copying.{IsNoLineFrom}
-use Rattle.fb_wave.specs.Lines.{IsLast, IsLineOf, IsTextOf}
 use Rattle.fb_wave.specs.Ports.{port_text, side}
-use Rattle.fb_wave.specs.declared.ports.Port.{Port}
-use Rattle.fb_wave.specs.declared.table.PortTable.{PortTable}
 use Rattle.fb_wave.proofs.lemmas.Finding.{same_port}
 use Rattle.fb_wave.proofs.lemmas.Gluing.{port_at}
 use Rattle.fb_wave.proofs.lemmas.Lining.{line_not_last, port_of_line}
-use Rattle.fb_inspect.specs.walk.Lines.{IsNext, IsPlain}
-use Rattle.fb_inspect.specs.walk.Looks.{emission_line}
+use Rattle.fb_inspect.specs.walk.Lines.{IsPlain}
 use Rattle.fb_inspect.specs.walk.Moves.{IsEmission}
 use Rattle.fb_inspect.specs.Refusals.{IsOther, IsPlainLine}
 use Rattle.fb_inspect.specs.walk.SameLines.{AreLikeParts}
-use Rattle.fb_inspect.specs.declared.walk.reading.Next.{Next}
 use Rattle.fb_inspect.specs.declared.walk.reading.Next.TheVariants as next
 use Rattle.fb_inspect.proofs.lemmas.lines.OneLine.{line_once}
 

@@ -1,36 +1,15 @@
 -- The last line of a trace where a resource stops says of that stop alone.
-use Rattle.std.proofs.Common.{◌≡◌, ◌<◌, ◌≤◌, ℕ, zero, suc, List, [], ◌∷◌, ◌++◌, length, get_or, codes, decimal, map, refl, sym, ap, subst, ◌∙◌, inl, inr, arith, append_assoc}
-use Rattle.std.specs.Prelude.{Contains, flat_map, slice_get, unwrap_or}
-use Rattle.std.proofs.lemmas.List.{append_cancel_left}
-use Rattle.std.proofs.lemmas.List.Elements.{Contains-append_right}
+use Rattle.fb_inspect.proofs.lemmas.Common.{◌≡◌, ◌<◌, ◌≤◌, ℕ, zero, suc, List, [], ◌∷◌, ◌++◌, length, get_or, codes, decimal, map, refl, sym, ap, subst, ◌∙◌, inl, inr, arith, append_assoc, Contains, flat_map, slice_get, unwrap_or, append_cancel_left, Contains-append_right, AreAccepted, Inputs, system_of, Name, Twice, algorithm_names, basics, interfaces, networks, AtStop, System, last_line, Library, StopMark, Reason, Divide, Range, Steps, Form, ending_of, Outcome, Stop, IsEndOf, HasNames, IsNext, Next}
+use Rattle.fb_types.proofs.Common.{resource_names_of, block_type_names, instance_names, name_spaces, parameter_lists, port_names, state_names, with_lists, reason_text, Plan}
 use Rattle.fb_types.proofs.lemmas.lists.ByIndex.{element_of_index}
-use Rattle.fb_types.specs.Flat.{resource_names_of}
-use Rattle.fb_types.specs.Headline.{AreAccepted, Inputs, system_of}
-use Rattle.fb_types.specs.Names.{Name}
-use Rattle.fb_types.specs.Repeated.{Twice, algorithm_names, basics, block_type_names, instance_names, interfaces, name_spaces, networks, parameter_lists, port_names, state_names, with_lists}
-use Rattle.fb_types.specs.Simulation.{AtStop}
-use Rattle.fb_types.specs.Systems.{System}
-use Rattle.fb_types.specs.Text.{last_line, reason_text}
-use Rattle.fb_types.specs.declared.deploy.Plan.{Plan}
-use Rattle.fb_types.specs.declared.library.Library.{Library}
-use Rattle.fb_types.specs.declared.run.StopMark.{StopMark}
-use Rattle.fb_types.specs.declared.value.Reason.{Reason}
-use Rattle.fb_types.specs.declared.value.Reason.TheVariants.{Divide, Range, Steps}
-use Rattle.fb_trace.specs.End.{ending_of}
-use Rattle.fb_trace.specs.declared.last.Outcome.{Outcome}
-use Rattle.fb_trace.specs.declared.last.Outcome.TheVariants.{End, Stop}
-use Rattle.fb_wave.specs.Lines.{IsEndOf}
-use Rattle.fb_wave.specs.Named.{HasNames}
+use Rattle.fb_trace.specs.declared.last.Outcome.TheVariants.{End}
 use Rattle.fb_wave.specs.Reading.{number_text}
 use Rattle.fb_wave.proofs.lemmas.Cutting.{word_once}
 use Rattle.fb_wave.proofs.lemmas.Known.{there}
 use Rattle.fb_wave.proofs.lemmas.Numerals.{number_once}
 use Rattle.fb_wave.proofs.lemmas.Plain.{name_word}
 use Rattle.fb_wave.proofs.lemmas.Lining.{line_not_last}
-use Rattle.fb_types.specs.declared.run.Form.{Form}
-use Rattle.fb_inspect.specs.walk.Lines.{IsNext}
 use Rattle.fb_inspect.specs.walk.Standing.{AreApart}
-use Rattle.fb_inspect.specs.declared.walk.reading.Next.{Next}
 use Rattle.fb_inspect.specs.declared.walk.reading.Next.TheVariants as next
 
 -- ---- Resources

@@ -1,26 +1,10 @@
 -- A text is that of one line at most, as far as the form shows it.
-use Rattle.std.proofs.Common.{◌≡◌, ℕ, true, List, [], ◌∷◌, ◌++◌, length, map, codes, refl, sym, ap, subst, ◌∙◌, arith, append_assoc}
-use Rattle.std.proofs.lemmas.Bool.{and_parts}
-use Rattle.std.proofs.lemmas.List.{append_cancel_left, length-map}
-use Rattle.fb_types.specs.Headline.{system_of}
-use Rattle.fb_types.specs.Names.{Name}
-use Rattle.fb_types.specs.Numbers.{line_of, pair_up, path_at}
-use Rattle.fb_types.specs.Systems.{System}
-use Rattle.fb_types.specs.Text.{line_text, value_text, values_text}
-use Rattle.fb_types.specs.Values.{fits}
-use Rattle.fb_types.specs.declared.run.Form.{Form}
-use Rattle.fb_types.specs.declared.run.Form.TheVariants.{One, Two}
-use Rattle.fb_types.specs.declared.run.Line.{Line}
-use Rattle.fb_types.specs.declared.value.Ty.{Ty}
-use Rattle.fb_types.specs.declared.value.Value.{Value}
+use Rattle.fb_inspect.proofs.lemmas.Common.{◌≡◌, ℕ, true, List, [], ◌∷◌, ◌++◌, length, map, codes, refl, sym, ap, subst, ◌∙◌, arith, append_assoc, and_parts, append_cancel_left, length-map, system_of, Name, line_of, pair_up, path_at, System, line_text, fits, Form, One, Two, Line, Value, line_variables, IsLineOf, IsTextOf, HasNames, fit_each, type_at, Port, PortTable}
+use Rattle.fb_types.proofs.Common.{value_text, values_text, Ty}
 use Rattle.fb_system.specs.IndexLists.{variable_at}
-use Rattle.fb_system.specs.Lines.{line_variables}
-use Rattle.fb_wave.specs.Lines.{IsLineOf, IsTextOf, line_side}
-use Rattle.fb_wave.specs.Named.{HasNames}
+use Rattle.fb_wave.specs.Lines.{line_side}
 use Rattle.fb_wave.specs.Ports.{BeginsWith, IsPortOf, port_text}
-use Rattle.fb_wave.specs.Reading.{IsSmallValue, binding_text, fit_each, type_at}
-use Rattle.fb_wave.specs.declared.ports.Port.{Port}
-use Rattle.fb_wave.specs.declared.table.PortTable.{PortTable}
+use Rattle.fb_wave.specs.Reading.{IsSmallValue, binding_text}
 use Rattle.fb_wave.proofs.lemmas.Cutting.{word_once}
 use Rattle.fb_wave.proofs.lemmas.Finding.{begins_once, same_port}
 use Rattle.fb_wave.proofs.lemmas.Lining.{after_key, end_ended, key_three, line_begins, line_end, line_parts, port_of_line}

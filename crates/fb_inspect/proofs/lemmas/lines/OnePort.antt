@@ -1,20 +1,12 @@
 -- The ports of a system that was accepted are written in different ways.
-use Rattle.std.proofs.Common.{◌≡◌, ◌⊎◌, ℕ, Bool, true, false, [], ◌∷◌, Option, None, All, Contains, inl, inr, refl, sym, ap, subst, ◌∙◌}
-use Rattle.std.specs.Prelude.{flat_map, unwrap_or}
-use Rattle.std.proofs.lemmas.Bool.{cases_eq}
-use Rattle.std.proofs.lemmas.List.Elements.{All-cons, All-nil}
-use Rattle.fb_types.specs.Headline.{AreAccepted, Inputs, system_of}
-use Rattle.fb_types.specs.Names.{Name, Path}
-use Rattle.fb_types.specs.Repeated.{Twice, networks_in}
-use Rattle.fb_types.specs.Systems.{System}
+use Rattle.fb_inspect.proofs.lemmas.Common.{◌≡◌, ◌⊎◌, ℕ, Bool, true, false, [], ◌∷◌, Option, None, All, Contains, inl, inr, refl, sym, ap, subst, ◌∙◌, flat_map, unwrap_or, cases_eq, All-cons, All-nil, AreAccepted, Inputs, system_of, Name, Path, Twice, System, HasNames, Port}
+use Rattle.fb_types.proofs.Common.{networks_in}
 use Rattle.fb_types.proofs.lemmas.lists.Elements.{Contains-cons_cases, Contains-here, Contains-nil}
 use Rattle.fb_laws.proofs.lemmas.lists.Indexes.{has_at}
 use Rattle.fb_system.proofs.lemmas.networks.Distinct.{paths_once, position_of_path}
 use Rattle.fb_system.proofs.lemmas.networks.Sites.{all_once}
-use Rattle.fb_wave.specs.Named.{HasNames}
 use Rattle.fb_wave.specs.Nested.{AreNumbered}
 use Rattle.fb_wave.specs.Ports.{IsPortOf, port_text}
-use Rattle.fb_wave.specs.declared.ports.Port.{Port}
 use Rattle.fb_wave.proofs.lemmas.Alike.{texts_differ}
 
 -- ports with the same parts are one

@@ -1,17 +1,6 @@
 -- Takings do not depend on what form One leaves out of their keys.
-use Rattle.std.proofs.Common.{◌≡◌, ℕ, zero, suc, List, [], ◌∷◌, ◌++◌, map, Option, Some, None, refl, sym, ap, subst, ◌∙◌, inl, inr}
-use Rattle.std.proofs.lemmas.List.{map-append}
-use Rattle.fb_types.specs.Blocks.{Basic, Composite, Emission, Event, Kind}
-use Rattle.fb_types.specs.Simulation.{AtHorizon, AtStop, Ending}
+use Rattle.fb_inspect.proofs.lemmas.Common.{◌≡◌, ℕ, zero, suc, List, [], ◌∷◌, ◌++◌, map, Option, Some, None, refl, sym, ap, subst, ◌∙◌, inl, inr, map-append, Basic, Composite, Emission, Event, Kind, AtHorizon, AtStop, Ending, System, line_text, lines_text, Form, One, Two, Reason, Steps, Divide, Range, AreTakings, EndsBySteps, EndsSo, IsOneOf, KeepSteps, KeepsLimit, NoneStops, NothingAfter, RunsOut, all_lines, last_look, limited, stop_of, IsTaking, IsTakingAt, IsTakingWith, Look, Taking, emission_line, left_at, most, opening_look, taking_lines}
 use Rattle.fb_types.specs.States.{Line}
-use Rattle.fb_types.specs.Systems.{System}
-use Rattle.fb_types.specs.Text.{line_text, lines_text}
-use Rattle.fb_types.specs.declared.run.Form.{Form}
-use Rattle.fb_types.specs.declared.run.Form.TheVariants.{One, Two}
-use Rattle.fb_types.specs.declared.value.Reason.{Reason}
-use Rattle.fb_types.specs.declared.value.Reason.TheVariants.{Steps, Divide, Range}
-use Rattle.fb_inspect.specs.Inspections.{AreTakings, EndsBySteps, EndsSo, IsOneOf, KeepSteps, KeepsLimit, NoneStops, NothingAfter, RunsOut, all_lines, last_look, limited, stop_of}
-use Rattle.fb_inspect.specs.walk.Looks.{IsTaking, IsTakingAt, IsTakingWith, Look, Taking, emission_line, left_at, most, opening_look, taking_lines}
 use Rattle.fb_inspect.specs.walk.RunLines.{bare_key}
 
 abbrev pub bare : Line → Line

@@ -1,12 +1,7 @@
 -- Texts that end in a part of a line.
-use Rattle.std.proofs.Common.{◌≡◌, ◌⊎◌, ℕ, ◌-◌, ◌==◌, suc, Bool, true, false, cond, List, [], ◌∷◌, ◌++◌, length, Option, Some, None, refl, sym, ◌∙◌, ap, inl, inr, append-nil, arith}
-use Rattle.std.proofs.lemmas.Bool.{and_from, not-true, not_from_false}
-use Rattle.std.specs.Prelude.{not, IfSome, slice_get}
-use Rattle.std.specs.Io.BufRead.{take_through}
-use Rattle.std.specs.Io.KnownBytes.{Consumes}
-use Rattle.fb_wave.specs.Copying.{IsFirstLine}
-use Rattle.fb_wave.specs.CutOff.{has_no_feed, is_unended, is_unended_by}
-use Rattle.fb_inspect.specs.walk.Walking.{IsCutAfter}
+use Rattle.fb_inspect.proofs.lemmas.Common.{◌≡◌, ◌⊎◌, ℕ, ◌-◌, ◌==◌, suc, Bool, true, false, cond, List, [], ◌∷◌, ◌++◌, length, Option, Some, None, refl, sym, ◌∙◌, ap, inl, inr, append-nil, arith, not, IfSome, slice_get, take_through, Consumes, IsFirstLine, is_unended, IsCutAfter}
+use Rattle.fb_types.proofs.Common.{and_from, not-true, not_from_false}
+use Rattle.fb_wave.specs.CutOff.{has_no_feed, is_unended_by}
 
 -- ---- What is known of a text
 

@@ -1,35 +1,19 @@
 -- The marks of takings are those of what they do.
-use Rattle.std.proofs.Common.{◌≡◌, ◌⊎◌, ℕ, zero, suc, Bool, true, false, List, [], ◌∷◌, ◌++◌, map, Contains, Option, Some, None, inl, inr, refl, sym, ◌∙◌, ap, subst}
-use Rattle.std.specs.Prelude.{flat_map, slice_get}
-use Rattle.std.proofs.lemmas.Bool.{cases_order, true≢false}
-use Rattle.std.proofs.lemmas.List.Elements.{Contains-append_cases, Contains-append_left, Contains-append_right}
-use Rattle.fb_types.specs.Blocks.{Kind, Basic, Event, Composite, event_blocks}
-use Rattle.fb_types.specs.Flat.{resource_names_of, type_name}
-use Rattle.fb_types.specs.Headline.{AreAccepted, Inputs, system_of}
-use Rattle.fb_types.specs.Names.{Name}
-use Rattle.fb_types.specs.Repeated.{OwnedNetwork, Twice, algorithm_names, basics, block_type_names, instance_names, interfaces, name_spaces, networks, parameter_lists, port_names, state_names, with_lists}
-use Rattle.fb_types.specs.Systems.{System}
-use Rattle.fb_types.specs.declared.event_kind.EventKind.{EventKind}
-use Rattle.fb_types.specs.declared.library.BasicType.{BasicType}
-use Rattle.fb_types.specs.declared.library.BlockType.{BlockType}
+use Rattle.fb_inspect.proofs.lemmas.Common.{◌≡◌, ◌⊎◌, ℕ, zero, suc, Bool, true, false, List, [], ◌∷◌, ◌++◌, map, Contains, Option, Some, None, inl, inr, refl, sym, ◌∙◌, ap, subst, flat_map, slice_get, true≢false, Contains-append_right, Kind, Basic, Event, Composite, AreAccepted, Inputs, system_of, Name, Twice, algorithm_names, basics, interfaces, networks, System, EventKind, BasicType, BlockType, Library, Transition, Line, ChartMarks, Marks, Piece, Clears_by, Ran, Taking, PiecesMark, event_number}
+use Rattle.fb_types.proofs.Common.{Contains-append_cases, Contains-append_left, event_blocks, resource_names_of, type_name, OwnedNetwork, block_type_names, instance_names, name_spaces, parameter_lists, port_names, state_names, with_lists}
+use Rattle.std.proofs.lemmas.Bool.{cases_order}
 use Rattle.fb_types.specs.declared.library.BlockType.TheVariants as block
-use Rattle.fb_types.specs.declared.library.Library.{Library}
-use Rattle.fb_types.specs.declared.library.Transition.{Transition}
-use Rattle.fb_types.specs.declared.run.Line.{Line}
 use Rattle.fb_types.proofs.lemmas.lists.ByIndex.{element_of_index}
 use Rattle.fb_types.proofs.lemmas.lists.Elements.{Contains-cons_cases, Contains-here, Contains-map, Contains-nil, Contains-there}
 use Rattle.fb_types.proofs.lemmas.lists.TwiceLaws.{Twice-append_right}
 use Rattle.fb_coverage.specs.Additions.{AddsFlags}
 use Rattle.fb_coverage.specs.Sets.{with_port, with_taken}
-use Rattle.fb_coverage.specs.declared.marks.ChartMarks.{ChartMarks}
-use Rattle.fb_coverage.specs.declared.marks.Marks.{Marks}
 use Rattle.fb_coverage.specs.declared.marks.PortMarks.{PortMarks}
 use Rattle.fb_coverage.specs.declared.table.Table.{Table}
 use Rattle.fb_coverage.proofs.lemmas.Added.{adds_both, adds_by, adds_none, adds_one}
-use Rattle.fb_inspect.specs.walk.Chains.{Piece, Clears_by, Is_lost, Ran, Stops_by, Has, Emits}
+use Rattle.fb_inspect.specs.walk.Chains.{Is_lost, Stops_by, Has, Emits}
 use Rattle.fb_inspect.specs.Happenings.{AreMarkedBy, Clears, ClearsSome, ClearsTransition, Does, Enters, EntersState, Happens, History, IsAtPort, IsOfPort, KeepsEvent, MarkCharts, MarkPorts, Runs, RunsAlgorithm, TakesEvent, together}
-use Rattle.fb_inspect.specs.walk.Looks.{Taking}
-use Rattle.fb_inspect.specs.Markings.{ChartMarked, IsFirstLike, PieceMarks, PiecesMark, TakingMarksAt, TakingsMark, algorithm_number, event_number, lines_marked, state_number}
+use Rattle.fb_inspect.specs.Markings.{ChartMarked, IsFirstLike, PieceMarks, TakingMarksAt, TakingsMark, algorithm_number, lines_marked, state_number}
 
 -- ---- Lists
 

@@ -1,19 +1,10 @@
 -- Whether the event that was taken last was lost: what is marked says it.
-use Rattle.std.proofs.Common.{◌≡◌, ℕ, List, [], ◌∷◌, ◌++◌, Bool, true, false, Option, Some, None, refl, sym, ◌∙◌, ap, subst, inl, inr}
-use Rattle.std.specs.Prelude.{◌&&◌, ◌||◌, if◌then◌else◌}
-use Rattle.std.specs.List.{list_any}
-use Rattle.fb_types.specs.Blocks.{Kind, Basic, Event, Composite, Emission}
+use Rattle.fb_inspect.proofs.lemmas.Common.{◌≡◌, ℕ, List, [], ◌∷◌, ◌++◌, Bool, true, false, Option, Some, None, refl, sym, ◌∙◌, ap, subst, inl, inr, ◌&&◌, ◌||◌, if◌then◌else◌, list_any, Kind, Basic, Event, Composite, Emission, memory_of, with_values, BasicType, BlockType, ChartMarks, PiecesMark, event_number, Piece, Clears_by, Ran, is_loss, IsTakingAt, Look, Seen, Taking, emits_pieces, memory_pieces, reacted, IsKept, Remembered}
 use Rattle.fb_types.specs.EventBlocks as blocks
-use Rattle.fb_types.specs.Reactions.{memory_of, with_values}
-use Rattle.fb_types.specs.declared.library.BasicType.{BasicType}
-use Rattle.fb_types.specs.declared.library.BlockType.{BlockType}
 use Rattle.fb_coverage.specs.Sets.{with_taken}
-use Rattle.fb_coverage.specs.declared.marks.ChartMarks.{ChartMarks}
-use Rattle.fb_inspect.specs.Markings.{PiecesMark, TakingMarksAt, event_number}
-use Rattle.fb_inspect.specs.walk.Chains.{Piece, Clears_by, Is_lost, Ran, Stops_by, Has, Emits, is_loss}
-use Rattle.fb_inspect.specs.walk.Looks.{IsTakingAt, Look, Seen, Taking, emits_pieces, memory_pieces, reacted}
-use Rattle.fb_inspect.specs.walk.Walking.{IsKept, is_chart}
-use Rattle.fb_inspect.specs.declared.walk.blocks.Remembered.{Remembered}
+use Rattle.fb_inspect.specs.Markings.{TakingMarksAt}
+use Rattle.fb_inspect.specs.walk.Chains.{Is_lost, Stops_by, Has, Emits}
+use Rattle.fb_inspect.specs.walk.Walking.{is_chart}
 use Rattle.fb_inspect.specs.declared.walk.blocks.Remembered.TheVariants as kept
 
 or_true : (b c : Bool) → true ≡ (b || (true || c))

@@ -1,27 +1,15 @@
 -- What is marked for pieces, one after another.
-use Rattle.std.proofs.Common.{◌≡◌, ◌≢◌, ◌<◌, ◌+◌, ◌⊎◌, ℕ, zero, suc, Bool, true, false, cond, List, [], ◌∷◌, ◌++◌, length, map, Option, Some, None, Result, Ok, Err, refl, sym, ◌∙◌, ap, subst, inl, inr, arith}
-use Rattle.std.specs.Prelude.{slice_get, unwrap_or}
-use Rattle.std.proofs.lemmas.Bool.{true≢false}
-use Rattle.std.proofs.lemmas.Option.{same_Some}
-use Rattle.fb_types.specs.Blocks.{Emission, among}
-use Rattle.fb_types.specs.Charts.{NoneClears, is_true}
-use Rattle.fb_types.specs.Names.{Name, same_name}
-use Rattle.fb_types.specs.Numbers.{event_at}
-use Rattle.fb_types.specs.Values.{Values}
-use Rattle.fb_types.specs.declared.library.BasicType.{BasicType}
+use Rattle.fb_inspect.proofs.lemmas.Common.{◌≡◌, ◌<◌, ◌+◌, ◌⊎◌, ℕ, zero, suc, Bool, true, false, cond, List, [], ◌∷◌, ◌++◌, length, map, Option, Some, None, Result, Ok, Err, refl, sym, ◌∙◌, ap, subst, inl, inr, arith, slice_get, unwrap_or, true≢false, same_Some, Emission, among, NoneClears, is_true, Name, same_name, event_at, Values, BasicType, Transition, Reason, ChartMarks, state_at, Piece, rest_pieces, stop_pieces, PiecesMark, event_number}
+use Rattle.fb_types.proofs.Common.{◌≢◌}
 use Rattle.fb_types.specs.declared.library.State.{State}
-use Rattle.fb_types.specs.declared.library.Transition.{Transition}
-use Rattle.fb_types.specs.declared.value.Reason.{Reason}
 use Rattle.fb_types.proofs.lemmas.lists.ByIndex.{element_at}
 use Rattle.fb_coverage.specs.Sets.{with_ran}
-use Rattle.fb_coverage.specs.declared.marks.ChartMarks.{ChartMarks}
-use Rattle.fb_ecc.specs.Indexes.{IsStateOf, state_at}
+use Rattle.fb_ecc.specs.Indexes.{IsStateOf}
 use Rattle.fb_ecc.specs.Sound.{IsSound}
 use Rattle.fb_ecc.specs.Steps.{clearing_index, first_or}
 use Rattle.fb_ecc.specs.Trials.{nowhere, transition_at}
 use Rattle.fb_ecc.proofs.lemmas.Trials.{event_here, list_all-at, state_here}
-use Rattle.fb_inspect.specs.walk.Chains.{Piece, rest_pieces, stop_pieces}
-use Rattle.fb_inspect.specs.Markings.{IsFirstLike, PiecesMark, algorithm_number, event_number, state_number, with_lost_if, with_ran_by}
+use Rattle.fb_inspect.specs.Markings.{IsFirstLike, algorithm_number, state_number, with_lost_if, with_ran_by}
 use Rattle.fb_inspect.proofs.lemmas.reactions.Showing.{emits_pieces, ran_pieces}
 
 -- ---- Parts by their indexes

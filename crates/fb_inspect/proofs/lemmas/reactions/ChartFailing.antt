@@ -1,26 +1,8 @@
 -- The reaction of a basic block, up to an emission that is not in the next line.
-use Rattle.std.proofs.Common.{◌≡◌, ℕ, List, [], ◌∷◌, ◌++◌, ◌+◌, drop, map, Option, Some, None, refl, sym, ap, subst, append-nil, arith}
-use Rattle.std.specs.Prelude.{All, slice_get}
-use Rattle.std.proofs.lemmas.List.Elements.{All-weaker}
-use Rattle.fb_types.specs.Blocks.{Basic, Emission}
-use Rattle.fb_types.specs.Charts.{Position, Acts, Clears, trial_at, leaving, actions_of}
-use Rattle.fb_types.specs.Names.{Name}
-use Rattle.fb_types.specs.Numbers.{emission_of, path_at, ports_at}
-use Rattle.fb_types.specs.declared.library.Action.{Action}
-use Rattle.fb_types.specs.declared.library.BasicType.{BasicType}
-use Rattle.fb_types.specs.declared.library.Ports.{Ports}
-use Rattle.fb_types.specs.declared.library.Transition.{Transition}
+use Rattle.fb_inspect.proofs.lemmas.Common.{◌≡◌, ℕ, List, [], ◌∷◌, ◌++◌, ◌+◌, drop, map, Option, Some, None, refl, sym, ap, subst, append-nil, arith, All, slice_get, Basic, Emission, Position, Acts, Clears, trial_at, leaving, actions_of, Name, emission_of, path_at, ports_at, Action, BasicType, Ports, Transition, Reason, first_true, IsEmission as IsEmissionOf, Clears_by, Showing, Acting, ShowsActs, ShowsChain, ShowsReaction, stop_pieces, StepGoes, sys_of, ChartFails, EmitsFail, ChartTaking, Reading, Trail}
+use Rattle.fb_types.proofs.Common.{All-weaker}
 use Rattle.fb_types.specs.declared.run.Emission as run
-use Rattle.fb_types.specs.declared.value.Reason.{Reason}
 use Rattle.fb_ecc.specs.Indexes.{IsWellFormed}
-use Rattle.fb_ecc.specs.Steps.{first_true}
-use Rattle.fb_system.specs.Lines.{IsEmission as IsEmissionOf}
-use Rattle.fb_inspect.specs.walk.Chains.{Clears_by, Showing, Acting, ShowsActs, ShowsChain, ShowsReaction, stop_pieces}
-use Rattle.fb_inspect.specs.walk.Charting.{StepGoes, sys_of}
-use Rattle.fb_inspect.specs.Refusals.{ChartFails, EmitsFail}
-use Rattle.fb_inspect.specs.declared.walk.charts.ChartTaking.{ChartTaking}
-use Rattle.fb_inspect.specs.declared.walk.reading.Reading.{Reading}
-use Rattle.fb_inspect.specs.declared.walk.trail.Trail.{Trail}
 use Rattle.fb_inspect.proofs.lemmas.reactions.Charted.{ports_by, rest_at}
 use Rattle.fb_inspect.proofs.lemmas.results.Refused.{emits_after, emits_more, reads_of}
 use Rattle.fb_inspect.proofs.lemmas.reactions.Showing.{act_shown, acts_before, acts_next, acts_stop, before, chain_before, chain_goes_on, chain_stops, emits_pieces, ran_pieces}

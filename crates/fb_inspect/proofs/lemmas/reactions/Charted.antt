@@ -1,39 +1,16 @@
 -- The reaction of a basic block, gone through part by part.
-use Rattle.std.proofs.Common.{◌≡◌, ◌≤◌, ◌+◌, ℕ, zero, suc, Bool, List, [], ◌∷◌, ◌++◌, drop, length, map, Option, Some, None, refl, sym, ◌∙◌, ap, subst, append_assoc, append-nil}
-use Rattle.std.proofs.lemmas.List.{map-append}
-use Rattle.std.proofs.lemmas.Option.{slice_get_within, get_or_from_slice_get}
-use Rattle.std.specs.Prelude.{slice_get}
-use Rattle.fb_types.specs.Blocks.{Basic, Emission, Kind, ports, ports_of}
-use Rattle.fb_types.specs.Charts.{Position, Acts, Clears, NoneClears, Fails, trial_at, leaving, actions_of}
-use Rattle.fb_types.specs.Names.{Name}
-use Rattle.fb_types.specs.Numbers.{emission_of, line_of, path_at, ports_at}
+use Rattle.fb_inspect.proofs.lemmas.Common.{◌≡◌, ◌≤◌, ◌+◌, ℕ, zero, suc, Bool, List, [], ◌∷◌, ◌++◌, drop, length, map, Option, Some, None, refl, sym, ◌∙◌, ap, subst, append_assoc, append-nil, map-append, slice_get_within, slice_get, Basic, Emission, Kind, ports_of, Position, Acts, Clears, NoneClears, Fails, trial_at, leaving, actions_of, Name, emission_of, line_of, path_at, ports_at, System, lines_text, Values, Action, BasicType, Ports, Transition, Form, Line, Reason, values_of, ChartMarks, first_true, Piece, Showing, Clears_by, Acting, ShowsActs, ShowsChain, ShowsReaction, rest_pieces, stop_pieces, ChartGoes, StepGoes, sys_of, emission_line, pieces_text, PiecesMark, EmitsGo, Goes, shown_text, ChartTaking, Trail}
+use Rattle.fb_types.proofs.Common.{get_or_from_slice_get, ports}
 use Rattle.fb_types.specs.States as model
-use Rattle.fb_types.specs.Systems.{System}
-use Rattle.fb_types.specs.Text.{lines_text}
-use Rattle.fb_types.specs.Values.{Values}
-use Rattle.fb_types.specs.declared.library.Action.{Action}
-use Rattle.fb_types.specs.declared.library.BasicType.{BasicType}
-use Rattle.fb_types.specs.declared.library.Ports.{Ports}
-use Rattle.fb_types.specs.declared.library.Transition.{Transition}
 use Rattle.fb_types.specs.declared.run.Emission as run
-use Rattle.fb_types.specs.declared.run.Form.{Form}
-use Rattle.fb_types.specs.declared.run.Line.{Line}
-use Rattle.fb_types.specs.declared.value.Reason.{Reason}
-use Rattle.fb_st.specs.Frames.{values_of}
 use Rattle.fb_st.specs.declared.frame.Slot.{Slot}
-use Rattle.fb_coverage.specs.declared.marks.ChartMarks.{ChartMarks}
 use Rattle.fb_ecc.specs.Indexes.{index}
-use Rattle.fb_ecc.specs.Steps.{first_true}
 use Rattle.fb_ecc.proofs.lemmas.Links.{nothing_left}
 use Rattle.fb_ecc.proofs.lemmas.Trials.{cut_at}
-use Rattle.fb_inspect.specs.walk.Chains.{Piece, Showing, Clears_by, Acting, ShowsActs, ShowsChain, ShowsReaction, rest_pieces, stop_pieces}
-use Rattle.fb_inspect.specs.walk.Charting.{ChartGoes, StepGoes, sys_of}
-use Rattle.fb_inspect.specs.walk.Looks.{emission_line, pieces_text, ran_by}
-use Rattle.fb_inspect.specs.Markings.{PieceMarks, PiecesMark, with_lost_if, with_ran_by}
-use Rattle.fb_inspect.specs.walk.Moves.{EmitsGo, Goes, IsAside, shown_text}
+use Rattle.fb_inspect.specs.walk.Looks.{ran_by}
+use Rattle.fb_inspect.specs.Markings.{PieceMarks, with_lost_if, with_ran_by}
+use Rattle.fb_inspect.specs.walk.Moves.{IsAside}
 use Rattle.fb_inspect.specs.walk.Notes.{cleared_note, lost_if, lost_note, own_variables, ran_by_action, stop_note, stopped_note}
-use Rattle.fb_inspect.specs.declared.walk.charts.ChartTaking.{ChartTaking}
-use Rattle.fb_inspect.specs.declared.walk.trail.Trail.{Trail}
 use Rattle.fb_inspect.proofs.lemmas.lines.Emitted.{emissions_are, emits_text, shown_pieces}
 use Rattle.fb_inspect.proofs.lemmas.marks.Marked.{emits_mark, pieces_append, ran_marks, rest_marks, stop_marks}
 use Rattle.fb_inspect.proofs.lemmas.lines.Moving.{alone_from, alone_on, aside_none, goes_as, goes_note, goes_then, shown-nil}

@@ -1,25 +1,8 @@
 -- What the reaction of a block emits: event outputs of its type, with values of the types of the variables WITH them.
-use Rattle.std.proofs.Common.{◌≡◌, ℕ, zero, suc, Bool, true, false, List, [], ◌∷◌, Option, Some, None, refl, sym, subst}
-use Rattle.std.specs.Prelude.{◌&&◌, ◌||◌, codes, if◌then◌else◌, nat_lt}
-use Rattle.fb_types.specs.Bodies.{End, Went, Left, Returned, Stopped, RunsBody}
-use Rattle.fb_types.specs.Blocks.{Emission, Event, among, bound, outputs_with, ports_of, types_of, variables_of}
-use Rattle.fb_types.specs.Charts.{Acts, AfterBody, ChartReacts, Clears, Enters, Fails, Halts, Links, Moving, NoneClears, OrHalts, Performs, Position, Rests, Trial, actions_of, algorithm_of, at_point, emitting, trial_at}
+use Rattle.fb_types.proofs.Common.{◌≡◌, ℕ, zero, suc, Bool, true, false, List, [], ◌∷◌, Option, Some, None, refl, sym, subst, ◌&&◌, ◌||◌, codes, if◌then◌else◌, nat_lt, End, Went, Left, Returned, Stopped, RunsBody, Emission, Event, among, bound, outputs_with, ports_of, types_of, variables_of, Acts, AfterBody, ChartReacts, Clears, Enters, Fails, Halts, Links, Moving, NoneClears, Performs, Position, Rests, Trial, actions_of, algorithm_of, at_point, emitting, trial_at, Each, Name, emissions, event_outs, Values, fits, EventKind, Restart, Split, Merge, Rendezvous, Permit, Select, Switch, Delay, Cycle, SetReset, DataLatch, RisingEdge, FallingEdge, CountUp, Action, BasicType, Ports, Variable, Reason, Steps, Value}
+use Rattle.fb_types.specs.Charts.{OrHalts}
 use Rattle.fb_types.specs.EventBlocks as blocks
-use Rattle.fb_types.specs.Machines.{Each}
-use Rattle.fb_types.specs.Names.{Name}
-use Rattle.fb_types.specs.Reactions.{emissions}
 use Rattle.fb_types.specs.States.{Remembers}
-use Rattle.fb_types.specs.Unknown.{event_outs}
-use Rattle.fb_types.specs.Values.{Values, fits}
-use Rattle.fb_types.specs.declared.event_kind.EventKind.{EventKind}
-use Rattle.fb_types.specs.declared.event_kind.EventKind.TheVariants.{Restart, Split, Merge, Rendezvous, Permit, Select, Switch, Delay, Cycle, SetReset, DataLatch, RisingEdge, FallingEdge, CountUp}
-use Rattle.fb_types.specs.declared.library.Action.{Action}
-use Rattle.fb_types.specs.declared.library.BasicType.{BasicType}
-use Rattle.fb_types.specs.declared.library.Ports.{Ports}
-use Rattle.fb_types.specs.declared.library.Variable.{Variable}
-use Rattle.fb_types.specs.declared.value.Reason.{Reason}
-use Rattle.fb_types.specs.declared.value.Reason.TheVariants.{Steps}
-use Rattle.fb_types.specs.declared.value.Value.{Value}
 use Rattle.fb_types.proofs.lemmas.lists.EachLaws.{each_append}
 use Rattle.fb_laws.specs.Typed.{AllFit, IsTypedMemory, variable_named}
 use Rattle.fb_laws.proofs.lemmas.typing.Bodies.{Keeps, body-keeps}

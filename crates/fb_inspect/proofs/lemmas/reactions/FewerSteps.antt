@@ -1,17 +1,7 @@
 -- A reaction of a basic block emits the first of what it emits with more steps.
-use Rattle.std.proofs.Common.{◌≡◌, ◌⊎◌, inl, inr, ℕ, zero, suc, ◌+◌, List, [], ◌∷◌, ◌++◌, Option, Some, None, refl, sym, ◌∙◌, ap, subst, arith, append_assoc, append-nil}
-use Rattle.fb_types.specs.Names.{Name}
-use Rattle.fb_types.specs.Bodies.{Point, End, Went, Left, Returned, Stopped}
-use Rattle.fb_types.specs.Blocks.{Emission, types_of}
-use Rattle.fb_types.specs.Charts.{Position, Trial, Clears, NoneClears, Fails, Rests, trial_at, leaving, actions_of, algorithm_of, at_point, emitting}
-use Rattle.fb_types.specs.declared.library.Action.{Action}
-use Rattle.fb_types.specs.declared.library.BasicType.{BasicType}
-use Rattle.fb_types.specs.declared.library.Transition.{Transition}
-use Rattle.fb_types.specs.declared.value.Reason.{Reason}
-use Rattle.fb_types.specs.declared.value.Reason.TheVariants.{Steps, Divide, Range}
+use Rattle.fb_inspect.proofs.lemmas.Common.{◌≡◌, ◌⊎◌, inl, inr, ℕ, zero, suc, ◌+◌, List, [], ◌∷◌, ◌++◌, Option, Some, None, refl, sym, ◌∙◌, ap, subst, arith, append_assoc, append-nil, Name, End, Went, Returned, Stopped, Emission, types_of, Position, Trial, Clears, NoneClears, Fails, Rests, trial_at, leaving, actions_of, algorithm_of, at_point, emitting, Action, BasicType, Transition, Reason, Steps, Divide, Range, first_true, Piece, Showing, Silent, ShowsAfter, ShowsPerform, ShowsEmission, ShowsActs, ShowsOr, ShowsEnters, ShowsLinks, ShowsReaction}
+use Rattle.fb_types.proofs.Common.{Point, Left}
 use Rattle.fb_types.proofs.lemmas.determined.BodyLaws.{body-one}
-use Rattle.fb_ecc.specs.Steps.{first_true}
-use Rattle.fb_inspect.specs.walk.Chains.{Piece, Showing, Silent, ShowsAfter, ShowsPerform, ShowsEmission, ShowsActs, ShowsOr, ShowsEnters, ShowsLinks, ShowsReaction}
 use Rattle.fb_inspect.proofs.lemmas.reactions.MoreReactions.{Next, acts_longer, enters_out, later, later_trial, trial_longer}
 use Rattle.fb_inspect.proofs.lemmas.runs.MoreSteps.{body_longer, later as later_point}
 use Rattle.fb_inspect.proofs.lemmas.reactions.ShowingLaws.{acts-one}

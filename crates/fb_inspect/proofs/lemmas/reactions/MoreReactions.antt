@@ -1,17 +1,6 @@
 -- A reaction of a basic block that does not run out of steps is the same with more of them, and it is shown alike.
-use Rattle.std.proofs.Common.{◌≡◌, ℕ, zero, suc, ◌+◌, Bool, true, false, List, [], ◌∷◌, Option, Some, None, Result, Ok, Err, refl, sym, ◌∙◌, ap, subst, arith}
-use Rattle.fb_types.specs.Names.{Name}
-use Rattle.fb_types.specs.Bodies.{End, Went, Left, Returned, Stopped}
-use Rattle.fb_types.specs.Blocks.{types_of}
-use Rattle.fb_types.specs.Charts.{Position, Trial, Clears, NoneClears, Fails, Rests, trial_at, trial_of, by_condition, is_true, leaving, actions_of, algorithm_of, at_point, emitting}
-use Rattle.fb_types.specs.Values.{Values}
-use Rattle.fb_types.specs.declared.library.Action.{Action}
-use Rattle.fb_types.specs.declared.library.BasicType.{BasicType}
-use Rattle.fb_types.specs.declared.library.Transition.{Transition}
-use Rattle.fb_types.specs.declared.value.Reason.{Reason}
-use Rattle.fb_types.specs.declared.value.Reason.TheVariants.{Steps}
-use Rattle.fb_ecc.specs.Steps.{first_true}
-use Rattle.fb_inspect.specs.walk.Chains.{Piece, Showing, Silent, rest_pieces, ShowsAfter, ShowsPerform, ShowsEmission, ShowsActs, ShowsOr, ShowsEnters, ShowsLinks, ShowsChain, ShowsReaction}
+use Rattle.fb_inspect.proofs.lemmas.Common.{◌≡◌, ℕ, zero, suc, ◌+◌, Bool, true, false, List, [], ◌∷◌, Option, Some, None, Result, Ok, Err, refl, sym, ◌∙◌, ap, subst, arith, Name, End, Went, Returned, Stopped, types_of, Position, Trial, Clears, NoneClears, Fails, Rests, trial_at, is_true, leaving, actions_of, algorithm_of, at_point, emitting, Values, Action, BasicType, Transition, Reason, Steps, first_true, Piece, Showing, Silent, rest_pieces, ShowsAfter, ShowsPerform, ShowsEmission, ShowsActs, ShowsOr, ShowsEnters, ShowsLinks, ShowsChain, ShowsReaction}
+use Rattle.fb_types.proofs.Common.{Left, trial_of, by_condition}
 use Rattle.fb_inspect.proofs.lemmas.runs.MoreSteps.{body_longer, later as later_point}
 
 module _ (d : ℕ) where

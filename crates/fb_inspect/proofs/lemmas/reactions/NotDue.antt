@@ -1,28 +1,13 @@
 -- Where the timer of an event block does not go off with a line, no taking of it begins with the line.
-use Rattle.std.proofs.Common.{◌≡◌, ℕ, Bool, List, [], ◌∷◌, map, inl, inr, refl, sym, ◌∙◌, ap, subst}
-use Rattle.std.specs.Prelude.{All}
-use Rattle.std.proofs.lemmas.List.Elements.{All-head, All-weaker}
-use Rattle.fb_types.specs.Blocks.{Emission, Event, ports_of_event_block}
+use Rattle.fb_inspect.proofs.lemmas.Common.{◌≡◌, ℕ, Bool, List, [], ◌∷◌, map, inl, inr, refl, sym, ◌∙◌, ap, subst, All, All-head, Emission, Event, ports_of_event_block, system_of, Name, emission_of, line_of, path_at, ports_at, memory_of, EventKind, Restart, Ports, Line, IsEmission as IsEmissionOf, HasNames, PortTable, Seen, emission_line, emissions_by, IsBlockKept, EventBlock}
+use Rattle.fb_types.proofs.Common.{All-weaker, Delay, Cycle}
 use Rattle.fb_types.specs.EventBlocks as blocks
-use Rattle.fb_types.specs.Headline.{system_of}
-use Rattle.fb_types.specs.Names.{Name}
-use Rattle.fb_types.specs.Numbers.{emission_of, line_of, path_at, ports_at}
-use Rattle.fb_types.specs.Reactions.{memory_of}
 use Rattle.fb_types.specs.States as model
-use Rattle.fb_types.specs.declared.event_kind.EventKind.{EventKind}
-use Rattle.fb_types.specs.declared.event_kind.EventKind.TheVariants.{Restart, Delay, Cycle}
-use Rattle.fb_types.specs.declared.library.Ports.{Ports}
 use Rattle.fb_types.specs.declared.run.Emission as run
-use Rattle.fb_types.specs.declared.run.Line.{Line}
 use Rattle.fb_event.specs.Reactions.{IsWellFormed, meanings}
-use Rattle.fb_system.specs.Lines.{IsEmission as IsEmissionOf}
 use Rattle.fb_net.proofs.lemmas.values.Sampling.{ports-of_kind}
-use Rattle.fb_wave.specs.Named.{HasNames}
-use Rattle.fb_wave.specs.declared.table.PortTable.{PortTable}
-use Rattle.fb_inspect.specs.walk.Looks.{Seen, emission_line, emissions_by}
 use Rattle.fb_inspect.specs.Refusals.{IsOfTimer}
-use Rattle.fb_inspect.specs.walk.Timing.{IsBlockKept, IsBlockLine, IsNoExpiry, timer_reaction}
-use Rattle.fb_inspect.specs.declared.walk.blocks.EventBlock.{EventBlock}
+use Rattle.fb_inspect.specs.walk.Timing.{IsBlockLine, IsNoExpiry, timer_reaction}
 use Rattle.fb_inspect.proofs.lemmas.lines.OneEmission.{emission_once}
 use Rattle.fb_inspect.proofs.lemmas.reactions.Timed.{shown_emission}
 

@@ -1,14 +1,7 @@
 -- What the blocks remember and the first line determine a taking, and the lines determine a row of takings.
-use Rattle.std.proofs.Common.{◌≡◌, ℕ, zero, suc, true, false, List, [], ◌∷◌, ◌++◌, Option, Some, None, refl, sym, ◌∙◌, ap, subst, inl, inr, append_assoc}
-use Rattle.std.proofs.lemmas.List.{append_cancel_left}
-use Rattle.fb_types.specs.Blocks.{Kind, Basic, Event, Composite, Emission}
-use Rattle.fb_types.specs.Charts.{Position}
+use Rattle.fb_types.proofs.Common.{◌≡◌, ℕ, zero, suc, true, false, List, [], ◌∷◌, ◌++◌, Option, Some, None, refl, sym, ◌∙◌, ap, subst, inl, inr, append_assoc, append_cancel_left, Kind, Basic, Event, Composite, Emission, Position, memory_of, with_values, InState, System, EventKind, BasicType}
 use Rattle.fb_types.specs.EventBlocks as blocks
-use Rattle.fb_types.specs.Reactions.{memory_of, with_values}
-use Rattle.fb_types.specs.States.{InState, Line}
-use Rattle.fb_types.specs.Systems.{System}
-use Rattle.fb_types.specs.declared.event_kind.EventKind.{EventKind}
-use Rattle.fb_types.specs.declared.library.BasicType.{BasicType}
+use Rattle.fb_types.specs.States.{Line}
 use Rattle.fb_inspect.specs.Inspections.{AreTakings, all_lines}
 use Rattle.fb_inspect.specs.walk.Looks.{IsTaking, IsTakingAt, IsTakingByBlock, IsTakingByChart, IsTakingByComposite, IsTakingByTimer, IsTakingWith, Look, Taking, emits_pieces, left_at, memory_pieces, reacted, taking_lines, with_left, with_seen}
 use Rattle.fb_inspect.proofs.lemmas.reactions.ShowingLaws.{reaction_one}

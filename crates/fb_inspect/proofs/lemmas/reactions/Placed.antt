@@ -1,15 +1,9 @@
 -- Where a chart is after a part of a reaction, and what holds of the last call of a function.
-use Rattle.std.proofs.Common.{◌≡◌, ◌<◌, get_or, length, ℕ, List, [], Option, Some, None, Result, Ok, Err, refl, sym, ◌∙◌, ap, subst}
-use Rattle.std.specs.Prelude.{IfOk, IfSome, OnErr, OnOk, option_map, slice_get}
-use Rattle.std.proofs.lemmas.Option.{get_or_from_slice_get}
+use Rattle.fb_inspect.proofs.lemmas.Common.{◌≡◌, ◌<◌, get_or, length, ℕ, List, [], Option, Some, None, Result, Ok, Err, refl, sym, ◌∙◌, ap, subst, IfOk, IfSome, OnErr, OnOk, option_map, slice_get, Inputs, Name, BasicType, state_at, PortTable, ChartMarks}
+use Rattle.fb_types.proofs.Common.{get_or_from_slice_get}
 use Rattle.fb_types.proofs.lemmas.lists.ByIndex.{element_at}
-use Rattle.fb_types.specs.Headline.{Inputs}
-use Rattle.fb_types.specs.Names.{Name}
-use Rattle.fb_types.specs.declared.library.BasicType.{BasicType}
 use Rattle.fb_st.specs.declared.frame.Slot.{Slot}
-use Rattle.fb_ecc.specs.Indexes.{index, state_at}
-use Rattle.fb_wave.specs.declared.table.PortTable.{PortTable}
-use Rattle.fb_coverage.specs.declared.marks.ChartMarks.{ChartMarks}
+use Rattle.fb_ecc.specs.Indexes.{index}
 use Rattle.fb_inspect.specs.Markings.{with_lost_if}
 use Rattle.fb_inspect.specs.walk.Notes.{lost_if}
 

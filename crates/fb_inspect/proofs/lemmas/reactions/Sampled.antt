@@ -1,24 +1,12 @@
 -- What an event block samples: all its inputs, or none.
-use Rattle.std.proofs.Common.{◌≡◌, ◌<◌, ◌≤◌, ◌⊎◌, ℕ, zero, suc, Bool, true, List, [], ◌∷◌, ◌++◌, length, map, Some, refl, sym, ◌∙◌, ap, subst, arith, inl, inr}
-use Rattle.std.specs.Prelude.{if◌then◌else◌}
-use Rattle.std.proofs.lemmas.Bool.{and_parts}
-use Rattle.fb_types.specs.Blocks.{Bound, inputs_with, ports_of_event_block, variable_names}
-use Rattle.fb_types.specs.Names.{Name}
-use Rattle.fb_types.specs.Numbers.{event_at, pair_up}
-use Rattle.fb_types.specs.Reactions.{with_values}
-use Rattle.fb_types.specs.Values.{Values, fits}
-use Rattle.fb_types.specs.declared.event_kind.EventKind.{EventKind}
+use Rattle.fb_inspect.proofs.lemmas.Common.{◌≡◌, ◌<◌, ◌≤◌, ◌⊎◌, ℕ, zero, suc, Bool, true, List, [], ◌∷◌, ◌++◌, length, map, Some, refl, sym, ◌∙◌, ap, subst, arith, inl, inr, if◌then◌else◌, and_parts, Bound, inputs_with, ports_of_event_block, variable_names, Name, event_at, pair_up, with_values, Values, fits, EventKind, Variable, Value, AllFit, AreIndexes, fit_each, type_at}
+use Rattle.fb_types.proofs.Common.{Ty}
 use Rattle.fb_types.specs.declared.event_kind.EventKind.TheVariants as kind
-use Rattle.fb_types.specs.declared.library.Variable.{Variable}
-use Rattle.fb_types.specs.declared.value.Ty.{Ty}
-use Rattle.fb_types.specs.declared.value.Value.{Value}
 use Rattle.fb_types.proofs.lemmas.lists.ByIndex.{all_at}
 use Rattle.fb_types.proofs.lemmas.events.EventCounts.{one_input}
 use Rattle.fb_types.proofs.lemmas.names.NameLaws.{same_name-itself}
 use Rattle.fb_event.specs.Reactions.{FitTheirTypes}
-use Rattle.fb_laws.specs.Typed.{AllFit, variable_named}
-use Rattle.fb_system.specs.IndexLists.{AreIndexes}
-use Rattle.fb_wave.specs.Reading.{fit_each, type_at}
+use Rattle.fb_laws.specs.Typed.{variable_named}
 use Rattle.fb_inspect.specs.walk.Timing.{inputs_after}
 
 -- The names are those of all variables, of which there is one, or there is no name.

@@ -1,15 +1,6 @@
 -- Each reaction is shown, and in one way.
-use Rattle.std.proofs.Common.{◌≡◌, ℕ, zero, suc, true, false, List, [], ◌∷◌, ◌++◌, Option, Some, None, Ok, Err, refl, sym, ◌∙◌, ap, subst}
-use Rattle.fb_types.specs.Names.{Name}
-use Rattle.fb_types.specs.Bodies.{Point, End, Went, Left, Returned, Stopped}
-use Rattle.fb_types.specs.Blocks.{types_of}
-use Rattle.fb_types.specs.Charts.{Position, Moving, Acts, AfterBody, ChartReacts, Enters, Links, OrHalts, Performs, Trial, Clears, NoneClears, Fails, Rests, trial_at, trial_of, by_condition, is_true, leaving, actions_of, algorithm_of, at_point, emitting}
-use Rattle.fb_types.specs.Values.{Values}
-use Rattle.fb_types.specs.declared.library.Action.{Action}
-use Rattle.fb_types.specs.declared.library.BasicType.{BasicType}
-use Rattle.fb_types.specs.declared.library.Transition.{Transition}
-use Rattle.fb_types.specs.declared.value.Reason.{Reason}
-use Rattle.fb_types.specs.declared.value.Reason.TheVariants.{Steps}
+use Rattle.fb_types.proofs.Common.{◌≡◌, ℕ, zero, suc, true, false, List, [], ◌∷◌, ◌++◌, Option, Some, None, Ok, Err, refl, sym, ◌∙◌, ap, subst, Name, Point, End, Went, Left, Returned, Stopped, types_of, Position, Moving, Acts, AfterBody, ChartReacts, Enters, Links, Performs, Trial, Clears, NoneClears, Fails, Rests, trial_at, trial_of, by_condition, is_true, leaving, actions_of, algorithm_of, at_point, emitting, Values, Action, BasicType, Transition, Reason, Steps}
+use Rattle.fb_types.specs.Charts.{OrHalts}
 use Rattle.fb_types.proofs.lemmas.determined.BodyLaws.{body-one}
 use Rattle.fb_ecc.specs.Steps.{first_by, first_true}
 use Rattle.fb_inspect.specs.walk.Chains.{Piece, Clears_by, Ran, Showing, Silent, emission_pieces, ShowsAfter, ShowsPerform, ShowsEmission, ShowsActs, ShowsOr, ShowsEnters, ShowsLinks, ShowsChain, ShowsReaction, rest_pieces, stop_pieces}

@@ -1,10 +1,7 @@
 -- Each line of an event that an instance takes begins a taking.
-use Rattle.std.proofs.Common.{◌≡◌, ℕ, true, List, [], ◌++◌, Some, None, refl, inl}
-use Rattle.fb_types.specs.Blocks.{Kind, Basic, Event, Composite, Emission}
-use Rattle.fb_types.specs.Charts.{Position}
+use Rattle.fb_types.proofs.Common.{◌≡◌, ℕ, true, List, [], ◌++◌, Some, None, refl, inl, Kind, Basic, Event, Composite, Emission, Position, memory_of, state_of, with_values, InState}
 use Rattle.fb_types.specs.EventBlocks as blocks
-use Rattle.fb_types.specs.Reactions.{memory_of, state_of, with_values}
-use Rattle.fb_types.specs.States.{InState, Line}
+use Rattle.fb_types.specs.States.{Line}
 use Rattle.fb_laws.proofs.lemmas.existence.ChartTotal.{chart_total}
 use Rattle.fb_inspect.specs.walk.Looks.{IsTakingAt, Look, Seen, Taking, emissions_by, emits_pieces, memory_pieces, reacted, with_left, with_seen}
 use Rattle.fb_inspect.proofs.lemmas.reactions.ShowingLaws.{reaction_shows}

@@ -1,37 +1,18 @@
 -- The reaction of an event block, gone through part by part.
-use Rattle.std.proofs.Common.{◌≡◌, ◌<◌, ℕ, Bool, true, false, List, [], ◌∷◌, ◌++◌, length, map, Option, None, refl, sym, ◌∙◌, ap, subst, append-nil}
-use Rattle.std.specs.Prelude.{◌&&◌, if◌then◌else◌}
-use Rattle.fb_types.specs.Blocks.{Emission, Event, inputs_with, outputs_with, ports_of_event_block, variable_names}
+use Rattle.fb_inspect.proofs.lemmas.Common.{◌≡◌, ◌<◌, ℕ, Bool, true, false, List, [], ◌∷◌, ◌++◌, length, map, Option, None, refl, sym, ◌∙◌, ap, subst, append-nil, ◌&&◌, if◌then◌else◌, Emission, Event, inputs_with, outputs_with, ports_of_event_block, variable_names, Name, Path, emission_of, event_at, line_of, pair_up, path_at, ports_at, memory_of, with_values, System, line_text, lines_text, Values, EventKind, EventPort, Ports, Variable, Form, Line, Value, FitInputs, AreIndexes, line_variables, fit_each, type_at, Seen, due_after, emission_line, emissions_by, memory_pieces, pieces_text, reacted, Piece, EmitsGo, Goes, StaysAlone, shown_text, IsBlockKept, taken_reaction, EventBlock, Trail}
 use Rattle.fb_types.specs.EventBlocks as blocks
-use Rattle.fb_types.specs.Names.{Name, Path}
-use Rattle.fb_types.specs.Numbers.{by_index, emission_of, event_at, line_of, pair_up, path_at, ports_at}
-use Rattle.fb_types.specs.Reactions.{memory_of, with_values}
+use Rattle.fb_types.specs.Numbers.{by_index}
 use Rattle.fb_types.specs.States as model
-use Rattle.fb_types.specs.Systems.{System}
-use Rattle.fb_types.specs.Text.{line_text, lines_text}
-use Rattle.fb_types.specs.Values.{Values}
-use Rattle.fb_types.specs.declared.event_kind.EventKind.{EventKind}
-use Rattle.fb_types.specs.declared.library.EventPort.{EventPort}
-use Rattle.fb_types.specs.declared.library.Ports.{Ports}
-use Rattle.fb_types.specs.declared.library.Variable.{Variable}
 use Rattle.fb_types.specs.declared.run.Emission as run
-use Rattle.fb_types.specs.declared.run.Form.{Form}
-use Rattle.fb_types.specs.declared.run.Line.{Line}
-use Rattle.fb_types.specs.declared.value.Value.{Value}
-use Rattle.fb_event.specs.Reactions.{FitInputs, meanings, reaction_to}
+use Rattle.fb_event.specs.Reactions.{meanings, reaction_to}
 use Rattle.fb_net.proofs.lemmas.blocks.Leaves.{reads_inputs}
 use Rattle.fb_net.proofs.lemmas.values.Sampling.{ports-of_kind}
-use Rattle.fb_system.specs.IndexLists.{AreIndexes}
-use Rattle.fb_system.specs.Lines.{line_variables}
 use Rattle.fb_wave.specs.Lines.{line_side}
-use Rattle.fb_wave.specs.Reading.{fit_each, type_at}
-use Rattle.fb_inspect.specs.walk.Looks.{Seen, due_after, due_of, emission_line, emissions_by, memory_pieces, pieces_text, reacted, same_memory, same_tick}
-use Rattle.fb_inspect.specs.walk.Chains.{Piece, Has}
-use Rattle.fb_inspect.specs.walk.Moves.{EmitsGo, Goes, IsAside, StaysAlone, shown_text}
+use Rattle.fb_inspect.specs.walk.Looks.{due_of, same_memory, same_tick}
+use Rattle.fb_inspect.specs.walk.Chains.{Has}
+use Rattle.fb_inspect.specs.walk.Moves.{IsAside}
 use Rattle.fb_inspect.specs.walk.Notes.{memory_note}
-use Rattle.fb_inspect.specs.walk.Timing.{BlockGoes, HasExpired, HasReacted, IsBlockKept, IsBlockLine, TimerGoes, inputs_after, taken_reaction, taken_variables, timer_reaction}
-use Rattle.fb_inspect.specs.declared.walk.blocks.EventBlock.{EventBlock}
-use Rattle.fb_inspect.specs.declared.walk.trail.Trail.{Trail}
+use Rattle.fb_inspect.specs.walk.Timing.{BlockGoes, HasExpired, HasReacted, IsBlockLine, TimerGoes, inputs_after, taken_variables, timer_reaction}
 use Rattle.fb_inspect.proofs.lemmas.lines.Emitted.{emission_is, emissions_are, emits_text, shown_pieces}
 use Rattle.fb_inspect.proofs.lemmas.lines.Moving.{alone_from, alone_on, goes_as, goes_note, goes_then, shown-append}
 use Rattle.fb_inspect.proofs.lemmas.reactions.Showing.{emits_pieces}

@@ -1,11 +1,6 @@
 -- A timer that is set goes off with an emission.
-use Rattle.std.proofs.Common.{◌≡◌, ℕ, Bool, true, false, ◌||◌, ◌&&◌, List, [], ◌∷◌, refl}
-use Rattle.std.specs.Prelude.{if◌then◌else◌, codes, nat_lt}
-use Rattle.fb_types.specs.Names.{Name}
-use Rattle.fb_types.specs.Values.{Values}
-use Rattle.fb_types.specs.EventBlocks.{Memory, Idle, Marks, Flag, Running, Count, Reaction, emits_if, reaction, expiry, started, counted, rendezvous, is}
-use Rattle.fb_types.specs.declared.event_kind.EventKind.{EventKind}
-use Rattle.fb_types.specs.declared.event_kind.EventKind.TheVariants.{Restart, Split, Merge, Rendezvous, Permit, Select, Switch, Delay, Cycle, SetReset, DataLatch, RisingEdge, FallingEdge, CountUp}
+use Rattle.fb_types.proofs.Common.{◌≡◌, ℕ, Bool, true, false, ◌||◌, ◌&&◌, List, [], ◌∷◌, refl, if◌then◌else◌, codes, nat_lt, Name, Values, Memory, Idle, Marks, Flag, Count, Reaction, reaction, expiry, started, counted, is, EventKind, Restart, Split, Merge, Rendezvous, Permit, Select, Switch, Delay, Cycle, SetReset, DataLatch, RisingEdge, FallingEdge, CountUp}
+use Rattle.fb_types.specs.EventBlocks.{Running, emits_if, rendezvous}
 use Rattle.fb_inspect.specs.walk.RunTakings.{MayRun, RunsAfter}
 
 -- there is a first one

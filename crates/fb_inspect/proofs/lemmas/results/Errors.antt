@@ -1,12 +1,10 @@
 -- Errors that refuse a line, or none.
-use Rattle.std.proofs.Common.{◌≡◌, ℕ, List, Option, Some, None, refl, sym, subst}
-use Rattle.std.specs.Prelude.{IfSome}
+use Rattle.fb_inspect.proofs.lemmas.Common.{◌≡◌, ℕ, List, Option, Some, None, refl, sym, subst, IfSome, OfRefusal, InspectError, Refused}
 use Rattle.fb_wave.specs.Faults.{IsReadFault}
 use Rattle.fb_wave.specs.declared.error.WaveError.{WaveError}
 use Rattle.fb_inspect.specs.Faults.{fault_of_line}
-use Rattle.fb_inspect.specs.Refusals.{IsNoRefusal, OfRefusal}
-use Rattle.fb_inspect.specs.declared.error.InspectError.{InspectError}
-use Rattle.fb_inspect.specs.declared.error.InspectError.TheVariants.{Refused, Names, Unknown, Memory, Read, Write}
+use Rattle.fb_inspect.specs.Refusals.{IsNoRefusal}
+use Rattle.fb_inspect.specs.declared.error.InspectError.TheVariants.{Names, Unknown, Memory, Read, Write}
 use Rattle.fb_inspect.proofs.lemmas.results.Refused.{fault_none}
 
 -- a line that was not read

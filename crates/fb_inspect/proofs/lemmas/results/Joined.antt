@@ -1,7 +1,6 @@
 -- Calls whose results are joined.
-use Rattle.std.proofs.Common.{◌≡◌, ◌++◌, ℕ, List, Result, Ok, Err, sym, subst, ap, ◌∙◌}
-use Rattle.std.specs.Prelude.{IfErr, IfOk, OnErr, OnOk}
-use Rattle.std.specs.Result.{IsErrAnd, result_and}
+use Rattle.fb_types.proofs.Common.{◌≡◌, ◌++◌, ℕ, List, Result, Ok, Err, sym, subst, ap, ◌∙◌, IfErr, IfOk, OnErr, OnOk, IsErrAnd}
+use Rattle.std.specs.Result.{result_and}
 use Rattle.fb_wave.proofs.lemmas.Handing.{on_ok}
 
 -- what holds after a call, if another answer is given in place of its own

@@ -1,34 +1,16 @@
 -- Lines that were read up to one that is refused.
-use Rattle.std.proofs.Common.{◌≡◌, ℕ, List, [], ◌∷◌, ◌++◌, map, Option, Some, None, Result, Ok, Err, refl, sym, ap, subst, ◌∙◌, append_assoc, append-nil}
-use Rattle.std.specs.Prelude.{All, IfErr}
-use Rattle.std.specs.Result.{IsErrAnd}
-use Rattle.std.specs.Io.BufRead.{take_through}
-use Rattle.std.specs.Io.KnownBytes.{Consumes}
-use Rattle.std.proofs.KnownBytes.{Consumes-nil, Consumes-trans}
-use Rattle.std.proofs.lemmas.List.{map-append}
-use Rattle.std.proofs.lemmas.List.Elements.{All-append, All-head, All-nil, All-tail}
-use Rattle.fb_types.specs.Blocks.{Emission}
-use Rattle.fb_types.specs.Numbers.{emission_of, line_of, path_at, ports_at}
+use Rattle.fb_inspect.proofs.lemmas.Common.{◌≡◌, ℕ, List, [], ◌∷◌, ◌++◌, map, Option, Some, None, Result, Ok, Err, refl, sym, ap, subst, ◌∙◌, append_assoc, append-nil, All, IfErr, take_through, Consumes, Consumes-trans, map-append, All-append, All-head, All-nil, All-tail, Emission, emission_of, line_of, path_at, ports_at, System, lines_text, Form, Line, IsFirstLine, IsAlone, emission_line, EmitsGo, Goes, IsLineAt, StaysAlone, EmitsFail, OfRefusal, InspectError, Refused, Reading, Trail}
+use Rattle.fb_types.proofs.Common.{IsErrAnd}
+use Rattle.std.proofs.KnownBytes.{Consumes-nil}
 use Rattle.fb_types.specs.States as model
-use Rattle.fb_types.specs.Systems.{System}
-use Rattle.fb_types.specs.Text.{lines_text}
 use Rattle.fb_types.specs.declared.run.Emission as run
-use Rattle.fb_types.specs.declared.run.Form.{Form}
-use Rattle.fb_types.specs.declared.run.Line.{Line}
-use Rattle.fb_wave.specs.Copying.{IsFirstLine}
 use Rattle.fb_wave.specs.Faults.{IsReadFault}
 use Rattle.fb_wave.proofs.lemmas.Handing.{on_passed}
 use Rattle.fb_wave.specs.declared.error.WaveError.{WaveError}
 use Rattle.fb_wave.specs.declared.error.WaveError.TheVariants as wave
 use Rattle.fb_inspect.specs.Faults.{fault_of_line}
-use Rattle.fb_inspect.specs.walk.Lines.{IsAlone}
-use Rattle.fb_inspect.specs.walk.Looks.{emission_line}
-use Rattle.fb_inspect.specs.walk.Moves.{EmitsGo, Goes, IsLineAt, StaysAlone}
-use Rattle.fb_inspect.specs.Refusals.{EmitsFail, HasRead, IsNoRefusal, IsOther, OfRefusal}
-use Rattle.fb_inspect.specs.declared.error.InspectError.{InspectError}
-use Rattle.fb_inspect.specs.declared.error.InspectError.TheVariants.{Refused, Names, Unknown, Memory, Read, Write}
-use Rattle.fb_inspect.specs.declared.walk.reading.Reading.{Reading}
-use Rattle.fb_inspect.specs.declared.walk.trail.Trail.{Trail}
+use Rattle.fb_inspect.specs.Refusals.{HasRead, IsNoRefusal, IsOther}
+use Rattle.fb_inspect.specs.declared.error.InspectError.TheVariants.{Names, Unknown, Memory, Read, Write}
 use Rattle.fb_inspect.proofs.lemmas.lines.Emitted.{emissions_are}
 use Rattle.fb_inspect.proofs.lemmas.lines.Moving.{counted_then, lines-append, plus_none}
 

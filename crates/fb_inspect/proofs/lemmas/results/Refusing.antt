@@ -1,8 +1,5 @@
 -- What is said of a refusal where the text may be known.
-use Rattle.std.proofs.Common.{◌≡◌, ℕ, List, Option, Some, Result, Ok, Err}
-use Rattle.std.specs.Prelude.{IfErr, IfSome}
-use Rattle.fb_inspect.specs.Refusals.{OfRefusal}
-use Rattle.fb_inspect.specs.declared.error.InspectError.{InspectError}
+use Rattle.fb_inspect.proofs.lemmas.Common.{◌≡◌, ℕ, List, Option, Some, Result, Ok, Err, IfErr, IfSome, OfRefusal, InspectError}
 use Rattle.fb_inspect.proofs.lemmas.results.Errors.{of_known}
 
 pub err_known :

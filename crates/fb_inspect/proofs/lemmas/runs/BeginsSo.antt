@@ -1,12 +1,6 @@
 -- A line of a run that comes after the takings of a walk begins a taking.
-use Rattle.std.proofs.Common.{◌≡◌, ◌⊎◌, ℕ, ◌≤◌, List, [], ◌∷◌, ◌++◌, length, map, sym, ◌∙◌, ap, subst, inl, inr, arith, append-nil}
-use Rattle.std.proofs.lemmas.List.{length-append, length-map}
-use Rattle.fb_types.specs.Simulation.{AtHorizon, AtStop, Ending}
+use Rattle.fb_inspect.proofs.lemmas.Common.{◌≡◌, ◌⊎◌, ℕ, ◌≤◌, List, [], ◌∷◌, ◌++◌, length, map, sym, ◌∙◌, ap, subst, inl, inr, arith, append-nil, length-append, length-map, AtHorizon, AtStop, Ending, System, Steps, Divide, Range, AreTakings, EndsSo, IsOneOf, KeepsLimit, all_lines, last_look, limited, IsTaking, Look, Taking, emission_line, most, opening_look, taking_lines}
 use Rattle.fb_types.specs.States.{Line}
-use Rattle.fb_types.specs.Systems.{System}
-use Rattle.fb_types.specs.declared.value.Reason.TheVariants.{Steps, Divide, Range}
-use Rattle.fb_inspect.specs.Inspections.{AreTakings, EndsSo, IsOneOf, KeepsLimit, all_lines, last_look, limited}
-use Rattle.fb_inspect.specs.walk.Looks.{IsTaking, Look, Taking, emission_line, most, opening_look, taking_lines}
 use Rattle.fb_inspect.specs.walk.RunTakings.{BeginsSo}
 use Rattle.fb_inspect.proofs.lemmas.runs.RunContinues.{all_both, compare, last_none, limited_begins, tails, taking_after}
 use Rattle.fb_inspect.proofs.lemmas.reactions.OneTaking.{first_line, nothing, row_one}

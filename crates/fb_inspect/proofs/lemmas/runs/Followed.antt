@@ -1,21 +1,7 @@
 -- A walk through the trace of a run follows it: takings with the lines of the run, which end as it ends.
-use Rattle.std.proofs.Common.{◌≡◌, ◌⊎◌, ℕ, zero, suc, ◌+◌, ◌-◌, ◌<◌, ◌≤◌, ◌^◌, min, Bool, true, false, cond, List, [], ◌∷◌, ◌++◌, Option, Some, None, refl, sym, ◌∙◌, ap, subst, inl, inr, arith}
-use Rattle.std.specs.Prelude.{All, ◌==◌, flat_map, if◌then◌else◌}
-use Rattle.std.proofs.lemmas.Bool.{cases_eq, eq-eqb}
-use Rattle.std.proofs.lemmas.List.Elements.{All-head, All-tail}
-use Rattle.fb_types.specs.Blocks.{Kind, Event}
-use Rattle.fb_types.specs.Keys.{found, timer_key}
-use Rattle.fb_types.specs.Machines.{Each}
-use Rattle.fb_types.specs.Names.{Path}
-use Rattle.fb_types.specs.Reactions.{Outcome, Reacts}
-use Rattle.fb_types.specs.Simulation.{AtHorizon, AtStop, Chain, Ending, IsSimulation, NothingAfter as NothingTaken, Stimulus, Taken, ending_by, ending_of, lines_of, opening, opening_events, restart_of, stimuli_from}
-use Rattle.fb_types.specs.States.{Arrived, Config, Event as AnEvent, Expired, Line, Meter, Raised, State, Stimulated, path_of}
-use Rattle.fb_types.specs.Systems.{System}
-use Rattle.fb_types.specs.Takes.{Effect, Takes, TakesWith, agenda_after, begun, effect_of, out_of_steps, posts_of, world_of}
-use Rattle.fb_types.specs.declared.event_kind.EventKind.TheVariants.{Restart}
-use Rattle.fb_types.specs.declared.key.Key.{Key}
-use Rattle.fb_types.specs.declared.value.Reason.{Reason}
-use Rattle.fb_types.specs.declared.value.Reason.TheVariants.{Steps, Divide, Range}
+use Rattle.fb_types.proofs.Common.{◌≡◌, ◌⊎◌, ℕ, zero, suc, ◌+◌, ◌-◌, ◌<◌, ◌≤◌, ◌^◌, min, Bool, true, false, cond, List, [], ◌∷◌, ◌++◌, Option, Some, None, refl, sym, ◌∙◌, ap, subst, inl, inr, arith, All, ◌==◌, flat_map, if◌then◌else◌, cases_eq, eq-eqb, All-head, All-tail, Kind, Event, found, timer_key, Each, Path, Outcome, Reacts, AtHorizon, AtStop, Chain, Ending, IsSimulation, NothingAfter as NothingTaken, Taken, ending_by, ending_of, lines_of, opening, opening_events, restart_of, stimuli_from, Arrived, Config, Expired, Meter, Raised, State, Stimulated, path_of, System, Effect, Takes, TakesWith, agenda_after, begun, effect_of, out_of_steps, posts_of, world_of, Restart, Key, Reason, Steps, Divide, Range}
+use Rattle.fb_types.specs.Simulation.{Stimulus}
+use Rattle.fb_types.specs.States.{Event as AnEvent, Line}
 use Rattle.fb_types.proofs.lemmas.lists.EachLaws.{each_append}
 use Rattle.fb_laws.proofs.lemmas.takings.Agendas.{Holds, holds_none, holds_or_else}
 use Rattle.fb_inspect.specs.Inspections.{AreTakings, EndsSo, IsOneOf, KeepSteps, KeepsLimit, NoneStops, NothingAfter, RunsOut, all_lines, last_look, limited, stop_of}

@@ -1,32 +1,12 @@
 -- No trace of a run is wrong at a line.
-use Rattle.std.proofs.Common.{◌≡◌, ◌⊎◌, ◌≤◌, ℕ, List, [], ◌∷◌, ◌++◌, length, map, Some, None, All, refl, sym, ap, subst, ◌∙◌, inl, inr, append-nil, append_assoc, arith}
-use Rattle.std.specs.Io.BufRead.{take_through}
-use Rattle.std.proofs.lemmas.List.{append_cancel_left, map-append}
-use Rattle.std.proofs.lemmas.List.Elements.{All-append, All-cons, All-head, All-nil, All-tail, All-weaker}
-use Rattle.fb_types.specs.Blocks.{Emission}
-use Rattle.fb_types.specs.Headline.{AreAccepted, Inputs, system_of}
-use Rattle.fb_types.specs.Machines.{Each}
-use Rattle.fb_types.specs.Numbers.{line_of, path_at}
-use Rattle.fb_types.specs.Simulation.{AtHorizon, AtStop, Ending}
+use Rattle.fb_inspect.proofs.lemmas.Common.{◌≡◌, ◌⊎◌, ◌≤◌, ℕ, List, [], ◌∷◌, ◌++◌, length, map, Some, None, All, refl, sym, ap, subst, ◌∙◌, inl, inr, append-nil, append_assoc, arith, take_through, append_cancel_left, map-append, All-append, All-cons, All-head, All-nil, All-tail, Emission, AreAccepted, Inputs, system_of, Each, line_of, path_at, AtHorizon, AtStop, Ending, System, last_line, lines_text, Key, Form, One, Two, Reason, Steps, Divide, Range, last_tick, IsEndOf, IsInRange, IsLineOf, IsTextOf, HasNames, RiseFrom, AreTakings, EndsBySteps, EndsSo, IsOwnLine, KeepSteps, KeepsLimit, NoneStops, RunsOut, all_lines, last_look, limited, IsTaking, Look, Taking, emission_line, left_at, most, opening_look, taking_lines, IsWrongAt, IsWrongLine, steps_stop, MayEnd}
+use Rattle.fb_types.proofs.Common.{All-weaker}
 use Rattle.fb_types.specs.States.{Line}
-use Rattle.fb_types.specs.Systems.{System}
-use Rattle.fb_types.specs.Text.{last_line, lines_text}
-use Rattle.fb_types.specs.declared.key.Key.{Key}
-use Rattle.fb_types.specs.declared.run.Form.{Form}
-use Rattle.fb_types.specs.declared.run.Form.TheVariants.{One, Two}
 use Rattle.fb_types.specs.declared.run.Line as run
-use Rattle.fb_types.specs.declared.value.Reason.{Reason}
-use Rattle.fb_types.specs.declared.value.Reason.TheVariants.{Steps, Divide, Range}
-use Rattle.fb_wave.specs.Dumps.{last_tick}
-use Rattle.fb_wave.specs.Lines.{IsEndOf, IsInRange, IsLineOf, IsTextOf}
-use Rattle.fb_wave.specs.Named.{HasNames}
-use Rattle.fb_wave.specs.Waves.{EndsAfter, RiseFrom}
+use Rattle.fb_wave.specs.Waves.{EndsAfter}
 use Rattle.fb_wave.proofs.lemmas.Lining.{last_one, line_not_last}
-use Rattle.fb_inspect.specs.Inspections.{AreTakings, EndsBySteps, EndsSo, IsOwnLine, KeepSteps, KeepsLimit, NoneStops, RunsOut, all_lines, last_look, limited}
 use Rattle.fb_inspect.specs.walk.Lines.{IsPlain}
-use Rattle.fb_inspect.specs.walk.Looks.{IsTaking, Look, Taking, emission_line, left_at, most, opening_look, taking_lines}
-use Rattle.fb_inspect.specs.Refusals.{BeginsNothing, EndsNothing, GoesOnAfter, GoesOtherwise, IsAccepted, IsAfterLast, IsNoStepsStop, IsOther, IsWrongAfter, IsWrongAt, IsWrongFreely, IsWrongLast, IsWrongLine, StopsOtherwise, StopsSoon, UsesTooMany, steps_stop}
-use Rattle.fb_inspect.specs.walk.Walking.{MayEnd}
+use Rattle.fb_inspect.specs.Refusals.{BeginsNothing, EndsNothing, GoesOnAfter, GoesOtherwise, IsAccepted, IsAfterLast, IsNoStepsStop, IsOther, IsWrongAfter, IsWrongFreely, IsWrongLast, StopsOtherwise, StopsSoon, UsesTooMany}
 use Rattle.fb_inspect.proofs.lemmas.lines.Aligned.{IsAligned, Next, aligned, seen, through}
 use Rattle.fb_inspect.proofs.lemmas.lines.PlainKeys.{bare, shown}
 use Rattle.fb_inspect.proofs.lemmas.lines.LastLines.{not_divide, not_horizon, not_range, stop_once}

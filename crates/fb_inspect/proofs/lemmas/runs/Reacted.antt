@@ -1,27 +1,12 @@
 -- The reactions of a run are takings of a walk through its trace.
-use Rattle.std.specs.Prelude.{if◌then◌else◌}
-use Rattle.std.proofs.Common.{◌≡◌, ℕ, ◌+◌, arith, Bool, true, false, cond, List, [], ◌∷◌, ◌++◌, map, Option, Some, None, refl, sym, ◌∙◌, ap, subst, inl, inr}
-use Rattle.fb_types.specs.Blocks.{Kind, Basic, Event, Composite, Emission, Bound, bound, inputs_with, is_event_input, outputs_with, ports_of}
-use Rattle.fb_types.specs.Charts.{ChartReacts, Position}
+use Rattle.fb_inspect.proofs.lemmas.Common.{if◌then◌else◌, ◌≡◌, ℕ, ◌+◌, arith, Bool, true, false, cond, List, [], ◌∷◌, ◌++◌, map, Option, Some, None, refl, sym, ◌∙◌, ap, subst, inl, inr, Kind, Basic, Event, Composite, Emission, Bound, bound, inputs_with, is_event_input, outputs_with, ports_of, Position, Name, Path, same_path, Reacts, emissions, memory_of, state_of, with_values, Arrived, Expired, Raised, Stimulated, path_of, System, Values, EventKind, Key, BasicType, CompositeType, Ports, TimerAsk, Reason, Piece, ShowsReaction, IsTakingAt, Look, Seen, Taking, due_after, emissions_by, emits_pieces, memory_pieces, reacted, with_left, with_seen}
+use Rattle.fb_types.proofs.Common.{ChartReacts, Port, Outcome, ReactsAt, World, answered, crossing_in, crossing_out, expires, from_inside, hold_all, remembered, sampled, settled, silent, start_of, taking, with_block, with_slots, Block, InState}
 use Rattle.fb_types.specs.EventBlocks as blocks
-use Rattle.fb_types.specs.Names.{Name, Path, Port, same_path}
 use Rattle.fb_types.specs.Posted.{emission_line}
-use Rattle.fb_types.specs.Reactions.{Outcome, ReactsAt, World, answered, Reacts, crossing_in, crossing_out, emissions, expires, from_inside, hold_all, memory_of, remembered, sampled, settled, silent, start_of, state_of, taking, with_block, with_slots, with_values}
-use Rattle.fb_types.specs.States.{Arrived, Block, Event as AnEvent, Expired, InState, Line, Memory, Raised, Remembers, Stimulated, path_of}
-use Rattle.fb_types.specs.Systems.{System}
-use Rattle.fb_types.specs.Values.{Values}
-use Rattle.fb_types.specs.declared.event_kind.EventKind.{EventKind}
-use Rattle.fb_types.specs.declared.key.Key.{Key}
-use Rattle.fb_types.specs.declared.library.BasicType.{BasicType}
-use Rattle.fb_types.specs.declared.library.CompositeType.{CompositeType}
-use Rattle.fb_types.specs.declared.library.Ports.{Ports}
-use Rattle.fb_types.specs.declared.run.TimerAsk.{TimerAsk}
-use Rattle.fb_types.specs.declared.value.Reason.{Reason}
+use Rattle.fb_types.specs.States.{Event as AnEvent, Line, Memory, Remembers}
 use Rattle.fb_types.proofs.lemmas.names.PathLaws.{same_path_is, same_path_itself}
 use Rattle.fb_types.proofs.lemmas.events.ReactionLaws.{emitted_all-left, emitted_all-lines, emitted_all-publishes, emitted_all-stop, emitted_all-timer, kept_at}
 use Rattle.fb_net.proofs.lemmas.values.Sampling.{sampled-paired, sampled-wrote}
-use Rattle.fb_inspect.specs.walk.Chains.{Piece, ShowsReaction}
-use Rattle.fb_inspect.specs.walk.Looks.{IsTakingAt, Look, Seen, Taking, due_after, emissions_by, emits_pieces, memory_pieces, reacted, with_left, with_seen}
 use Rattle.fb_inspect.specs.walk.RunTakings.{CanReact, GoesOff, IsLeaf, IsSeenIn, IsTakingOf, MayHaveMore, RunsAfter, due_before}
 use Rattle.fb_inspect.proofs.lemmas.reactions.MoreReactions.{reaction_longer}
 use Rattle.fb_inspect.proofs.lemmas.reactions.ShowingLaws.{reaction_shows}

@@ -1,17 +1,6 @@
 -- What comes after the first lines of a row of takings that ends as a run.
-use Rattle.std.proofs.Common.{◌≡◌, ◌⊎◌, ℕ, suc, ◌+◌, ◌-◌, ◌≤◌, true, false, List, [], ◌∷◌, ◌++◌, length, map, Option, Some, None, refl, sym, ◌∙◌, ap, subst, inl, inr, append-nil, append_assoc, arith}
-use Rattle.std.proofs.lemmas.List.{append_cancel_left, length-append, length-map, map-append}
-use Rattle.fb_types.specs.Blocks.{Basic, Emission, Kind}
-use Rattle.fb_types.specs.Machines.{Each}
-use Rattle.fb_types.specs.Simulation.{AtStop, Ending}
+use Rattle.fb_inspect.proofs.lemmas.Common.{◌≡◌, ◌⊎◌, ℕ, suc, ◌+◌, ◌-◌, ◌≤◌, true, false, List, [], ◌∷◌, ◌++◌, length, map, Option, Some, None, refl, sym, ◌∙◌, ap, subst, inl, inr, append-nil, append_assoc, arith, append_cancel_left, length-append, length-map, map-append, Basic, Emission, Kind, Each, AtStop, Ending, System, BasicType, Reason, Steps, AreTakings, EndsBySteps, KeepSteps, NoneStops, NothingAfter, RunsOut, all_lines, last_look, limited, stop_of, IsTaking, IsTakingAt, Look, Taking, emission_line, left_at, most, opening_look, taking_lines, MayEnd}
 use Rattle.fb_types.specs.States.{Line}
-use Rattle.fb_types.specs.Systems.{System}
-use Rattle.fb_types.specs.declared.library.BasicType.{BasicType}
-use Rattle.fb_types.specs.declared.value.Reason.{Reason}
-use Rattle.fb_types.specs.declared.value.Reason.TheVariants.{Steps}
-use Rattle.fb_inspect.specs.Inspections.{AreTakings, EndsBySteps, KeepSteps, NoneStops, NothingAfter, RunsOut, all_lines, last_look, limited, stop_of}
-use Rattle.fb_inspect.specs.walk.Looks.{IsTaking, IsTakingAt, Look, Taking, emission_line, left_at, most, opening_look, taking_lines}
-use Rattle.fb_inspect.specs.walk.Walking.{MayEnd}
 use Rattle.fb_inspect.proofs.lemmas.runs.RunContinues.{all_both, last_none, limited_at, tails, taking_after}
 use Rattle.fb_inspect.proofs.lemmas.reactions.OneTaking.{first_line, nothing, taking_one}
 use Rattle.fb_inspect.proofs.lemmas.runs.Splits.{EndsIn, GoesPast, IsBasic, IsLast, Keeps, Near, basic_or_not, begins, free_after, free_keeps, free_there, last_there, near_after, no_length, no_lines, no_part, plain_emits, plain_stops, split, takings_at}

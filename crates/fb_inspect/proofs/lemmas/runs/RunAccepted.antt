@@ -1,29 +1,16 @@
 -- Each trace of a run is accepted.
-use Rattle.std.proofs.Common.{◌≡◌, ◌<◌, ◌≤◌, ◌^◌, ℕ, List, [], ◌∷◌, ◌++◌, length, map, All, refl, sym, ap, subst, ◌∙◌, arith}
-use Rattle.std.proofs.lemmas.List.Elements.{All-cons, All-head, All-nil, All-tail}
-use Rattle.fb_types.specs.Headline.{Inputs, IsTrace, stimuli_of, system_of}
-use Rattle.fb_types.specs.Machines.{Each}
-use Rattle.fb_types.specs.Numbers.{line_of}
-use Rattle.fb_types.specs.Simulation.{AtHorizon, AtStop, Ending, IsSimulation, Taken, ending_of, lines_of, opening}
-use Rattle.fb_types.specs.States.{Line, path_of}
-use Rattle.fb_types.specs.Systems.{System}
-use Rattle.fb_types.specs.Text.{last_line, trace_text}
-use Rattle.fb_types.specs.declared.key.Key.{Key}
-use Rattle.fb_types.specs.declared.run.Form.{Form}
-use Rattle.fb_types.specs.declared.run.Form.TheVariants.{One, Two}
+use Rattle.fb_inspect.proofs.lemmas.Common.{◌≡◌, ◌<◌, ◌≤◌, ◌^◌, ℕ, List, [], ◌∷◌, ◌++◌, length, map, All, refl, sym, ap, subst, ◌∙◌, arith, All-cons, All-head, All-nil, All-tail, Inputs, stimuli_of, system_of, Each, line_of, AtHorizon, AtStop, Ending, path_of, System, last_line, Key, Form, One, Two, Steps, Divide, Range, IsEndOf, IsInRange, IsLineOf, EndsSo, all_lines, Taking, most, IsGiven}
+use Rattle.fb_types.proofs.Common.{IsTrace, IsSimulation, Taken, ending_of, lines_of, opening, trace_text}
+use Rattle.fb_types.specs.States.{Line}
 use Rattle.fb_types.specs.declared.run.Line as run
-use Rattle.fb_types.specs.declared.value.Reason.TheVariants.{Steps, Divide, Range}
 use Rattle.fb_types.proofs.lemmas.lists.EachLaws.{each_append, each_both, each_map}
 use Rattle.fb_laws.specs.Sound.{AreGood}
 use Rattle.fb_laws.proofs.lemmas.soundness.Accepting.{sound_of}
 use Rattle.fb_laws.proofs.lemmas.takings.KeysRise.{keys_rise}
 use Rattle.fb_system.specs.Networks.{AreNarrow}
-use Rattle.fb_wave.specs.Lines.{IsEndOf, IsInRange, IsLineOf}
 use Rattle.fb_wave.specs.Waves.{EndsAfter}
-use Rattle.fb_inspect.specs.Inspections.{EndsSo, all_lines}
-use Rattle.fb_inspect.specs.walk.Looks.{Taking, most}
 use Rattle.fb_inspect.specs.Refusals.{IsAccepted}
-use Rattle.fb_inspect.specs.walk.RunLines.{HaveRoom, IsGiven, bare_key}
+use Rattle.fb_inspect.specs.walk.RunLines.{HaveRoom, bare_key}
 use Rattle.fb_inspect.proofs.lemmas.lines.PlainKeys.{bare, bare_taking, bare_text, lines_bare}
 use Rattle.fb_inspect.proofs.lemmas.runs.Followed.{IsExact, run_row}
 use Rattle.fb_inspect.proofs.lemmas.lines.LinesOfSystem.{IsLineThere, line_there}

@@ -1,18 +1,6 @@
 -- A run goes on after the takings of a walk as the next taking says, or runs out of steps in it.
-use Rattle.std.proofs.Common.{◌≡◌, ◌⊎◌, ℕ, zero, suc, ◌+◌, ◌-◌, ◌≤◌, true, false, List, [], ◌∷◌, ◌++◌, length, map, Option, Some, None, refl, sym, ◌∙◌, ap, subst, inl, inr, arith, append_assoc, append-nil}
-use Rattle.std.specs.Prelude.{if◌then◌else◌, Bool}
-use Rattle.std.proofs.lemmas.Bool.{eq-eqb}
-use Rattle.std.proofs.lemmas.List.{append_cancel_left, length-append, length-map, map-append}
-use Rattle.fb_types.specs.Blocks.{Kind, Basic, Event, Composite, Emission}
-use Rattle.fb_types.specs.Simulation.{AtHorizon, AtStop, Ending}
+use Rattle.fb_inspect.proofs.lemmas.Common.{◌≡◌, ◌⊎◌, ℕ, zero, suc, ◌+◌, ◌-◌, ◌≤◌, true, false, List, [], ◌∷◌, ◌++◌, length, map, Option, Some, None, refl, sym, ◌∙◌, ap, subst, inl, inr, arith, append_assoc, append-nil, if◌then◌else◌, Bool, eq-eqb, append_cancel_left, length-append, length-map, map-append, Kind, Basic, Event, Composite, Emission, AtHorizon, AtStop, Ending, System, EventKind, Key, BasicType, Steps, Divide, Range, AreTakings, EndsSo, IsOneOf, KeepsLimit, all_lines, last_look, limited, IsTaking, IsTakingAt, IsTakingWith, Look, Taking, emission_line, left_at, most, opening_look, taking_lines}
 use Rattle.fb_types.specs.States.{Line}
-use Rattle.fb_types.specs.Systems.{System}
-use Rattle.fb_types.specs.declared.event_kind.EventKind.{EventKind}
-use Rattle.fb_types.specs.declared.key.Key.{Key}
-use Rattle.fb_types.specs.declared.library.BasicType.{BasicType}
-use Rattle.fb_types.specs.declared.value.Reason.TheVariants.{Steps, Divide, Range}
-use Rattle.fb_inspect.specs.Inspections.{AreTakings, EndsSo, IsOneOf, KeepsLimit, all_lines, last_look, limited}
-use Rattle.fb_inspect.specs.walk.Looks.{IsTaking, IsTakingAt, IsTakingWith, Look, Taking, emission_line, left_at, most, opening_look, taking_lines}
 use Rattle.fb_inspect.specs.walk.RunTakings.{GoesOn}
 use Rattle.fb_inspect.proofs.lemmas.reactions.FewerSteps.{Begins, reaction_begins, same_begins}
 use Rattle.fb_inspect.proofs.lemmas.reactions.OneTaking.{at_line, first_line, nothing, rests, row_one, taking_one}

@@ -1,23 +1,12 @@
 -- The ticks of the lines of a run do not fall, and the run ends after them.
-use Rattle.std.proofs.Common.{◌≡◌, ◌⊎◌, ◌<◌, ◌≤◌, ◌^◌, ℕ, ◌+◌, List, [], ◌∷◌, ◌++◌, length, map, Option, Some, None, All, refl, ap, inl, inr, ⊎_elim, arith}
-use Rattle.std.proofs.lemmas.Bool.{cases_lt}
-use Rattle.std.proofs.lemmas.List.Elements.{All-head, All-tail}
-use Rattle.fb_types.specs.Keys.{changed_to, found, without}
-use Rattle.fb_types.specs.Machines.{Each}
-use Rattle.fb_types.specs.Numbers.{line_of}
-use Rattle.fb_types.specs.Simulation.{AtHorizon, AtStop, Chain, Ending, NothingAfter, Taken, TakesLeast, after, ending_by, ending_of, lines_of}
-use Rattle.fb_types.specs.States.{Config, Event, Line}
-use Rattle.fb_types.specs.Systems.{System}
-use Rattle.fb_types.specs.declared.key.Key.{Key}
+use Rattle.fb_inspect.proofs.lemmas.Common.{◌≡◌, ◌⊎◌, ◌<◌, ◌≤◌, ◌^◌, ℕ, ◌+◌, List, [], ◌∷◌, ◌++◌, length, map, Option, Some, None, All, refl, ap, inl, inr, arith, All-head, All-tail, found, Each, line_of, AtHorizon, AtStop, Ending, System, Key, Reason, last_tick, IsEndOf, RiseFrom, IsGiven}
+use Rattle.fb_types.proofs.Common.{⊎_elim, cases_lt, changed_to, without, Chain, NothingAfter, Taken, TakesLeast, after, ending_by, ending_of, lines_of, Config}
+use Rattle.fb_types.specs.States.{Event, Line}
 use Rattle.fb_types.specs.declared.run.Line as run
-use Rattle.fb_types.specs.declared.value.Reason.{Reason}
 use Rattle.fb_types.proofs.lemmas.lists.EachLaws.{each_map}
 use Rattle.fb_types.proofs.lemmas.lists.Lookups.{before_tick, edit_some, none_some, or_else_some, tick_before, without_some}
 use Rattle.fb_laws.specs.ResourceLaw.{PutsLater}
-use Rattle.fb_wave.specs.Dumps.{last_tick}
-use Rattle.fb_wave.specs.Lines.{IsEndOf}
-use Rattle.fb_wave.specs.Waves.{EndsAfter, RiseFrom}
-use Rattle.fb_inspect.specs.walk.RunLines.{IsGiven}
+use Rattle.fb_wave.specs.Waves.{EndsAfter}
 use Rattle.fb_inspect.proofs.lemmas.runs.RunGiven.{IsGivenTaking}
 
 -- ---- Ticks of lines of the model

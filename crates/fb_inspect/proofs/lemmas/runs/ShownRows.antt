@@ -1,18 +1,7 @@
 -- Rows of takings as a form shows them.
-use Rattle.std.proofs.Common.{◌≡◌, ◌<◌, ℕ, List, [], ◌∷◌, ◌++◌, length, map, refl, sym, ap, subst, ◌∙◌}
-use Rattle.std.proofs.lemmas.List.{map-append}
-use Rattle.fb_types.specs.Numbers.{line_of}
-use Rattle.fb_types.specs.Simulation.{AtHorizon, AtStop, Ending}
+use Rattle.fb_inspect.proofs.lemmas.Common.{◌≡◌, ◌<◌, ℕ, List, [], ◌∷◌, ◌++◌, length, map, refl, sym, ap, subst, ◌∙◌, map-append, line_of, AtHorizon, AtStop, Ending, System, line_text, Form, One, Two, Steps, Divide, Range, IsInRange, IsTextOf, AreTakings, EndsSo, NoneStops, all_lines, last_look, IsTaking, Look, Taking, taking_lines}
 use Rattle.fb_types.specs.States.{Line}
-use Rattle.fb_types.specs.Systems.{System}
-use Rattle.fb_types.specs.Text.{line_text}
-use Rattle.fb_types.specs.declared.run.Form.{Form}
-use Rattle.fb_types.specs.declared.run.Form.TheVariants.{One, Two}
 use Rattle.fb_types.specs.declared.run.Line as run
-use Rattle.fb_types.specs.declared.value.Reason.TheVariants.{Steps, Divide, Range}
-use Rattle.fb_wave.specs.Lines.{IsInRange, IsTextOf}
-use Rattle.fb_inspect.specs.Inspections.{AreTakings, EndsSo, NoneStops, all_lines, last_look}
-use Rattle.fb_inspect.specs.walk.Looks.{IsTaking, Look, Taking, taking_lines}
 use Rattle.fb_inspect.proofs.lemmas.lines.PlainKeys.{are_bare, bare, bare_taking, ends_bare, lines_bare, look_bare, none_bare, shown, taking_bare, takings_bare}
 
 abbrev pub shown_lines : Form → List Line → List Line

@@ -1,17 +1,7 @@
 -- Where a row of takings that ends as a run has the lines of another row, and more.
-use Rattle.std.proofs.Common.{◌≡◌, ◌⊎◌, ℕ, zero, suc, ◌+◌, ◌-◌, ◌≤◌, min, Bool, true, false, List, [], ◌∷◌, ◌++◌, length, map, Option, Some, None, refl, sym, ◌∙◌, ap, subst, inl, inr, arith}
-use Rattle.std.specs.Prelude.{◌^◌, if◌then◌else◌}
-use Rattle.std.proofs.lemmas.Bool.{cases_eq, eq-eqb, ne_eqb}
-use Rattle.std.proofs.lemmas.List.{length-append, length-map}
-use Rattle.fb_types.specs.Blocks.{Basic, Composite, Event, Kind}
+use Rattle.fb_inspect.proofs.lemmas.Common.{◌≡◌, ◌⊎◌, ℕ, zero, suc, ◌+◌, ◌-◌, ◌≤◌, min, Bool, true, false, List, [], ◌∷◌, ◌++◌, length, map, Option, Some, None, refl, sym, ◌∙◌, ap, subst, inl, inr, arith, ◌^◌, if◌then◌else◌, cases_eq, eq-eqb, ne_eqb, length-append, length-map, Basic, Composite, Event, Kind, memory_of, System, Key, BasicType, AreTakings, IsOneOf, KeepSteps, KeepsLimit, all_lines, last_look, limited, IsTaking, IsTakingAt, IsTakingWith, Left, Look, Taking, emission_line, left_at, most, reacted, taking_lines, with_left, with_seen}
 use Rattle.fb_types.specs.EventBlocks as blocks
-use Rattle.fb_types.specs.Reactions.{memory_of}
 use Rattle.fb_types.specs.States.{Line}
-use Rattle.fb_types.specs.Systems.{System}
-use Rattle.fb_types.specs.declared.key.Key.{Key}
-use Rattle.fb_types.specs.declared.library.BasicType.{BasicType}
-use Rattle.fb_inspect.specs.Inspections.{AreTakings, IsOneOf, KeepSteps, KeepsLimit, all_lines, last_look, limited}
-use Rattle.fb_inspect.specs.walk.Looks.{IsTaking, IsTakingAt, IsTakingWith, Left, Look, Taking, emission_line, left_at, most, reacted, taking_lines, with_left, with_seen}
 use Rattle.fb_inspect.proofs.lemmas.reactions.FewerSteps.{Begins}
 use Rattle.fb_inspect.proofs.lemmas.runs.RunContinues.{compare, limited_at, limited_begins, tails, taking_after}
 use Rattle.fb_inspect.proofs.lemmas.reactions.OneTaking.{at_line, first_line, nothing, rests}

@@ -1,15 +1,6 @@
 -- What comes after the first lines of a row of takings that ends as a run, whatever its end is.
-use Rattle.std.proofs.Common.{◌≡◌, ◌⊎◌, ℕ, ◌+◌, ◌≤◌, List, [], ◌∷◌, ◌++◌, Option, Some, None, sym, ◌∙◌, ap, subst, inl, inr, append-nil, append_assoc}
-use Rattle.std.proofs.lemmas.List.{append_cancel_left}
-use Rattle.std.proofs.lemmas.Option.{same_Some}
-use Rattle.fb_types.specs.Simulation.{AtHorizon, AtStop, Ending}
+use Rattle.fb_inspect.proofs.lemmas.Common.{◌≡◌, ◌⊎◌, ℕ, ◌+◌, ◌≤◌, List, [], ◌∷◌, ◌++◌, Option, Some, None, sym, ◌∙◌, ap, subst, inl, inr, append-nil, append_assoc, append_cancel_left, same_Some, AtHorizon, AtStop, Ending, System, Reason, Steps, Divide, Range, AreTakings, EndsBySteps, EndsSo, KeepSteps, NoneStops, NothingAfter, all_lines, last_look, stop_of, IsTaking, Look, Taking, most, opening_look, taking_lines, MayEnd}
 use Rattle.fb_types.specs.States.{Line}
-use Rattle.fb_types.specs.Systems.{System}
-use Rattle.fb_types.specs.declared.value.Reason.{Reason}
-use Rattle.fb_types.specs.declared.value.Reason.TheVariants.{Steps, Divide, Range}
-use Rattle.fb_inspect.specs.Inspections.{AreTakings, EndsBySteps, EndsSo, KeepSteps, NoneStops, NothingAfter, all_lines, last_look, stop_of}
-use Rattle.fb_inspect.specs.walk.Looks.{IsTaking, Look, Taking, most, opening_look, taking_lines}
-use Rattle.fb_inspect.specs.walk.Walking.{MayEnd}
 use Rattle.fb_inspect.proofs.lemmas.runs.RunContinues.{taking_after}
 use Rattle.fb_inspect.proofs.lemmas.reactions.OneTaking.{first_line, nothing, row_one, taking_one}
 use Rattle.fb_inspect.proofs.lemmas.runs.Rightly.{GoesRight, StopsLast, StopsRight, after_part, chain_after, look_push, none_at, none_stops, parted, steps_begin, steps_end, steps_go, steps_stop_at, stop_none, stop_push, unpush}

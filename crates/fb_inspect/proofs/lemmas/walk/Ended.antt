@@ -1,40 +1,17 @@
 -- What comes of a walk that is over, or that failed.
-use Rattle.std.proofs.Common.{◌≡◌, ℕ, true, List, [], ◌++◌, map, Option, Some, None, refl, sym, ◌∙◌, ap, subst, inl, inr, append_assoc, append-nil}
-use Rattle.std.specs.Prelude.{IfSome}
-use Rattle.std.specs.Io.KnownBytes.{Appends, Consumes, IsAtEnd}
-use Rattle.std.proofs.KnownBytes.{Appends-nil, Appends-trans}
-use Rattle.std.proofs.lemmas.List.Elements.{All-nil}
-use Rattle.fb_types.specs.Headline.{AreAccepted, Inputs, system_of}
-use Rattle.fb_types.specs.Numbers.{line_of}
-use Rattle.fb_types.specs.Systems.{System}
-use Rattle.fb_types.specs.Text.{last_line, lines_text, trace_text}
-use Rattle.fb_types.specs.declared.library.BlockType.{BlockType}
-use Rattle.fb_types.specs.declared.run.Form.{Form}
-use Rattle.fb_types.specs.declared.run.Form.TheVariants.{One}
-use Rattle.fb_trace.specs.End.{ending_of}
-use Rattle.fb_trace.specs.declared.last.Outcome.{Outcome}
-use Rattle.fb_wave.specs.Copying.{IsFirstLine}
-use Rattle.fb_wave.specs.CutOff.{is_unended}
-use Rattle.fb_wave.specs.Dumps.{last_tick}
-use Rattle.fb_wave.specs.Lines.{IsLineOf}
+use Rattle.fb_inspect.proofs.lemmas.Common.{◌≡◌, ℕ, true, List, [], ◌++◌, map, Option, Some, None, refl, sym, ◌∙◌, ap, subst, inl, inr, append_assoc, append-nil, IfSome, Appends, Consumes, Appends-nil, Appends-trans, All-nil, AreAccepted, Inputs, system_of, line_of, System, last_line, lines_text, BlockType, Form, One, ending_of, Outcome, IsFirstLine, is_unended, last_tick, IsLineOf, Marks, Selection, IsNext, Taking, IsCutAfter, IsSevered, Starts, Page, Reading, Walk}
+use Rattle.fb_types.proofs.Common.{IsAtEnd, trace_text}
 use Rattle.fb_wave.specs.declared.truncation.Cut.{Cut}
 use Rattle.fb_wave.specs.declared.truncation.Cut.TheVariants as cut
 use Rattle.fb_wave.proofs.lemmas.Copied.{ends_after}
-use Rattle.fb_coverage.specs.declared.marks.Marks.{Marks}
-use Rattle.fb_inspect.specs.Selections.{Selection}
 use Rattle.fb_inspect.specs.Covering.{Covers, IsCovered, IsCoveredBy, IsCutCovered}
 use Rattle.fb_inspect.specs.Happenings.{History}
 use Rattle.fb_inspect.specs.Inspections.{IsCutInspected, IsCutShown, IsInspected, IsShown, IsShownBy, ShowsFront, all_text, cut_note, one_text}
-use Rattle.fb_inspect.specs.walk.Lines.{IsNext}
-use Rattle.fb_inspect.specs.walk.Looks.{Taking}
 use Rattle.fb_wave.specs.Pages.{IsCutShort}
-use Rattle.fb_inspect.specs.walk.Walking.{Begins, Finishes, FinishesCut, IsComplete, IsCutAfter, IsGone, IsSevered, SendsCutPart, SendsPart, Starts}
-use Rattle.fb_wave.specs.declared.page.Page.{Page}
+use Rattle.fb_inspect.specs.walk.Walking.{Begins, Finishes, FinishesCut, IsComplete, IsGone, SendsCutPart, SendsPart}
 use Rattle.fb_wave.specs.declared.page.PageFault.{PageFault}
-use Rattle.fb_inspect.specs.declared.walk.reading.Reading.{Reading}
 use Rattle.fb_inspect.specs.declared.walk.Extent.{Extent}
 use Rattle.fb_inspect.specs.declared.walk.Extent.TheVariants.{CutOff, Whole}
-use Rattle.fb_inspect.specs.declared.walk.Walk.{Walk}
 use Rattle.fb_inspect.proofs.lemmas.marks.Happened.{marked_by}
 use Rattle.fb_inspect.proofs.lemmas.lines.Severing.{cut_whole, on_some}
 

@@ -1,27 +1,12 @@
 -- Takings that fail: the line of an event with which none begins, or a line after it that is another one.
-use Rattle.std.proofs.Common.{◌≡◌, ◌≤◌, ◌^◌, ◌⊎◌, ℕ, zero, suc, true, false, List, [], ◌∷◌, ◌++◌, map, Option, Some, None, refl, sym, ap, subst, ◌∙◌, inl, inr}
-use Rattle.std.proofs.lemmas.List.{map-append}
-use Rattle.fb_types.specs.Blocks.{Basic, Emission, Event, Kind}
-use Rattle.fb_types.specs.Charts.{Position}
+use Rattle.fb_inspect.proofs.lemmas.Common.{◌≡◌, ◌≤◌, ◌^◌, ◌⊎◌, ℕ, zero, suc, true, false, List, [], ◌∷◌, ◌++◌, map, Option, Some, None, refl, sym, ap, subst, ◌∙◌, inl, inr, map-append, Basic, Emission, Event, Kind, Position, Name, memory_of, event_at, line_of, path_at, System, EventKind, BasicType, Form, Line, ShowsReaction, sys_of, IsTaking, IsTakingAt, IsTakingWith, Look, Seen, Taking, emission_line, emissions_by, emits_pieces, left_at, memory_pieces, reacted, with_left, with_seen, ChartFails, EmitsFail, FailsBy, taken_reaction, Chart, ChartTaking, Reading}
 use Rattle.fb_types.specs.EventBlocks as blocks
-use Rattle.fb_types.specs.Names.{Name}
-use Rattle.fb_types.specs.Reactions.{memory_of}
-use Rattle.fb_types.specs.Numbers.{event_at, line_of, path_at}
 use Rattle.fb_types.specs.States as model
-use Rattle.fb_types.specs.Systems.{System}
-use Rattle.fb_types.specs.declared.event_kind.EventKind.{EventKind}
-use Rattle.fb_types.specs.declared.library.BasicType.{BasicType}
-use Rattle.fb_types.specs.declared.run.Form.{Form}
-use Rattle.fb_types.specs.declared.run.Line.{Line}
-use Rattle.fb_inspect.specs.walk.Chains.{ShowsReaction}
-use Rattle.fb_inspect.specs.walk.Charting.{IsChartTaking, sys_of}
-use Rattle.fb_inspect.specs.walk.Looks.{IsTaking, IsTakingAt, IsTakingByBlock, IsTakingByChart, IsTakingByTimer, IsTakingWith, Look, Seen, Taking, emission_line, emissions_by, emits_pieces, left_at, memory_pieces, reacted, with_left, with_seen}
-use Rattle.fb_inspect.specs.Refusals.{ChartFails, EmitsFail, FailsBy, HasRead, IsNoTaking, IsNotDue, TakingFails}
-use Rattle.fb_inspect.specs.walk.Timing.{taken_reaction, taken_variables}
+use Rattle.fb_inspect.specs.walk.Charting.{IsChartTaking}
+use Rattle.fb_inspect.specs.walk.Looks.{IsTakingByBlock, IsTakingByChart, IsTakingByTimer}
+use Rattle.fb_inspect.specs.Refusals.{HasRead, IsNoTaking, IsNotDue, TakingFails}
+use Rattle.fb_inspect.specs.walk.Timing.{taken_variables}
 use Rattle.fb_inspect.specs.walk.Walking.{IsChartKept}
-use Rattle.fb_inspect.specs.declared.walk.blocks.Chart.{Chart}
-use Rattle.fb_inspect.specs.declared.walk.charts.ChartTaking.{ChartTaking}
-use Rattle.fb_inspect.specs.declared.walk.reading.Reading.{Reading}
 use Rattle.fb_inspect.proofs.lemmas.results.Refused.{reads_then}
 use Rattle.fb_inspect.proofs.lemmas.reactions.Timed.{taken_is}
 use Rattle.fb_net.proofs.lemmas.values.Sampling.{ports-of_kind}

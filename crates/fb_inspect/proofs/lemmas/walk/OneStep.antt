@@ -1,29 +1,10 @@
 -- What one step of a walk does, by what its calls do.
-use Rattle.std.proofs.Common.{◌≡◌, ◌≤◌, ◌⊎◌, ℕ, ◌+◌, List, Option, Some, None, Result, Ok, Err, refl, sym, ◌∙◌, ap, subst, inl, inr}
-use Rattle.std.specs.Prelude.{IfOk}
-use Rattle.std.specs.Global.{Vec}
-use Rattle.std.specs.Io.KnownBytes.{Consumes, prepend_known}
-use Rattle.fb_types.specs.Systems.{System}
-use Rattle.fb_types.specs.declared.library.BlockType.{BlockType}
-use Rattle.fb_types.specs.declared.run.Form.{Form}
-use Rattle.fb_types.specs.declared.run.Line.{Line}
-use Rattle.fb_types.specs.declared.value.Reason.{Reason}
-use Rattle.fb_types.specs.declared.value.Reason.TheVariants.{Steps}
-use Rattle.fb_trace.specs.declared.last.Outcome.{Outcome}
-use Rattle.fb_coverage.specs.declared.marks.Marks.{Marks}
-use Rattle.fb_inspect.specs.Selections.{Selection}
-use Rattle.fb_inspect.specs.Inspections.{KeepSteps, limited}
-use Rattle.fb_inspect.specs.walk.Lines.{IsNext}
-use Rattle.fb_inspect.specs.walk.Looks.{Left, Look, left_at, most}
+use Rattle.fb_inspect.proofs.lemmas.Common.{◌≡◌, ◌≤◌, ◌⊎◌, ℕ, ◌+◌, List, Option, Some, None, Result, Ok, Err, refl, sym, ◌∙◌, ap, subst, inl, inr, IfOk, Vec, Consumes, System, BlockType, Form, Line, Reason, Steps, Outcome, Marks, Selection, KeepSteps, limited, IsNext, Left, Look, left_at, most, AreCutOff, IsLookOf, IsSevered, WalkTakes, unread, Ahead, Remembered, Next, Step, Ended, Walk}
+use Rattle.std.specs.Io.KnownBytes.{prepend_known}
 use Rattle.fb_inspect.specs.walk.Stepping.{EndsAfter, GoesOn, IsStopped, IsUsedUp, LineGoes, StepGoes, stop_at}
-use Rattle.fb_inspect.specs.walk.Walking.{AreCutOff, HasLimited, IsLookOf, IsSevered, WalkTakes, unread}
-use Rattle.fb_inspect.specs.declared.walk.ahead.Ahead.{Ahead}
-use Rattle.fb_inspect.specs.declared.walk.blocks.Remembered.{Remembered}
-use Rattle.fb_inspect.specs.declared.walk.reading.Next.{Next}
+use Rattle.fb_inspect.specs.walk.Walking.{HasLimited}
 use Rattle.fb_inspect.specs.declared.walk.reading.Next.TheVariants as next
-use Rattle.fb_inspect.specs.declared.walk.Step.{Step}
-use Rattle.fb_inspect.specs.declared.walk.Step.TheVariants.{Taken, Ended, CutOff}
-use Rattle.fb_inspect.specs.declared.walk.Walk.{Walk}
+use Rattle.fb_inspect.specs.declared.walk.Step.TheVariants.{Taken, CutOff}
 use Rattle.fb_inspect.proofs.lemmas.walk.Stepped.{look_limited, taking_from, taking_next, taking_reread}
 
 -- two facts of what a call answers

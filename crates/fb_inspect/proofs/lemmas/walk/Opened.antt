@@ -1,24 +1,10 @@
 -- What is kept of the instances before the first event.
-use Rattle.std.proofs.Common.{◌≡◌, ◌<◌, ◌+◌, ℕ, Bool, false, length, List, [], ◌∷◌, ◌++◌, map, Option, Some, None, refl, sym, ◌∙◌, ap, subst, append_assoc, get_or, take, length-append, rules, arith}
-use Rattle.std.specs.Prelude.{unwrap_or}
-use Rattle.std.proofs.lemmas.Option.{slice_get_within}
-use Rattle.fb_types.specs.Blocks.{Basic, Composite, Event, Kind, ports_of_event_block, variable_names}
-use Rattle.fb_types.specs.Names.{Name, Path}
-use Rattle.fb_types.specs.Numbers.{path_at}
-use Rattle.fb_types.specs.Simulation.{opening_block}
+use Rattle.fb_inspect.proofs.lemmas.Common.{◌≡◌, ◌<◌, ◌+◌, ℕ, Bool, false, length, List, [], ◌∷◌, ◌++◌, map, Option, Some, None, refl, sym, ◌∙◌, ap, subst, append_assoc, get_or, take, length-append, rules, arith, unwrap_or, slice_get_within, Basic, Composite, Event, Kind, ports_of_event_block, variable_names, Name, Path, path_at, System, Values, EventKind, BasicType, CompositeType, Ports, Variable, Value, FitInputs, Seen, most, opening_look, left_of, IsBlockKept, IsKept, Chart, EventBlock, Remembered, TickSteps}
+use Rattle.fb_types.proofs.Common.{opening_block}
 use Rattle.fb_types.specs.States as model
-use Rattle.fb_types.specs.Systems.{System}
-use Rattle.fb_types.specs.Values.{Values}
-use Rattle.fb_types.specs.declared.event_kind.EventKind.{EventKind}
-use Rattle.fb_types.specs.declared.library.BasicType.{BasicType}
-use Rattle.fb_types.specs.declared.library.CompositeType.{CompositeType}
-use Rattle.fb_types.specs.declared.library.Ports.{Ports}
-use Rattle.fb_types.specs.declared.library.Variable.{Variable}
-use Rattle.fb_types.specs.declared.value.Value.{Value}
 use Rattle.fb_types.proofs.lemmas.lists.ByIndex.{element_at, slice_get-push}
 use Rattle.fb_types.proofs.lemmas.lists.LoopSteps.{map_take_more}
 use Rattle.fb_ecc.specs.declared.state.BasicState.{BasicState}
-use Rattle.fb_event.specs.Reactions.{FitInputs}
 use Rattle.fb_event.specs.State.{State}
 use Rattle.fb_laws.specs.Simulations.{BeginsTyped}
 use Rattle.fb_net.specs.Blocks.{composite_with, own_of}
@@ -30,16 +16,10 @@ use Rattle.fb_net.specs.declared.block.Block.TheViews.{out-Block, the_lemmas}
 use Rattle.fb_net.proofs.lemmas.opening.Components.{out_roll, own_basic, own_event}
 use Rattle.fb_net.proofs.lemmas.values.Sampling.{ports-of_kind}
 use Rattle.fb_system.specs.Stimuli.{initial_inputs}
-use Rattle.fb_inspect.specs.walk.Looks.{Seen, first_due, most, opening_look}
-use Rattle.fb_inspect.specs.walk.Counted.{left_of}
+use Rattle.fb_inspect.specs.walk.Looks.{first_due}
 use Rattle.fb_inspect.specs.walk.Notes.{own_variables}
-use Rattle.fb_inspect.specs.walk.Timing.{IsBlockKept}
-use Rattle.fb_inspect.specs.walk.Walking.{AreUnused, IsChartKept, IsKept, OpenAll, OpensAs, flag_at}
-use Rattle.fb_inspect.specs.declared.walk.blocks.Chart.{Chart}
-use Rattle.fb_inspect.specs.declared.walk.blocks.EventBlock.{EventBlock}
-use Rattle.fb_inspect.specs.declared.walk.blocks.Remembered.{Remembered}
+use Rattle.fb_inspect.specs.walk.Walking.{AreUnused, IsChartKept, OpenAll, OpensAs, flag_at}
 use Rattle.fb_inspect.specs.declared.walk.blocks.Remembered.TheVariants as kept
-use Rattle.fb_inspect.specs.declared.walk.steps.TickSteps.{TickSteps}
 use Rattle.fb_inspect.proofs.lemmas.reactions.Sampled.{inputs_fit}
 
 -- ---- The kind of what represents an instance

@@ -1,47 +1,14 @@
 -- Where a walk stands after a taking, and which line is wrong where it does not go on.
-use Rattle.std.proofs.Common.{◌≡◌, ◌⊎◌, ℕ, zero, suc, ◌+◌, Bool, List, [], ◌∷◌, ◌++◌, length, map, Option, Some, None, Result, Ok, refl, sym, ap, subst, ◌∙◌, inl, inr, append_assoc, append-nil, arith, length-append}
-use Rattle.std.specs.Prelude.{All, IfSome}
-use Rattle.std.specs.Global.{Vec}
-use Rattle.std.specs.Io.BufRead.{take_through}
-use Rattle.std.proofs.lemmas.List.{append_cancel_left, map-append}
-use Rattle.std.proofs.lemmas.List.Elements.{All-append, All-cons, All-head, All-nil, All-tail}
-use Rattle.fb_types.specs.Blocks.{Basic, Composite, Emission, Event, Kind}
-use Rattle.fb_types.specs.Headline.{system_of}
-use Rattle.fb_types.specs.Numbers.{line_of, path_at}
-use Rattle.fb_types.specs.Simulation.{AtStop}
+use Rattle.fb_inspect.proofs.lemmas.Common.{◌≡◌, ◌⊎◌, ℕ, zero, suc, ◌+◌, Bool, List, [], ◌∷◌, ◌++◌, length, map, Option, Some, None, Result, Ok, refl, sym, ap, subst, ◌∙◌, inl, inr, append_assoc, append-nil, arith, length-append, All, IfSome, Vec, take_through, append_cancel_left, map-append, All-append, All-cons, All-head, All-nil, All-tail, Basic, Composite, Emission, Event, Kind, system_of, line_of, path_at, AtStop, System, last_line, line_text, lines_text, Key, BasicType, BlockType, Form, One, Two, Line, Reason, Steps, last_tick, IsLineOf, IsTextOf, PortTable, IsOwnLine, all_lines, last_look, IsAlone, IsNext, IsTaking, IsTakingAt, IsTakingWith, Look, Taking, emission_line, left_at, most, opening_look, taking_lines, IsLineAt, FailsBy, IsWrongLine, steps_stop, AreAhead, GoesAfter, IsLeft, Watches, IsLookOf, WalkTakes, unread, Ahead, InspectError, Reading, Step, Ended, Trail, Walk, Stop}
 use Rattle.fb_types.specs.States as model
-use Rattle.fb_types.specs.Systems.{System}
-use Rattle.fb_types.specs.Text.{last_line, line_text, lines_text}
-use Rattle.fb_types.specs.declared.key.Key.{Key}
-use Rattle.fb_types.specs.declared.library.BasicType.{BasicType}
-use Rattle.fb_types.specs.declared.library.BlockType.{BlockType}
-use Rattle.fb_types.specs.declared.run.Form.{Form}
-use Rattle.fb_types.specs.declared.run.Form.TheVariants.{One, Two}
-use Rattle.fb_types.specs.declared.run.Line.{Line}
-use Rattle.fb_types.specs.declared.value.Reason.{Reason}
-use Rattle.fb_types.specs.declared.value.Reason.TheVariants.{Steps}
-use Rattle.fb_wave.specs.Dumps.{last_tick}
-use Rattle.fb_wave.specs.Lines.{IsLineOf, IsTextOf}
 use Rattle.fb_wave.specs.Waves.{AreLinesOf}
-use Rattle.fb_wave.specs.declared.table.PortTable.{PortTable}
 use Rattle.fb_wave.proofs.lemmas.Lining.{line_not_last, line_one}
-use Rattle.fb_inspect.specs.Inspections.{IsOwnLine, all_lines, last_look}
-use Rattle.fb_inspect.specs.walk.Lines.{IsAlone, IsNext, IsPlain}
-use Rattle.fb_inspect.specs.walk.Looks.{IsTaking, IsTakingAt, IsTakingWith, Look, Taking, emission_line, left_at, most, opening_look, taking_lines}
-use Rattle.fb_inspect.specs.walk.Moves.{IsLineAt}
-use Rattle.fb_inspect.specs.Refusals.{BeginsNothing, FailsBy, GoesOtherwise, HasRead, HaveTaken, IsLineAfter, IsNoStepsStop, IsWrongAfter, IsWrongLine, TakingFails, steps_stop}
+use Rattle.fb_inspect.specs.walk.Lines.{IsPlain}
+use Rattle.fb_inspect.specs.Refusals.{BeginsNothing, GoesOtherwise, HasRead, HaveTaken, IsLineAfter, IsNoStepsStop, IsWrongAfter, TakingFails}
 use Rattle.fb_inspect.specs.walk.SameLines.{AreLikeParts, IsSameLine}
-use Rattle.fb_inspect.specs.walk.Standing.{AreAhead, AreNumbered, GoesAfter, IsLeft, IsNotNear, MayBeAhead, StandsAfter, StandsAt, StandsOn, TakesOne, Watches}
-use Rattle.fb_inspect.specs.walk.Walking.{IsLookOf, WalkTakes, unread}
-use Rattle.fb_inspect.specs.declared.walk.ahead.Ahead.{Ahead}
-use Rattle.fb_inspect.specs.declared.error.InspectError.{InspectError}
-use Rattle.fb_inspect.specs.declared.walk.reading.Reading.{Reading}
-use Rattle.fb_inspect.specs.declared.walk.Step.{Step}
-use Rattle.fb_inspect.specs.declared.walk.Step.TheVariants.{CutOff, Ended, Taken}
+use Rattle.fb_inspect.specs.walk.Standing.{AreNumbered, IsNotNear, MayBeAhead, StandsAfter, StandsAt, StandsOn, TakesOne}
+use Rattle.fb_inspect.specs.declared.walk.Step.TheVariants.{CutOff, Taken}
 use Rattle.fb_inspect.specs.declared.walk.reading.Next.TheVariants as next
-use Rattle.fb_inspect.specs.declared.walk.trail.Trail.{Trail}
-use Rattle.fb_inspect.specs.declared.walk.Walk.{Walk}
-use Rattle.fb_trace.specs.declared.last.Outcome.TheVariants.{Stop}
 use Rattle.fb_inspect.proofs.lemmas.lines.OneEnd.{no_stop_text}
 use Rattle.fb_inspect.proofs.lemmas.lines.Fronting.{IsFront, front, front_after, front_alone, front_end, through_one}
 use Rattle.fb_inspect.proofs.lemmas.walk.WalkedTakings.{chain_more, each_of, last_more, lines_more, look_more, none_more, rise_more}

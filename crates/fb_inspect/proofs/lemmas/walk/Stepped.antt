@@ -1,53 +1,20 @@
 -- One step of a walk, by one event or to the end of the trace.
-use Rattle.std.proofs.Common.{◌≡◌, ◌<◌, ◌≤◌, ◌⊎◌, ℕ, ◌+◌, ◌-◌, ◌==◌, Bool, true, false, List, [], ◌∷◌, ◌++◌, length, map, Option, Some, None, refl, sym, ◌∙◌, ap, subst, inl, inr, append_assoc, append-nil, arith}
-use Rattle.std.specs.Prelude.{All, IfSome, if◌then◌else◌, slice_get, slice_set}
-use Rattle.std.specs.List.{list_any}
-use Rattle.std.specs.Io.KnownBytes.{Consumes, prepend_known}
+use Rattle.fb_inspect.proofs.lemmas.Common.{◌≡◌, ◌<◌, ◌≤◌, ◌⊎◌, ℕ, ◌+◌, ◌-◌, ◌==◌, Bool, true, false, List, [], ◌∷◌, ◌++◌, length, map, Option, Some, None, refl, sym, ◌∙◌, ap, subst, inl, inr, append_assoc, append-nil, arith, All, IfSome, if◌then◌else◌, slice_get, slice_set, list_any, Consumes, false_from_ne_true, nat_tests, map-append, All-append, All-cons, line_of, path_at, AtStop, System, line_text, lines_text, Key, BlockType, Form, Line, StopMark, Reason, Steps, Divide, Range, ending_of, Outcome, Stop, last_tick, IsLast, IsLineOf, IsTextOf, Marks, left_of, AreTaken, AreTakings, EndsBySteps, EndsSo, KeepSteps, KeepsLimit, NoneStops, RunsOut, last_look, limited, stop_of, Selection, is_loss, IsNext, IsNextLine, IsTaking, Left, Look, Taking, left_at, most, opening_look, Goes, IsLineAt, shown_text, AreCutOff, HasCovered, IsCutAfter, IsLookOf, IsSevered, MayEnd, WalkTakes, Ahead, Remembered, Next, TickSteps, Trail, Step, Ended, Walk}
+use Rattle.std.specs.Io.KnownBytes.{prepend_known}
 use Rattle.std.proofs.Math.ListN.{length-set}
-use Rattle.std.proofs.lemmas.Bool.{false_from_ne_true}
-use Rattle.std.proofs.lemmas.Bool.Decides.{nat_tests}
-use Rattle.std.proofs.lemmas.List.{map-append}
-use Rattle.std.proofs.lemmas.List.Elements.{All-append, All-cons}
-use Rattle.fb_types.specs.Numbers.{line_of, path_at}
-use Rattle.fb_types.specs.Simulation.{AtStop}
 use Rattle.fb_types.specs.States as model
-use Rattle.fb_types.specs.Systems.{System}
-use Rattle.fb_types.specs.Text.{line_text, lines_text}
-use Rattle.fb_types.specs.declared.key.Key.{Key}
-use Rattle.fb_types.specs.declared.library.BlockType.{BlockType}
-use Rattle.fb_types.specs.declared.run.Form.{Form}
-use Rattle.fb_types.specs.declared.run.Line.{Line}
-use Rattle.fb_types.specs.declared.run.StopMark.{StopMark}
-use Rattle.fb_types.specs.declared.value.Reason.{Reason}
-use Rattle.fb_types.specs.declared.value.Reason.TheVariants.{Steps, Divide, Range}
-use Rattle.fb_trace.specs.End.{ending_of}
-use Rattle.fb_trace.specs.declared.last.Outcome.{Outcome}
-use Rattle.fb_trace.specs.declared.last.Outcome.TheVariants.{End, Stop}
+use Rattle.fb_trace.specs.declared.last.Outcome.TheVariants.{End}
 use Rattle.fb_wave.specs.Copying.{IsAfter}
-use Rattle.fb_wave.specs.Dumps.{last_tick}
-use Rattle.fb_wave.specs.Lines.{IsLast, IsLineOf, IsTextOf}
-use Rattle.fb_coverage.specs.declared.marks.Marks.{Marks}
 use Rattle.fb_net.proofs.lemmas.blocks.OtherBlocks.{get_set_other, get_set_same}
-use Rattle.fb_inspect.specs.walk.Counted.{left_of}
-use Rattle.fb_inspect.specs.Inspections.{AreLimited, AreTaken, AreTakings, EndsBySteps, EndsByStop, EndsSo, KeepSteps, KeepsLimit, NoneStops, RunsOut, all_text, last_look, limited, stop_of}
-use Rattle.fb_inspect.specs.Selections.{Selection, is_shown_at}
-use Rattle.fb_inspect.specs.walk.Chains.{is_loss}
-use Rattle.fb_inspect.specs.walk.Lines.{IsNext, IsNextLine}
+use Rattle.fb_inspect.specs.Inspections.{AreLimited, EndsByStop, all_text}
+use Rattle.fb_inspect.specs.Selections.{is_shown_at}
 use Rattle.fb_inspect.specs.Markings.{TakingMarks}
-use Rattle.fb_inspect.specs.walk.Looks.{IsTaking, Left, Look, Taking, left_at, most, opening_look, taking_text}
-use Rattle.fb_inspect.specs.walk.Moves.{Goes, IsLineAt, shown_text}
+use Rattle.fb_inspect.specs.walk.Looks.{taking_text}
 use Rattle.fb_inspect.specs.walk.Stepping.{EndsAfter, IsStopped, IsUsedUp, LineGoes, stop_at}
-use Rattle.fb_inspect.specs.walk.Walking.{AreCutOff, AreMarked, HasAdvanced, HasCovered, HasLimited, IsComplete, IsCutAfter, IsGone, IsLookOf, IsReadOn, IsSevered, MayEnd, WalkTakes, may_show, shows}
+use Rattle.fb_inspect.specs.walk.Walking.{AreMarked, HasAdvanced, HasLimited, IsComplete, IsGone, IsReadOn, may_show, shows}
 use Rattle.fb_inspect.specs.declared.filter.Shown.{Shown}
-use Rattle.fb_inspect.specs.declared.walk.ahead.Ahead.{Ahead}
-use Rattle.fb_inspect.specs.declared.walk.blocks.Remembered.{Remembered}
-use Rattle.fb_inspect.specs.declared.walk.reading.Next.{Next}
 use Rattle.fb_inspect.specs.declared.walk.reading.Next.TheVariants as next
-use Rattle.fb_inspect.specs.declared.walk.steps.TickSteps.{TickSteps}
-use Rattle.fb_inspect.specs.declared.walk.trail.Trail.{Trail}
-use Rattle.fb_inspect.specs.declared.walk.Step.{Step}
-use Rattle.fb_inspect.specs.declared.walk.Step.TheVariants.{Taken, Ended, CutOff}
-use Rattle.fb_inspect.specs.declared.walk.Walk.{Walk}
+use Rattle.fb_inspect.specs.declared.walk.Step.TheVariants.{Taken, CutOff}
 use Rattle.fb_inspect.proofs.lemmas.walk.WalkedTakings.{chain_more, each_of, gone_more, last_is, look_more, more_marked, none_more, nothing, rise_more, shown_if, shows_is, stop_by, stop_more}
 use Rattle.fb_inspect.proofs.lemmas.lines.Moving.{lines-append, next_line}
 use Rattle.fb_inspect.proofs.lemmas.walk.Walked.{one_or_other}

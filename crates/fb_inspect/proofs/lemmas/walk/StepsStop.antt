@@ -1,29 +1,8 @@
 -- The event after which a trace may stop for its steps: which line is wrong where it does not.
-use Rattle.std.proofs.Common.{◌≡◌, ◌⊎◌, ℕ, Bool, true, false, List, [], ◌∷◌, ◌++◌, map, Option, Some, None, refl, sym, ap, subst, ◌∙◌, inl, inr, append_assoc}
-use Rattle.std.proofs.lemmas.List.Elements.{All-cons}
-use Rattle.fb_wave.specs.Lines.{IsLineOf}
-use Rattle.fb_types.specs.Headline.{system_of}
-use Rattle.fb_types.specs.Numbers.{line_of}
+use Rattle.fb_inspect.proofs.lemmas.Common.{◌≡◌, ◌⊎◌, ℕ, Bool, true, false, List, [], ◌∷◌, ◌++◌, map, Option, Some, None, refl, sym, ap, subst, ◌∙◌, inl, inr, append_assoc, All-cons, system_of, line_of, System, line_text, lines_text, BlockType, Form, Line, Reason, Steps, IsLineOf, PortTable, KeepSteps, KeepsLimit, all_lines, last_look, limited, IsAlone, IsTaking, Look, Taking, left_at, opening_look, FailsBy, IsWrongLine, OfRefusal, steps_stop, AreAhead, Watches, WalkTakes, unread, Ahead, InspectError, Refused, Reading, Walk}
 use Rattle.fb_types.specs.States as model
-use Rattle.fb_types.specs.Systems.{System}
-use Rattle.fb_types.specs.Text.{line_text, lines_text}
-use Rattle.fb_types.specs.declared.library.BlockType.{BlockType}
-use Rattle.fb_types.specs.declared.run.Form.{Form}
-use Rattle.fb_types.specs.declared.run.Line.{Line}
-use Rattle.fb_types.specs.declared.value.Reason.{Reason}
-use Rattle.fb_types.specs.declared.value.Reason.TheVariants.{Steps}
-use Rattle.fb_wave.specs.declared.table.PortTable.{PortTable}
-use Rattle.fb_inspect.specs.Inspections.{KeepSteps, KeepsLimit, all_lines, last_look, limited}
-use Rattle.fb_inspect.specs.walk.Lines.{IsAlone}
-use Rattle.fb_inspect.specs.walk.Looks.{IsTaking, Look, Taking, left_at, opening_look}
-use Rattle.fb_inspect.specs.Refusals.{FailsBy, IsWrongLine, OfRefusal, StopsSoon, steps_stop}
-use Rattle.fb_inspect.specs.walk.Standing.{AreAhead, IsNear, StandsAt, Watches}
-use Rattle.fb_inspect.specs.walk.Walking.{WalkTakes, unread}
-use Rattle.fb_inspect.specs.declared.walk.ahead.Ahead.{Ahead}
-use Rattle.fb_inspect.specs.declared.error.InspectError.{InspectError}
-use Rattle.fb_inspect.specs.declared.error.InspectError.TheVariants.{Refused}
-use Rattle.fb_inspect.specs.declared.walk.reading.Reading.{Reading}
-use Rattle.fb_inspect.specs.declared.walk.Walk.{Walk}
+use Rattle.fb_inspect.specs.Refusals.{StopsSoon}
+use Rattle.fb_inspect.specs.walk.Standing.{IsNear, StandsAt}
 use Rattle.fb_inspect.proofs.lemmas.lines.Moving.{lines-append}
 use Rattle.fb_inspect.proofs.lemmas.results.Errors.{of_number}
 use Rattle.fb_inspect.proofs.lemmas.walk.StandsAfter.{begins_nothing, goes_reads, otherwise, own, own_of, reads_first, taking_is, wrong_after, wrong_here}

@@ -1,32 +1,7 @@
 -- A walk from its first line to the line that is refused.
-use Rattle.std.proofs.Common.{◌≡◌, ◌<◌, ℕ, ◌+◌, Bool, false, List, [], ◌∷◌, ◌++◌, length, map, Option, Some, None, refl, sym, ap, subst, ◌∙◌, inl, inr, arith}
-use Rattle.std.specs.Prelude.{IfSome}
-use Rattle.std.specs.Io.BufRead.{take_through}
-use Rattle.std.specs.Io.KnownBytes.{Consumes}
-use Rattle.std.proofs.lemmas.List.Elements.{All-nil}
-use Rattle.fb_types.specs.Numbers.{line_of}
-use Rattle.fb_types.specs.Systems.{System}
-use Rattle.fb_types.specs.Text.{lines_text}
-use Rattle.fb_types.specs.declared.library.BlockType.{BlockType}
-use Rattle.fb_types.specs.declared.run.Form.{Form}
-use Rattle.fb_trace.specs.End.{ending_of}
-use Rattle.fb_trace.specs.declared.last.Outcome.{Outcome}
-use Rattle.fb_coverage.specs.declared.marks.Marks.{Marks}
-use Rattle.fb_wave.specs.Dumps.{last_tick}
-use Rattle.fb_wave.specs.Lines.{IsLineOf}
-use Rattle.fb_inspect.specs.Selections.{Selection}
-use Rattle.fb_inspect.specs.walk.Lines.{IsNext}
-use Rattle.fb_inspect.specs.walk.Looks.{Taking, opening_look}
-use Rattle.fb_inspect.specs.Refusals.{IsWrongAt}
-use Rattle.fb_inspect.specs.walk.Standing.{BeginsText, IsLeft, StandsWell, Watches}
-use Rattle.fb_inspect.specs.walk.Walking.{IsComplete, IsLookOf, Starts}
-use Rattle.fb_inspect.specs.declared.walk.ahead.Ahead.{Ahead}
-use Rattle.fb_wave.specs.declared.page.Page.{Page}
+use Rattle.fb_inspect.proofs.lemmas.Common.{◌≡◌, ◌<◌, ℕ, ◌+◌, Bool, false, List, [], ◌∷◌, ◌++◌, length, map, Option, Some, None, refl, sym, ap, subst, ◌∙◌, inl, inr, arith, IfSome, take_through, Consumes, All-nil, line_of, System, lines_text, BlockType, Form, ending_of, Outcome, Marks, last_tick, IsLineOf, Selection, IsNext, Taking, opening_look, IsWrongAt, BeginsText, IsLeft, StandsWell, Watches, IsLookOf, Starts, Ahead, Page, Trail, Walk, IsFirstLine, HasNames}
+use Rattle.fb_inspect.specs.walk.Walking.{IsComplete}
 use Rattle.fb_inspect.specs.declared.walk.trail.PassedLines.{PassedLines}
-use Rattle.fb_inspect.specs.declared.walk.trail.Trail.{Trail}
-use Rattle.fb_inspect.specs.declared.walk.Walk.{Walk}
-use Rattle.fb_wave.specs.Copying.{IsFirstLine}
-use Rattle.fb_wave.specs.Named.{HasNames}
 use Rattle.fb_wave.proofs.lemmas.Copied.{ends_after}
 use Rattle.fb_wave.proofs.lemmas.Forming.{ShowsForm, form_shown}
 

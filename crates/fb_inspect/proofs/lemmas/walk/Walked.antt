@@ -1,62 +1,23 @@
 -- One taking of a walk through a trace, from the reaction of one instance.
-use Rattle.std.proofs.Common.{◌≡◌, ◌≢◌, ◌<◌, ◌≤◌, ◌^◌, ℕ, min, suc, Bool, true, false, List, [], ◌∷◌, ◌++◌, length, Option, Some, None, refl, sym, ◌∙◌, ap, subst, inl, inr, append-nil, arith}
-use Rattle.std.specs.Prelude.{◌==◌, ◌&&◌, if◌then◌else◌, slice_get, slice_set, take}
-use Rattle.std.specs.List.{list_any}
+use Rattle.fb_inspect.proofs.lemmas.Common.{◌≡◌, ◌<◌, ◌≤◌, ◌^◌, ℕ, min, suc, Bool, true, false, List, [], ◌∷◌, ◌++◌, length, Option, Some, None, refl, sym, ◌∙◌, ap, subst, inl, inr, append-nil, arith, ◌==◌, ◌&&◌, if◌then◌else◌, slice_get, slice_set, take, list_any, false_from_ne_true, nat_tests, slice_get_within, Basic, Composite, Emission, Event, Kind, Position, Name, Path, same_path, event_at, line_of, path_at, ports_at, state_of, with_values, System, line_text, Values, EventKind, Key, BasicType, BlockType, CompositeType, EventPort, Ports, Form, Line, Reason, values_of, FitInputs, IsLineOf, ChartMarks, Marks, Page, Piece, ShowsReaction, is_loss, ChartGoes, place, sys_of, left_of, IsTaking, IsTakingAt, IsTakingWith, Left, Look, Seen, Taking, emissions_by, emits_pieces, left_at, memory_pieces, pieces_text, reacted, with_left, with_seen, PiecesMark, event_number, Goes, StaysAlone, shown_text, IsBlockKept, taken_reaction, AreKept, IsKept, IsLookOf, WalkTakes, Chart, EventBlock, Remembered, ChartTaking, TickSteps, Trail, Walk}
+use Rattle.fb_types.proofs.Common.{◌≢◌, take_at}
 use Rattle.std.proofs.Math.ListN.{length-set}
-use Rattle.std.proofs.lemmas.Bool.{false_from_ne_true}
-use Rattle.std.proofs.lemmas.List.{take_at}
-use Rattle.std.proofs.lemmas.Bool.Decides.{nat_tests}
-use Rattle.std.proofs.lemmas.Option.{slice_get_within}
-use Rattle.fb_types.specs.Blocks.{Basic, Composite, Emission, Event, Kind}
-use Rattle.fb_types.specs.Charts.{Position}
-use Rattle.fb_types.specs.Names.{Name, Path, same_path}
-use Rattle.fb_types.specs.Numbers.{event_at, line_of, path_at, ports_at}
-use Rattle.fb_types.specs.Reactions.{state_of, with_values}
 use Rattle.fb_types.specs.States as model
-use Rattle.fb_types.specs.Systems.{System}
-use Rattle.fb_types.specs.Text.{line_text}
-use Rattle.fb_types.specs.Values.{Values}
-use Rattle.fb_types.specs.declared.event_kind.EventKind.{EventKind}
-use Rattle.fb_types.specs.declared.key.Key.{Key}
-use Rattle.fb_types.specs.declared.library.BasicType.{BasicType}
-use Rattle.fb_types.specs.declared.library.BlockType.{BlockType}
 use Rattle.fb_types.specs.declared.library.BlockType.TheVariants as declared
-use Rattle.fb_types.specs.declared.library.CompositeType.{CompositeType}
-use Rattle.fb_types.specs.declared.library.EventPort.{EventPort}
-use Rattle.fb_types.specs.declared.library.Ports.{Ports}
-use Rattle.fb_types.specs.declared.run.Form.{Form}
-use Rattle.fb_types.specs.declared.run.Line.{Line}
-use Rattle.fb_types.specs.declared.value.Reason.{Reason}
 use Rattle.fb_types.proofs.lemmas.lists.ByIndex.{element_at}
 use Rattle.fb_types.proofs.lemmas.names.PathLaws.{same_path_is, same_path_itself}
-use Rattle.fb_st.specs.Frames.{values_of}
 use Rattle.fb_ecc.specs.Indexes.{sampled}
 use Rattle.fb_ecc.specs.Sound.{IsSound}
-use Rattle.fb_event.specs.Reactions.{FitInputs}
 use Rattle.fb_net.proofs.lemmas.blocks.OtherBlocks.{get_set_other, get_set_same}
 use Rattle.fb_net.proofs.lemmas.values.Sampling.{ports-of_kind}
-use Rattle.fb_wave.specs.Lines.{IsLineOf}
 use Rattle.fb_coverage.specs.Sets.{with_taken}
-use Rattle.fb_coverage.specs.declared.marks.ChartMarks.{ChartMarks}
-use Rattle.fb_coverage.specs.declared.marks.Marks.{Marks}
-use Rattle.fb_wave.specs.declared.page.Page.{Page}
 use Rattle.fb_inspect.specs.Selections.{is_wanted}
-use Rattle.fb_inspect.specs.walk.Chains.{Piece, ShowsReaction, is_loss}
-use Rattle.fb_inspect.specs.walk.Charting.{ChartGoes, IsChartOf, IsChartTaking, place, sys_of}
-use Rattle.fb_inspect.specs.walk.Counted.{left_of}
-use Rattle.fb_inspect.specs.walk.Looks.{IsTaking, IsTakingAt, IsTakingByBlock, IsTakingByChart, IsTakingByTimer, IsTakingWith, Left, Look, Seen, Taking, emissions_by, emits_pieces, left_at, memory_pieces, pieces_text, reacted, taking_text, with_left, with_seen}
-use Rattle.fb_inspect.specs.Markings.{ChartMarked, PiecesMark, TakingMarks, TakingMarksAt, event_number}
-use Rattle.fb_inspect.specs.walk.Moves.{Goes, StaysAlone, shown_text}
-use Rattle.fb_inspect.specs.walk.Timing.{BlockGoes, IsBlockKept, IsBlockLine, TimerGoes, taken_reaction, taken_variables, timer_reaction}
-use Rattle.fb_inspect.specs.walk.Walking.{AreKept, CanReact, HasStepped, IsChartKept, IsKept, IsLookOf, KeptGoes, ReactGoes, WalkTakes, has_lost, is_chart, may_show, with_steps}
-use Rattle.fb_inspect.specs.declared.walk.blocks.Chart.{Chart}
-use Rattle.fb_inspect.specs.declared.walk.blocks.EventBlock.{EventBlock}
-use Rattle.fb_inspect.specs.declared.walk.blocks.Remembered.{Remembered}
+use Rattle.fb_inspect.specs.walk.Charting.{IsChartOf, IsChartTaking}
+use Rattle.fb_inspect.specs.walk.Looks.{IsTakingByBlock, IsTakingByChart, IsTakingByTimer, taking_text}
+use Rattle.fb_inspect.specs.Markings.{ChartMarked, TakingMarks, TakingMarksAt}
+use Rattle.fb_inspect.specs.walk.Timing.{BlockGoes, IsBlockLine, TimerGoes, taken_variables, timer_reaction}
+use Rattle.fb_inspect.specs.walk.Walking.{CanReact, HasStepped, IsChartKept, KeptGoes, ReactGoes, has_lost, is_chart, may_show, with_steps}
 use Rattle.fb_inspect.specs.declared.walk.blocks.Remembered.TheVariants as kept
-use Rattle.fb_inspect.specs.declared.walk.charts.ChartTaking.{ChartTaking}
-use Rattle.fb_inspect.specs.declared.walk.steps.TickSteps.{TickSteps}
-use Rattle.fb_inspect.specs.declared.walk.trail.Trail.{Trail}
-use Rattle.fb_inspect.specs.declared.walk.Walk.{Walk}
 use Rattle.fb_inspect.proofs.lemmas.marks.Losses.{loss_is}
 use Rattle.fb_inspect.proofs.lemmas.marks.Marked.{event_number_at}
 use Rattle.fb_inspect.proofs.lemmas.lines.Moving.{aside, goes_as, goes_same, goes_then, shown-append}

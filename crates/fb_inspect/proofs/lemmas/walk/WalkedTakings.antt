@@ -1,37 +1,14 @@
 -- Takings of a walk through a trace, one after another.
-use Rattle.std.proofs.Common.{◌≡◌, ◌<◌, ◌≤◌, ℕ, suc, Bool, List, [], ◌∷◌, ◌++◌, length, map, Option, Some, None, refl, sym, ◌∙◌, ap, subst, inl, append_assoc, append-nil, arith, length-append}
-use Rattle.std.specs.Prelude.{All, ◌&&◌, if◌then◌else◌}
-use Rattle.std.specs.List.{list_any}
-use Rattle.std.specs.Io.KnownBytes.{Consumes}
-use Rattle.std.proofs.KnownBytes.{Appends-nil, Appends-trans, Consumes-trans}
-use Rattle.std.proofs.lemmas.List.{map-append}
-use Rattle.std.proofs.lemmas.List.Elements.{All-append, All-nil}
-use Rattle.fb_types.specs.Numbers.{line_of, path_at}
-use Rattle.fb_types.specs.Simulation.{Ending, AtStop}
+use Rattle.fb_inspect.proofs.lemmas.Common.{◌≡◌, ◌<◌, ◌≤◌, ℕ, suc, Bool, List, [], ◌∷◌, ◌++◌, length, map, Option, Some, None, refl, sym, ◌∙◌, ap, subst, inl, append_assoc, append-nil, arith, length-append, All, ◌&&◌, if◌then◌else◌, list_any, Consumes, Appends-nil, Appends-trans, Consumes-trans, map-append, All-append, All-nil, line_of, path_at, Ending, AtStop, System, lines_text, BlockType, Form, Line, Reason, last_tick, IsLineOf, RiseFrom, ChartMarks, Marks, AreTaken, AreTakings, NoneStops, NothingAfter, all_lines, last_look, stop_of, Selection, Piece, is_loss, IsTaking, Look, Taking, emission_line, taking_lines, IsLineAt, shown_text, HasCovered, Starts, WalkTakes, Page, Walk}
 use Rattle.fb_types.specs.States as model
-use Rattle.fb_types.specs.Systems.{System}
-use Rattle.fb_types.specs.Text.{lines_text}
-use Rattle.fb_types.specs.declared.library.BlockType.{BlockType}
-use Rattle.fb_types.specs.declared.run.Form.{Form}
-use Rattle.fb_types.specs.declared.run.Line.{Line}
-use Rattle.fb_types.specs.declared.value.Reason.{Reason}
-use Rattle.fb_wave.specs.Dumps.{last_tick}
-use Rattle.fb_wave.specs.Lines.{IsLineOf}
-use Rattle.fb_wave.specs.Waves.{RiseFrom}
-use Rattle.fb_coverage.specs.declared.marks.ChartMarks.{ChartMarks}
-use Rattle.fb_coverage.specs.declared.marks.Marks.{Marks}
-use Rattle.fb_inspect.specs.Inspections.{AreTaken, AreTakings, NoneStops, NothingAfter, all_lines, all_text, last_look, stop_of}
-use Rattle.fb_inspect.specs.Selections.{Selection, is_during, is_kept, is_shown, is_shown_at, is_wanted}
-use Rattle.fb_inspect.specs.walk.Chains.{Piece, is_loss}
-use Rattle.fb_inspect.specs.walk.Looks.{IsTaking, Look, Taking, emission_line, taking_lines, taking_text}
+use Rattle.fb_inspect.specs.Inspections.{all_text}
+use Rattle.fb_inspect.specs.Selections.{is_during, is_kept, is_shown, is_shown_at, is_wanted}
+use Rattle.fb_inspect.specs.walk.Looks.{taking_text}
 use Rattle.fb_inspect.specs.Markings.{TakingMarks, TakingsMark, lines_marked}
-use Rattle.fb_inspect.specs.walk.Moves.{IsLineAt, shown_text}
 use Rattle.fb_wave.specs.Pages.{IsFlushed}
-use Rattle.fb_inspect.specs.walk.Walking.{AreMarked, HasCovered, HasGone, IsGone, ShowsOf, Starts, WalkTakes, shows}
-use Rattle.fb_wave.specs.declared.page.Page.{Page}
+use Rattle.fb_inspect.specs.walk.Walking.{AreMarked, HasGone, IsGone, ShowsOf, shows}
 use Rattle.fb_inspect.specs.declared.filter.EventFilter.{EventFilter}
 use Rattle.fb_inspect.specs.declared.filter.Shown.{Shown}
-use Rattle.fb_inspect.specs.declared.walk.Walk.{Walk}
 use Rattle.fb_inspect.proofs.lemmas.lines.Moving.{lines-append, marked-append, next_line}
 
 -- ---- One more taking

@@ -1,31 +1,11 @@
 -- The first event after which a resource had used too many steps.
-use Rattle.std.proofs.Common.{◌≡◌, ◌≢◌, ◌<◌, ◌≤◌, ℕ, zero, suc, ◌+◌, min, Bool, true, false, List, [], ◌∷◌, ◌++◌, length, map, Option, Some, None, refl, sym, ap, subst, ◌∙◌, inl, inr, append_assoc, append-nil, arith}
-use Rattle.std.specs.Prelude.{All, ◌==◌, ◌||◌, if◌then◌else◌}
-use Rattle.std.specs.Io.BufRead.{take_through}
-use Rattle.std.proofs.lemmas.Bool.{false_from_ne_true}
-use Rattle.std.proofs.lemmas.Bool.Decides.{nat_tests}
-use Rattle.std.proofs.lemmas.List.{length-map, map-append}
-use Rattle.std.proofs.lemmas.List.Elements.{All-append, All-head, All-nil, All-cons, All-tail}
-use Rattle.fb_types.specs.Blocks.{Basic, Composite, Event, Kind}
-use Rattle.fb_types.specs.Numbers.{line_of}
-use Rattle.fb_types.specs.Simulation.{AtStop}
+use Rattle.fb_inspect.proofs.lemmas.Common.{◌≡◌, ◌<◌, ◌≤◌, ℕ, zero, suc, ◌+◌, min, Bool, true, false, List, [], ◌∷◌, ◌++◌, length, map, Option, Some, None, refl, sym, ap, subst, ◌∙◌, inl, inr, append_assoc, append-nil, arith, All, ◌==◌, ◌||◌, if◌then◌else◌, take_through, false_from_ne_true, nat_tests, length-map, map-append, All-append, All-head, All-nil, All-cons, All-tail, Basic, Composite, Event, Kind, line_of, AtStop, System, last_line, line_text, lines_text, Form, Line, Reason, Steps, IsEndOf, IsLineOf, IsTextOf, HasNames, RiseFrom, AreTakings, KeepSteps, NoneStops, NothingAfter, all_lines, last_look, IsTaking, IsTakingAt, IsTakingWith, Left, Look, Taking, emission_line, left_at, most, opening_look, taking_lines, with_left, IsWrongLine, Watches, Walk}
+use Rattle.fb_types.proofs.Common.{◌≢◌}
 use Rattle.fb_types.specs.States as model
-use Rattle.fb_types.specs.Systems.{System}
-use Rattle.fb_types.specs.Text.{last_line, line_text, lines_text}
-use Rattle.fb_types.specs.declared.run.Form.{Form}
-use Rattle.fb_types.specs.declared.run.Line.{Line}
-use Rattle.fb_types.specs.declared.value.Reason.{Reason}
-use Rattle.fb_types.specs.declared.value.Reason.TheVariants.{Steps}
-use Rattle.fb_wave.specs.Lines.{IsEndOf, IsLineOf, IsTextOf}
-use Rattle.fb_wave.specs.Named.{HasNames}
-use Rattle.fb_wave.specs.Waves.{RiseFrom}
 use Rattle.fb_wave.proofs.lemmas.Lining.{line_one}
-use Rattle.fb_inspect.specs.Inspections.{AreTakings, KeepSteps, NoneStops, NothingAfter, all_lines, last_look}
-use Rattle.fb_inspect.specs.walk.Looks.{IsTaking, IsTakingAt, IsTakingWith, Left, Look, Taking, emission_line, left_at, most, opening_look, taking_lines, with_left}
-use Rattle.fb_inspect.specs.Refusals.{IsNoStepsStop, IsWrongLine, UsesTooMany}
-use Rattle.fb_inspect.specs.walk.Standing.{IsTooMany, Stands, Watches}
+use Rattle.fb_inspect.specs.Refusals.{IsNoStepsStop, UsesTooMany}
+use Rattle.fb_inspect.specs.walk.Standing.{IsTooMany, Stands}
 use Rattle.fb_inspect.specs.declared.walk.ahead.EventLine.{EventLine}
-use Rattle.fb_inspect.specs.declared.walk.Walk.{Walk}
 use Rattle.fb_inspect.proofs.lemmas.lines.Fronting.{through_one}
 use Rattle.fb_inspect.proofs.lemmas.walk.WalkedTakings.{look_more}
 use Rattle.fb_inspect.proofs.lemmas.lines.Moving.{lines-append}

@@ -1,7 +1,5 @@
 -- Whether a path is another one, or that of a component.
-use Rattle.std.proofs.Common.{◌≡◌, ℕ, Bool, true, false, ◌&&◌, List, [], ◌∷◌, ◌++◌, refl, ◌∙◌, ap, nat_eq, arith}
-use Rattle.std.proofs.lemmas.Bool.{and_parts, false_from_ne_true, false≢true}
-use Rattle.std.proofs.lemmas.Bool.Decides.{nat_tests}
+use Rattle.fb_types.proofs.Common.{◌≡◌, ℕ, Bool, true, false, ◌&&◌, List, [], ◌∷◌, ◌++◌, refl, ◌∙◌, ap, nat_eq, arith, and_parts, false_from_ne_true, false≢true, nat_tests}
 use Rattle.fb_inspect.specs.Selections.{is_cut_there, is_within}
 
 nat_eq-itself : (n : ℕ) → nat_eq n n ≡ true

@@ -1,18 +1,8 @@
 -- The values of a line, as far as they were read.
-use Rattle.std.proofs.Common.{◌≡◌, ℕ, ◌<◌, List, [], ◌∷◌, ◌++◌, length, get_or, sym, ap, subst, ◌∙◌}
-use Rattle.std.specs.Prelude.{MatchOption, Option, Some, None}
-use Rattle.std.proofs.lemmas.List.{length-map}
-use Rattle.fb_types.specs.Names.{Name}
-use Rattle.fb_types.specs.Numbers.{pair_up}
-use Rattle.fb_types.specs.Systems.{System}
-use Rattle.fb_types.specs.Text.{values_text}
-use Rattle.fb_types.specs.declared.library.Variable.{Variable}
-use Rattle.fb_types.specs.declared.value.Ty.{Ty}
-use Rattle.fb_types.specs.declared.value.Value.{Value}
-use Rattle.fb_system.specs.IndexLists.{AreIndexes}
+use Rattle.fb_inspect.proofs.lemmas.Common.{◌≡◌, ℕ, ◌<◌, List, [], ◌∷◌, ◌++◌, length, get_or, sym, ap, subst, ◌∙◌, Option, Some, None, length-map, Name, pair_up, System, Variable, Value, AreIndexes, type_at, Port}
+use Rattle.fb_types.proofs.Common.{MatchOption, values_text, Ty}
 use Rattle.fb_wave.specs.Lines.{AreValuesOf, port_side, port_variables}
-use Rattle.fb_wave.specs.Reading.{AreRead, IsNoValue, IsUnbound, name_at, type_at}
-use Rattle.fb_wave.specs.declared.ports.Port.{Port}
+use Rattle.fb_wave.specs.Reading.{AreRead, IsNoValue, IsUnbound, name_at}
 use Rattle.fb_wave.proofs.lemmas.Valued.{AreSoFar, name_at-get_or, type_at-get_or}
 use Rattle.fb_inspect.specs.refused.LineFaults.{HasFirst, IsPortValueFault, IsValueFault}
 use Rattle.fb_inspect.specs.declared.refused.line_fault.ValueFault.{ValueFault}

@@ -1,7 +1,5 @@
 -- The last mark of a text, as far as it was looked for.
-use Rattle.std.proofs.Common.{◌≡◌, ℕ, ◌<◌, Bool, true, List, ◌∷◌, ◌++◌, take, get_or, codes, ap, ◌∙◌}
-use Rattle.std.specs.Prelude.{◌==◌, not, IfSome, MatchOption, Option, Some, None}
-use Rattle.std.specs.List.{list_all}
+use Rattle.fb_types.proofs.Common.{◌≡◌, ℕ, ◌<◌, Bool, true, List, ◌∷◌, ◌++◌, take, get_or, codes, ap, ◌∙◌, ◌==◌, not, IfSome, MatchOption, Option, Some, None, list_all}
 use Rattle.fb_wave.specs.Words.{IsCut}
 use Rattle.fb_inspect.specs.refused.LineFaults.{IsNamed}
 

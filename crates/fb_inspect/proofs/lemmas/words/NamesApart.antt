@@ -1,13 +1,7 @@
 -- Names that are the same bytes, and names that are not.
-use Rattle.std.proofs.Common.{◌≡◌, ℕ, ◌<◌, Bool, true, false, List, [], ◌∷◌, length, get_or, Decides, cond, refl, sym, ap, ◌∙◌, arith}
-use Rattle.std.specs.Prelude.{Some, None, nat_lt, not, position, unwrap_or}
-use Rattle.std.specs.List.{position_or_len}
-use Rattle.std.proofs.lemmas.Bool.{both_ways}
-use Rattle.std.proofs.lemmas.Bool.Decides.{nat_tests}
+use Rattle.fb_types.proofs.Common.{◌≡◌, ℕ, ◌<◌, Bool, true, false, List, [], ◌∷◌, length, get_or, cond, refl, sym, ap, ◌∙◌, arith, Some, None, nat_lt, not, position, unwrap_or, position_or_len, both_ways, nat_tests, slice_get-get_or, slice_get-map, event_at, EventPort}
+use Rattle.std.proofs.Common.{Decides}
 use Rattle.std.proofs.lemmas.List.Sums.{position_or_len_is}
-use Rattle.std.proofs.lemmas.Option.{slice_get-get_or, slice_get-map}
-use Rattle.fb_types.specs.Numbers.{event_at}
-use Rattle.fb_types.specs.declared.library.EventPort.{EventPort}
 
 -- what a test that two are not the same says
 pub differ : {P : Type 0} (same r : Bool) → Decides same P → r ≡ not same → r ≡ true → P → ⊥

@@ -1,14 +1,9 @@
 -- The port of the words of a line.
-use Rattle.std.proofs.Common.{◌≡◌, ℕ, Bool, true, false, List, ◌∷◌, ◌++◌, codes, sym, ap, subst, ◌∙◌, append_assoc}
-use Rattle.fb_types.specs.Numbers.{event_at, path_at, ports_at}
-use Rattle.fb_types.specs.Blocks.{inputs_with, outputs_with}
-use Rattle.fb_types.specs.Systems.{System}
-use Rattle.fb_types.specs.Text.{path_text}
-use Rattle.fb_system.specs.IndexLists.{AreIndexes}
+use Rattle.fb_inspect.proofs.lemmas.Common.{◌≡◌, ℕ, Bool, true, false, List, ◌∷◌, ◌++◌, codes, sym, ap, subst, ◌∙◌, append_assoc, event_at, path_at, ports_at, inputs_with, outputs_with, System, AreIndexes, Port}
+use Rattle.fb_types.proofs.Common.{path_text}
 use Rattle.fb_wave.specs.Lines.{port_side, port_variables}
 use Rattle.fb_wave.specs.Ports.{BeginsWith, IsPortOf, holder_name, side}
 use Rattle.fb_wave.specs.Words.{AreThree, three}
-use Rattle.fb_wave.specs.declared.ports.Port.{Port}
 use Rattle.fb_wave.proofs.lemmas.Finding.{port_is_three}
 use Rattle.fb_wave.proofs.lemmas.Gluing.{port_at}
 use Rattle.fb_inspect.specs.refused.LineFaults.{path_and, path_event, sign_text}

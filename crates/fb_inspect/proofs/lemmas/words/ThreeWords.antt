@@ -1,7 +1,5 @@
 -- A text that begins with three words.
-use Rattle.std.proofs.Common.{◌≡◌, ℕ, true, List, ◌∷◌, ◌++◌, Option, Some, None, codes, sym, ap, subst, ◌∙◌, append_assoc}
-use Rattle.std.proofs.lemmas.List.{append_cancel_left}
-use Rattle.std.specs.Prelude.{MatchOption}
+use Rattle.fb_types.proofs.Common.{◌≡◌, ℕ, true, List, ◌∷◌, ◌++◌, Option, Some, None, codes, sym, ap, subst, ◌∙◌, append_assoc, append_cancel_left, MatchOption}
 use Rattle.fb_wave.specs.Words.{AreThree, IsCut, is_word}
 
 three_parts : (u v w r : List ℕ) → (u ++ 32 ∷ (v ++ 32 ∷ w)) ++ r ≡ u ++ 32 ∷ (v ++ 32 ∷ (w ++ r))

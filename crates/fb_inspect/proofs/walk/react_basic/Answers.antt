@@ -1,24 +1,9 @@
-use Rattle.fb_types.specs.Headline.{system_of}
-use Rattle.fb_types.specs.Numbers.{path_at, event_at}
-use Rattle.fb_inspect.specs.declared.walk.charts.ChartTaking.{ChartTaking}
+use Rattle.fb_inspect.proofs.lemmas.Common.{system_of, path_at, event_at, err_from_is_err_and, [], ◌∷◌, List, Some, inl, inr, refl, sym, ap, subst, ◌∙◌, Position, Name, Value, ChartTaking, values_of, ShowsChain, ChartGoes, place, Chart, Reading, Trail, IsTakingAt, ChartFails, FailsBy}
 use Rattle.fb_inspect.proofs.lemmas.walk.Walked.{chart_goes, chart_kept_at, chart_taking}
-use Rattle.std.proofs.lemmas.Result.{err_from_is_err_and}
-use Rattle.std.proofs.Common.{[], ◌∷◌, List, Some, inl, inr, refl, sym, ap, subst, ◌∙◌}
-use Rattle.fb_types.specs.Charts.{Position}
-use Rattle.fb_types.specs.Names.{Name}
-use Rattle.fb_types.specs.declared.value.Value.{Value}
-use Rattle.fb_st.specs.Frames.{values_of}
 use Rattle.fb_ecc.specs.Indexes.{sampled}
-use Rattle.fb_inspect.specs.walk.Chains.{ShowsChain}
-use Rattle.fb_inspect.specs.walk.Charting.{ChartGoes, place}
 use Rattle.fb_inspect.specs.walk.OfWalk.{IsNext}
-use Rattle.fb_inspect.specs.declared.walk.blocks.Chart.{Chart}
-use Rattle.fb_inspect.specs.declared.walk.reading.Reading.{Reading}
-use Rattle.fb_inspect.specs.declared.walk.trail.Trail.{Trail}
 use Rattle.fb_inspect.proofs.lemmas.reactions.ChartFailing.{reaction_fails}
 use Rattle.fb_inspect.proofs.lemmas.reactions.Charted.{begun_at, reaction_goes}
-use Rattle.fb_inspect.specs.walk.Looks.{IsTakingAt}
-use Rattle.fb_inspect.specs.Refusals.{ChartFails, FailsBy}
 use Rattle.fb_inspect.proofs.lemmas.walk.FailedTakings.{chart_fails, untaken_chart}
 use Rattle.fb_inspect.proofs.lemmas.lines.NearStop.{basic_kept}
 use Rattle.fb_inspect.proofs.lemmas.results.Errors.{of_number}

@@ -1,12 +1,7 @@
-use Rattle.std.proofs.Common.{[], ◌∷◌, None, inl, inr, subst, sym, ◌∙◌}
-use Rattle.fb_types.specs.Headline.{system_of}
-use Rattle.fb_types.specs.Numbers.{path_at}
-use Rattle.fb_inspect.specs.walk.Looks.{IsTakingAt, emissions_by}
+use Rattle.fb_inspect.proofs.lemmas.Common.{[], ◌∷◌, None, inl, inr, subst, sym, ◌∙◌, system_of, path_at, IsTakingAt, emissions_by, EmitsFail, FailsBy, taken_reaction, IsKept, Remembered}
 use Rattle.fb_inspect.specs.walk.OfWalk.{CanReact}
-use Rattle.fb_inspect.specs.Refusals.{EmitsFail, FailsBy, IsNotDue}
-use Rattle.fb_inspect.specs.walk.Timing.{taken_reaction}
-use Rattle.fb_inspect.specs.walk.Walking.{IsKept, KeptGoes}
-use Rattle.fb_inspect.specs.declared.walk.blocks.Remembered.{Remembered}
+use Rattle.fb_inspect.specs.Refusals.{IsNotDue}
+use Rattle.fb_inspect.specs.walk.Walking.{KeptGoes}
 use Rattle.fb_inspect.proofs.lemmas.walk.FailedTakings.{block_fails, not_due}
 use Rattle.fb_inspect.proofs.lemmas.results.Joined.{both_joined, err_joined, ok_joined, ok_passed, on_joined}
 use Rattle.fb_inspect.proofs.lemmas.results.Refused.{err_none, err_refused, none_passed, reads_of}

@@ -1,10 +1,6 @@
 -- If a schedule is complete there is a simulation.
-use Rattle.std.proofs.Common.{◌≡◌, ℕ, ◌<◌, None, List, ap, ◌+◌, ◌≤◌, ⊎_elim, arith}
-use Rattle.fb_types.specs.Machines.{Machine, Item, cut, at}
-use Rattle.fb_laws.specs.Facts.{IsLawful}
-use Rattle.fb_laws.specs.Worlds.{World, last, Simulation, IsOpening, IsCounted}
-use Rattle.fb_types.specs.Cores.{Core, CoreStep}
-use Rattle.fb_types.specs.Schedules.{IsSchedule, IsLeastStop, IsAtHorizon}
+use Rattle.fb_laws.proofs.lemmas.Common.{◌≡◌, ℕ, ◌<◌, None, List, ap, ◌+◌, ◌≤◌, ⊎_elim, arith, Machine, Item, cut, at, Core, CoreStep, IsSchedule, IsLeastStop, IsLawful, World, last, Simulation, IsOpening, IsCounted}
+use Rattle.fb_types.proofs.Common.{IsAtHorizon}
 use Rattle.fb_laws.proofs.lemmas.schedules.Start.{opening}
 use Rattle.fb_types.proofs.lemmas.lists.Lookups.{none_some, option_cases}
 use Rattle.fb_laws.proofs.lemmas.resources.Chains.{cut_all}

@@ -1,16 +1,7 @@
 -- There is a simulation: each taking that does not stop uses a step, of which a resource has a limited number in one
 -- tick.
-use Rattle.std.proofs.Common.{◌≡◌, ℕ, zero, suc, ◌+◌, ◌<◌, ◌≤◌, ◌⊎◌, refl, sym, ap, ◌∙◌, subst, inl, inr, ⊎_elim, List, [], ◌∷◌, ◌++◌, Option, Some, None, arith}
-use Rattle.std.proofs.lemmas.Bool.{cases_lt, cases_eq}
-use Rattle.fb_types.specs.Keys.{Precedes, found, without, changed_to, NoneBelow, timer_key}
-use Rattle.fb_types.specs.Systems.{System}
-use Rattle.fb_types.specs.States.{Config, Event}
-use Rattle.fb_types.specs.Simulation.{Stimulus, Taken, TakesLeast, after, NothingAfter, Chain, last, AtHorizon, ending_by, ending_of, RestsAt, IsSimulation, opening, opening_events}
-use Rattle.fb_types.specs.Machines.{Each}
-use Rattle.fb_types.specs.Parts.{count_of, IsAtResource}
-use Rattle.fb_types.specs.declared.key.Key.{Key}
-use Rattle.fb_types.specs.declared.value.Reason.{Reason}
-use Rattle.fb_laws.specs.Sound.{IsSound}
+use Rattle.fb_laws.proofs.lemmas.Common.{◌≡◌, ℕ, zero, suc, ◌+◌, ◌<◌, ◌≤◌, ◌⊎◌, refl, sym, ap, ◌∙◌, subst, inl, inr, ⊎_elim, List, [], ◌∷◌, ◌++◌, Option, Some, None, arith, cases_lt, cases_eq, Precedes, found, without, changed_to, timer_key, System, Config, Taken, IsSimulation, opening, Each, count_of, IsAtResource, Key, Reason, Event, Stimulus, IsSound}
+use Rattle.fb_types.proofs.Common.{NoneBelow, TakesLeast, after, NothingAfter, Chain, last, AtHorizon, ending_by, ending_of, RestsAt, opening_events}
 use Rattle.fb_types.proofs.lemmas.lists.Lookups.{before_irrefl, before_cases, before_trans, tick_before, resource_before, none_some, none_since, option_cases, or_else_nones, or_else_some, edit_some, edit_none, without_none, without_some}
 use Rattle.fb_laws.proofs.lemmas.takings.Effects.{GoodEffect, takes_good, agenda_fits}
 use Rattle.fb_laws.proofs.lemmas.existence.TakeTotal.{In, in_left, in_right, keys, found_in, left_in, can_take}

@@ -1,13 +1,6 @@
 -- The runs of a family put together are a simulation.
-use Rattle.std.proofs.Common.{◌≡◌, ℕ, zero, suc, ◌+◌, ◌<◌, ◌≤◌, ◌⊎◌, Bool, true, false, Option, Some, None, List, [], ◌∷◌, length, refl, sym, ap, ◌∙◌, subst, inl, inr, ⊎_elim, arith}
-use Rattle.std.specs.Prelude.{if◌then◌else◌, ◌==◌}
-use Rattle.std.proofs.lemmas.Bool.{cases_lt, cases_eq}
-use Rattle.fb_types.specs.declared.key.Key.{Key}
-use Rattle.fb_types.specs.Keys.{Precedes, same_key, or_else, found, without, changed_to}
-use Rattle.fb_types.specs.Machines.{Machine, Item, Local, Each, waiting, TakesAlone, after, Chain, end, Rests, Run, sent_by, cut}
-use Rattle.fb_laws.specs.Facts.{IsLawful}
-use Rattle.fb_types.specs.Takes.{with_at}
-use Rattle.fb_laws.specs.Worlds.{World, TakesLeast, next, Simulation, IsOpening, view, IsCounted}
+use Rattle.fb_laws.proofs.lemmas.Common.{◌≡◌, ℕ, zero, suc, ◌+◌, ◌<◌, ◌≤◌, ◌⊎◌, Bool, true, false, Option, Some, None, List, [], ◌∷◌, length, refl, sym, ap, ◌∙◌, subst, inl, inr, ⊎_elim, arith, if◌then◌else◌, ◌==◌, cases_lt, cases_eq, Key, Precedes, same_key, or_else, found, without, changed_to, Machine, Item, Local, Each, waiting, TakesAlone, end, Run, sent_by, cut, with_at, after, Chain, IsLawful, World, TakesLeast, next, Simulation, IsOpening, view, IsCounted}
+use Rattle.fb_types.specs.Machines.{Rests}
 use Rattle.fb_types.proofs.lemmas.events.KeyLaws.{same_key_is}
 use Rattle.fb_types.proofs.lemmas.lists.Lookups.{before_cases, before_irrefl, key_cases, before_tick, tick_before, before_trans, same_cases, none_some, none_since, option_cases, or_else_none, or_else_nones, or_else_parts, found-append, without_other}
 use Rattle.fb_laws.proofs.lemmas.resources.Chains.{cut_run}

@@ -1,7 +1,5 @@
 -- What is found in a list up to the next index.
-use Rattle.std.proofs.Common.{◌≡◌, ℕ, ◌+◌, ◌<◌, ◌≤◌, Some, List, subst, ⊎_elim, arith}
-use Rattle.std.specs.Prelude.{slice_get}
-use Rattle.std.proofs.lemmas.Bool.{cases_lt}
+use Rattle.fb_types.proofs.Common.{◌≡◌, ℕ, ◌+◌, ◌<◌, ◌≤◌, Some, List, subst, ⊎_elim, arith, slice_get, cases_lt}
 use Rattle.fb_laws.proofs.lemmas.lists.Indexes.{one_at}
 
 -- what holds at each index below, and here, holds at each index up to here

@@ -1,19 +1,9 @@
 -- A simulation of a system's machine is a simulation of the system.
-use Rattle.std.proofs.Common.{◌≡◌, ℕ, zero, suc, ◌<◌, refl, sym, ap, ◌∙◌, subst, inl, ⊎_elim, List, [], ◌∷◌, Option, Some, None}
-use Rattle.std.specs.Prelude.{All}
-use Rattle.std.proofs.lemmas.List.Elements.{All-nil, All-cons}
-use Rattle.fb_types.specs.Keys.{timer_key}
-use Rattle.fb_types.specs.Systems.{System}
-use Rattle.fb_types.specs.States.{State, Config, Meter, Event, Line}
-use Rattle.fb_types.specs.Takes.{Effect, Takes, TakesWith, begun, world_of as reacting, effect_of, out_of_steps, with_at}
+use Rattle.fb_laws.proofs.lemmas.Common.{◌≡◌, ℕ, zero, suc, ◌<◌, refl, sym, ap, ◌∙◌, subst, inl, ⊎_elim, List, [], ◌∷◌, Option, Some, None, All, All-nil, All-cons, timer_key, System, State, Config, Meter, Effect, Takes, TakesWith, begun, world_of as reacting, effect_of, out_of_steps, with_at, Taken, IsSimulation, opening, Item, Each, machine, items_of, IsAtResource, Key, Reason, Event, Line, Stimulus, IsSound, World, TakesLeast, next, Simulates, Simulation}
+use Rattle.fb_types.proofs.Common.{NothingAfter, Ending, RestsAt, part_of}
 use Rattle.fb_types.specs.Simulation as sim
-use Rattle.fb_types.specs.Simulation.{Stimulus, Taken, IsSimulation, opening, NothingAfter, Ending, RestsAt}
-use Rattle.fb_types.specs.Machines.{Item, Each, Outcome}
-use Rattle.fb_types.specs.Parts.{Part, part_of, outcome_of, machine, item_of, items_of, IsAtResource}
-use Rattle.fb_types.specs.declared.key.Key.{Key}
-use Rattle.fb_types.specs.declared.value.Reason.{Reason}
-use Rattle.fb_laws.specs.Sound.{IsSound}
-use Rattle.fb_laws.specs.Worlds.{World, TakesLeast, next, Simulates, Simulation}
+use Rattle.fb_types.specs.Machines.{Outcome}
+use Rattle.fb_types.specs.Parts.{Part, outcome_of, item_of}
 use Rattle.fb_types.proofs.lemmas.lists.Lookups.{none_some}
 use Rattle.fb_laws.proofs.lemmas.resources.Global.{with_at_same}
 use Rattle.fb_laws.proofs.lemmas.resources.FamilyEnds.{sim_ends}

@@ -1,20 +1,9 @@
 -- The one-thread simulation of a system is the simulation of its machine.
-use Rattle.std.proofs.Common.{◌≡◌, ℕ, suc, ◌⊎◌, refl, sym, ap, ◌∙◌, subst, inl, inr, ⊎_elim, List, [], ◌∷◌, Bool, true, false, Option, Some, None, arith}
-use Rattle.std.specs.Prelude.{if◌then◌else◌, ◌==◌, nat_lt, All}
-use Rattle.std.proofs.lemmas.Bool.{cases_eq, cond-true, cond-false, eq-eqb, ne_eqb}
-use Rattle.fb_types.specs.Keys.{or_else}
-use Rattle.fb_types.specs.Systems.{System}
-use Rattle.fb_types.specs.States.{Config, Agenda}
-use Rattle.fb_types.specs.Takes.{Takes, with_at, agenda_after}
+use Rattle.fb_laws.proofs.lemmas.Common.{◌≡◌, ℕ, suc, ◌⊎◌, refl, sym, ap, ◌∙◌, subst, inl, inr, ⊎_elim, List, [], ◌∷◌, Bool, true, false, Option, Some, None, arith, if◌then◌else◌, ◌==◌, nat_lt, All, cases_eq, cond-true, cond-false, eq-eqb, ne_eqb, or_else, System, Config, Takes, with_at, Taken, Machine, Each, cut, machine, items_of, IsAtResource, Key, Reason, IsSound, World, TakesLeast, next, Simulates, last, StopsAt}
+use Rattle.fb_types.proofs.Common.{Agenda, agenda_after, NothingAfter, AtHorizon, AtStop, ending_by, ending_of, part_of}
 use Rattle.fb_types.specs.Simulation as sim
-use Rattle.fb_types.specs.Simulation.{Taken, NothingAfter, AtHorizon, AtStop, ending_by, ending_of}
-use Rattle.fb_types.specs.Machines.{Machine, Each, cut}
-use Rattle.fb_types.specs.Parts.{Part, part_of, machine, item_of, items_of, IsAtResource}
+use Rattle.fb_types.specs.Parts.{Part, item_of}
 use Rattle.fb_types.specs.Histories.{takings_below, stop_of}
-use Rattle.fb_types.specs.declared.key.Key.{Key}
-use Rattle.fb_types.specs.declared.value.Reason.{Reason}
-use Rattle.fb_laws.specs.Sound.{IsSound}
-use Rattle.fb_laws.specs.Worlds.{World, TakesLeast, next, Simulates, last, StopsAt}
 use Rattle.fb_types.proofs.lemmas.lists.Lookups.{none_some, option_cases, or_else_none}
 use Rattle.fb_laws.proofs.lemmas.resources.Global.{with_at_same, with_at_other}
 use Rattle.fb_laws.proofs.lemmas.resources.Stops.{HasStop}

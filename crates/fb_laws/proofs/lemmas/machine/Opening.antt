@@ -1,18 +1,6 @@
 -- The opening of a system.
-use Rattle.std.proofs.Common.{◌≡◌, ℕ, ◌+◌, ◌<◌, ◌≤◌, refl, sym, ◌∙◌, ⊎_elim, List, [], ◌∷◌, true, false, Option, Some, None, arith}
-use Rattle.std.specs.Prelude.{◌==◌, flat_map}
-use Rattle.fb_types.specs.Names.{Path}
-use Rattle.fb_types.specs.Keys.{found}
-use Rattle.fb_types.specs.Blocks.{Kind, Basic, Event as EventBlock, Composite}
-use Rattle.fb_types.specs.Systems.{System}
-use Rattle.fb_types.specs.States.{Event}
-use Rattle.fb_types.specs.Simulation.{Stimulus, opening, opening_events, stimuli_from, restart_of}
-use Rattle.fb_types.specs.Machines.{Each}
-use Rattle.fb_types.specs.Parts.{machine, count_of, IsAtResource}
-use Rattle.fb_types.specs.declared.key.Key.{Key}
-use Rattle.fb_types.specs.declared.event_kind.EventKind.TheVariants.{Restart}
-use Rattle.fb_laws.specs.Sound.{IsSound}
-use Rattle.fb_laws.specs.Worlds.{IsOpening, IsCounted}
+use Rattle.fb_laws.proofs.lemmas.Common.{◌≡◌, ℕ, ◌+◌, ◌<◌, ◌≤◌, refl, sym, ◌∙◌, ⊎_elim, List, [], ◌∷◌, true, false, Option, Some, None, arith, ◌==◌, flat_map, Path, found, Kind, Basic, Composite, System, opening, stimuli_from, Each, machine, count_of, IsAtResource, Key, Restart, Event, Stimulus, IsSound, IsOpening, IsCounted}
+use Rattle.fb_types.proofs.Common.{Event as EventBlock, opening_events, restart_of}
 use Rattle.fb_types.proofs.lemmas.lists.Lookups.{none_some, none_since, or_else_some}
 use Rattle.fb_types.proofs.lemmas.lists.EachLaws.{each_append}
 use Rattle.fb_laws.proofs.lemmas.takings.Posting.{each_found}

@@ -1,12 +1,6 @@
 -- The family of runs of a sequential simulation, whether it ends at the horizon or by a reason.
-use Rattle.std.proofs.Common.{◌≡◌, ℕ, ◌+◌, ◌<◌, ◌≤◌, ◌⊎◌, Bool, true, false, Option, Some, None, List, [], ◌∷◌, ◌++◌, refl, sym, ap, ◌∙◌, subst, inl, inr, ⊎_elim, arith}
-use Rattle.std.specs.Prelude.{if◌then◌else◌, ◌==◌}
-use Rattle.std.proofs.lemmas.Bool.{cases_lt, cases_eq, cond-true, cond-false, lt-ltb, le-ltb}
-use Rattle.fb_types.specs.declared.key.Key.{Key}
-use Rattle.fb_types.specs.Keys.{Precedes, or_else, found}
-use Rattle.fb_laws.specs.Worlds.{IndexBefore, IndexUpTo, World, TakesLeast, next, Simulates, last, Simulation, IsOpening, view, reach, StopsAt}
-use Rattle.fb_types.specs.Machines.{Machine, Item, Each, sent_by, at}
-use Rattle.fb_laws.specs.Facts.{IsLawful}
+use Rattle.fb_laws.proofs.lemmas.Common.{◌≡◌, ℕ, ◌+◌, ◌<◌, ◌≤◌, ◌⊎◌, Bool, true, false, Option, Some, None, List, [], ◌∷◌, ◌++◌, refl, sym, ap, ◌∙◌, subst, inl, inr, ⊎_elim, arith, if◌then◌else◌, ◌==◌, cases_lt, cases_eq, cond-true, cond-false, lt-ltb, le-ltb, Key, Precedes, or_else, found, Machine, Item, Each, sent_by, at, World, TakesLeast, next, Simulates, last, Simulation, IsOpening, view, reach, StopsAt, IsLawful}
+use Rattle.fb_laws.specs.Worlds.{IndexBefore, IndexUpTo}
 use Rattle.fb_types.proofs.lemmas.lists.Lookups.{tick_before, resource_before, or_else_none, or_else_nones, none_some, none_since, option_cases, found-append, without_none, edit_none}
 use Rattle.fb_types.proofs.lemmas.lists.EachLaws.{each_map}
 use Rattle.fb_laws.proofs.lemmas.takings.NoLesserTick.{Fair}

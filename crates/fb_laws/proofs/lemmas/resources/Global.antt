@@ -1,13 +1,5 @@
 -- What one resource does in the sequential simulation is its own chain, with all messages to it put under their keys beforehand.
-use Rattle.std.proofs.Common.{◌≡◌, ℕ, ◌<◌, ◌≤◌, Bool, true, false, Option, Some, None, List, [], ◌∷◌, refl, sym, ap, ◌∙◌, subst, ⊎_elim, arith}
-use Rattle.std.specs.Prelude.{if◌then◌else◌, ◌==◌}
-use Rattle.std.proofs.lemmas.Bool.{cases_lt, cases_eq, cond-true, cond-false, eq-eqb, ne_eqb}
-use Rattle.fb_types.specs.declared.key.Key.{Key}
-use Rattle.fb_types.specs.Keys.{same_key, or_else, found, without, changed_to}
-use Rattle.fb_types.specs.Machines.{Machine, Item, Local, Each, waiting, TakesAlone, after, Chain, end, sent_by, at}
-use Rattle.fb_laws.specs.Facts.{IsTaking, IsLawful}
-use Rattle.fb_types.specs.Takes.{with_at}
-use Rattle.fb_laws.specs.Worlds.{World, TakesLeast, next, Simulates, last}
+use Rattle.fb_laws.proofs.lemmas.Common.{◌≡◌, ℕ, ◌<◌, ◌≤◌, Bool, true, false, Option, Some, None, List, [], ◌∷◌, refl, sym, ap, ◌∙◌, subst, ⊎_elim, arith, if◌then◌else◌, ◌==◌, cases_lt, cases_eq, cond-true, cond-false, eq-eqb, ne_eqb, Key, same_key, or_else, found, without, changed_to, Machine, Item, Local, Each, waiting, TakesAlone, end, sent_by, at, with_at, after, Chain, IsTaking, IsLawful, World, TakesLeast, next, Simulates, last}
 use Rattle.fb_types.proofs.lemmas.events.KeyLaws.{same_key_is}
 use Rattle.fb_types.proofs.lemmas.lists.Lookups.{before_tick, tick_before, same_cases, or_else_none, or_else_assoc, or_else_parts, or_else_nones, none_some, none_since, found-append, without_none, without_other, edit_none}
 use Rattle.fb_laws.proofs.lemmas.takings.NoLesserTick.{Fair}

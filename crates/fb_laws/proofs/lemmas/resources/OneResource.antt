@@ -1,21 +1,9 @@
 -- The law of one resource, for every simulation of accepted inputs.
-use Rattle.std.proofs.Common.{◌≡◌, ℕ, ◌+◌, ◌<◌, ◌≤◌, ◌⊎◌, refl, sym, ap, ◌∙◌, subst, inl, ⊎_elim, List, [], ◌∷◌, ◌++◌, Some, None, arith}
-use Rattle.std.specs.Prelude.{if◌then◌else◌, nat_lt}
-use Rattle.std.proofs.lemmas.Bool.{cases_lt, cond-true, cond-false, lt-ltb, le-ltb}
-use Rattle.fb_types.specs.Keys.{NoneBelow, timer_key}
-use Rattle.fb_types.specs.Systems.{System}
-use Rattle.fb_types.specs.States.{Line}
+use Rattle.fb_laws.proofs.lemmas.Common.{◌≡◌, ℕ, ◌+◌, ◌<◌, ◌≤◌, ◌⊎◌, refl, sym, ap, ◌∙◌, subst, inl, ⊎_elim, List, [], ◌∷◌, ◌++◌, Some, None, arith, if◌then◌else◌, nat_lt, cases_lt, cond-true, cond-false, lt-ltb, le-ltb, timer_key, System, Taken, IsSimulation, opening, Machine, Item, Local, Each, cut, machine, items_of, count_of, IsMerge, lines_before, Key, Reason, Line, Stimulus, lines_of, IsSound, IsLawful, World, Simulates, last, Simulation, IsOpening, IsCounted, StopsAt, taken_at, view}
+use Rattle.fb_types.proofs.Common.{NoneBelow, Ending, AtHorizon, AtStop, ending_of, RestsAt}
 use Rattle.fb_types.specs.Simulation as sim
-use Rattle.fb_types.specs.Simulation.{Stimulus, Taken, IsSimulation, opening, Ending, AtHorizon, AtStop, ending_of, RestsAt}
-use Rattle.fb_types.specs.Machines.{Machine, Item, Local, Each, cut, lines_of}
-use Rattle.fb_types.specs.Parts.{machine, items_of, count_of}
 use Rattle.fb_types.specs.Histories.{history_to, HasHistory, takings_below, stop_of, history, taken, IsSameAt, IsNotBefore}
-use Rattle.fb_types.specs.Merges.{IsMerge, lines_before}
-use Rattle.fb_types.specs.declared.key.Key.{Key}
-use Rattle.fb_types.specs.declared.value.Reason.{Reason}
-use Rattle.fb_laws.specs.Sound.{IsSound}
-use Rattle.fb_laws.specs.Facts.{IsLawful}
-use Rattle.fb_laws.specs.Worlds.{World, Simulates, last, Simulation, IsOpening, IsCounted, StopsAt, far, IsCovered, NotBefore, left_at, taken_at, view}
+use Rattle.fb_laws.specs.Worlds.{far, IsCovered, NotBefore, left_at}
 use Rattle.fb_laws.specs.ResourceLaw.{HasHistories, OneRun, HasLines, lines_to_stop, HasStops}
 use Rattle.fb_types.proofs.lemmas.lists.Lookups.{none_some, or_else_none}
 use Rattle.fb_laws.proofs.lemmas.resources.Chains.{agree_refl, run_unique}

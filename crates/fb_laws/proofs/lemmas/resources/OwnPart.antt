@@ -1,20 +1,9 @@
 -- A taking of a key of a resource reads and changes only that resource's part.
-use Rattle.std.proofs.Common.{◌≡◌, ℕ, zero, suc, refl, sym, ap, ◌∙◌, subst, ⊎_elim, List, [], Bool, true, false, Some, None, arith}
-use Rattle.std.specs.Prelude.{if◌then◌else◌, ◌==◌}
-use Rattle.std.proofs.lemmas.Bool.{eqb-true, eq-eqb, cond-true, cases_Bool}
-use Rattle.fb_types.specs.Names.{Path, Port, same_path}
-use Rattle.fb_types.specs.Keys.{found, or_else}
-use Rattle.fb_types.specs.Systems.{System}
-use Rattle.fb_types.specs.States.{State, Meter, Event, path_of, Line}
-use Rattle.fb_types.specs.Reactions.{Outcome, Out}
-use Rattle.fb_types.specs.Takes.{Effect, Takes, TakesWith, begun, world_of, posts_of, effect_of, put_of, timer_change}
+use Rattle.fb_laws.proofs.lemmas.Common.{◌≡◌, ℕ, zero, suc, refl, sym, ap, ◌∙◌, subst, ⊎_elim, List, [], Bool, true, false, Some, None, arith, if◌then◌else◌, ◌==◌, eqb-true, eq-eqb, cond-true, cases_Bool, Path, Port, same_path, found, or_else, System, State, Meter, path_of, Outcome, Out, Effect, Takes, TakesWith, begun, world_of, posts_of, effect_of, put_of, timer_change, machine, IsAtResource, Key, Reason, same_Some, Event, Line, IsSound, IsLawful, IsTaking}
+use Rattle.fb_types.proofs.Common.{part_of}
 use Rattle.fb_types.specs.Machines.{Outcome as Result}
-use Rattle.fb_types.specs.Parts.{Part, part_of, machine, outcome_of, IsAtResource}
-use Rattle.fb_types.specs.declared.key.Key.{Key}
-use Rattle.fb_types.specs.declared.value.Reason.{Reason}
+use Rattle.fb_types.specs.Parts.{Part, outcome_of}
 use Rattle.fb_types.proofs.lemmas.names.PathLaws.{same_path_is}
-use Rattle.fb_laws.specs.Sound.{IsSound}
-use Rattle.fb_laws.specs.Facts.{IsLawful, IsTaking}
 use Rattle.fb_laws.proofs.lemmas.resources.Global.{with_at_same, with_at_other}
 use Rattle.fb_types.proofs.lemmas.determined.SimulationLaws.{reacts-one}
 use Rattle.fb_laws.proofs.lemmas.resources.AgreeingWorlds.{SameWorld, SameOutcome, reacts_same}
@@ -22,7 +11,6 @@ use Rattle.fb_laws.proofs.lemmas.takings.OneBlockChanges.{reacts_stays}
 use Rattle.fb_laws.proofs.lemmas.soundness.Outs.{GoodOutcome, reacts_good}
 use Rattle.fb_laws.proofs.lemmas.takings.Posting.{SamePosts, post_all_same, post_all_stays}
 use Rattle.fb_laws.proofs.lemmas.takings.Effects.{takes_good, is_taking}
-use Rattle.std.proofs.lemmas.Option.{same_Some}
 
 part_equal : (p q : Part) → ((x : Path) → p.blocks x ≡ q.blocks x) → ((x : Port) → p.held x ≡ q.held x) → ((l : ℕ) → p.sent l ≡ q.sent l) → p.meter ≡ q.meter → p ≡ q
 part_equal p q b h s m i = record { blocks = λ x. b x i; held = λ x. h x i; sent = λ l. s l i; meter = m i }

@@ -1,12 +1,6 @@
 -- What the simulation leaves of a resource is what the resource alone leaves.
-use Rattle.std.specs.Prelude.{if◌then◌else◌}
-use Rattle.std.proofs.Common.{◌≡◌, ℕ, ◌+◌, ◌≤◌, Option, None, List, [], ◌∷◌, refl, sym, ap, ◌∙◌, ⊎_elim, arith}
-use Rattle.std.proofs.lemmas.Bool.{cases_lt, cases_eq, cond-true, cond-false, lt-ltb, le-ltb}
-use Rattle.fb_types.specs.declared.key.Key.{Key}
-use Rattle.fb_types.specs.Keys.{same_key, changed_to, or_else, found}
-use Rattle.fb_types.specs.Machines.{Machine, Item, Local, Each, after, end, Run, sent_by, cut, at}
-use Rattle.fb_laws.specs.Facts.{IsLawful}
-use Rattle.fb_laws.specs.Worlds.{World, next, Simulates, last, Simulation, IsOpening, view, reach, far, IsCovered, taken_at, left_at, apart}
+use Rattle.fb_laws.proofs.lemmas.Common.{if◌then◌else◌, ◌≡◌, ℕ, ◌+◌, ◌≤◌, Option, None, List, [], ◌∷◌, refl, sym, ap, ◌∙◌, ⊎_elim, arith, cases_lt, cases_eq, cond-true, cond-false, lt-ltb, le-ltb, Key, same_key, changed_to, or_else, found, Machine, Item, Local, Each, end, Run, sent_by, cut, at, after, IsLawful, World, next, Simulates, last, Simulation, IsOpening, view, reach, taken_at}
+use Rattle.fb_laws.specs.Worlds.{far, IsCovered, left_at, apart}
 use Rattle.fb_types.specs.Histories.{IsSameAt}
 use Rattle.fb_types.proofs.lemmas.lists.Lookups.{tick_before}
 use Rattle.fb_laws.proofs.lemmas.resources.Chains.{Agree, agree_chain, agree_end, cut_run, cut_in, cut_out}

@@ -1,12 +1,6 @@
 -- What a run of one resource adds, and functions changed at one index.
-use Rattle.std.proofs.Common.{◌≡◌, ℕ, ◌<◌, ◌≤◌, ◌⊎◌, false, Option, Some, None, List, [], ◌∷◌, refl, sym, ap, ◌∙◌, subst, inl, inr, ⊎_elim, arith}
-use Rattle.std.proofs.lemmas.Bool.{cases_eq}
-use Rattle.fb_types.specs.declared.key.Key.{Key}
-use Rattle.fb_types.specs.Keys.{same_key, or_else}
-use Rattle.fb_types.specs.Machines.{Machine, Item, Local, Each, after, Chain, end}
-use Rattle.fb_laws.specs.Facts.{IsLawful}
-use Rattle.fb_types.specs.Takes.{with_at}
-use Rattle.fb_types.specs.Cores.{stop_or, clock_after}
+use Rattle.fb_laws.proofs.lemmas.Common.{◌≡◌, ℕ, ◌<◌, ◌≤◌, ◌⊎◌, false, Option, Some, None, List, [], ◌∷◌, refl, sym, ap, ◌∙◌, subst, inl, inr, ⊎_elim, arith, cases_eq, Key, same_key, or_else, Machine, Item, Local, Each, end, with_at, clock_after, after, Chain, IsLawful}
+use Rattle.fb_types.specs.Cores.{stop_or}
 use Rattle.fb_types.proofs.lemmas.lists.Lookups.{none_some, option_cases, without_other}
 use Rattle.fb_laws.proofs.lemmas.takings.NoLesserTick.{takes_fair, takes_late, late_after, chain_late}
 use Rattle.fb_laws.proofs.lemmas.resources.Stops.{HasStop}

@@ -1,13 +1,8 @@
 -- Where the simulation stops, seen from one resource.
-use Rattle.fb_types.specs.Machines.{lines_of, Machine, Item, Local, Each, after, Chain, end, Run, cut, at}
-use Rattle.fb_types.specs.Merges.{IsMerge, lines_before}
-use Rattle.fb_laws.specs.Worlds.{IsCounted, taken_at, reach, NotBefore, World, Simulation, IsOpening, view, StopsAt, apart, Simulates, next}
+use Rattle.fb_laws.proofs.lemmas.Common.{Machine, Item, Local, Each, end, Run, cut, at, IsMerge, lines_before, ◌≡◌, ℕ, ◌+◌, ◌<◌, ◌≤◌, Some, None, List, [], ◌∷◌, refl, sym, ap, ◌∙◌, subst, inl, inr, ⊎_elim, arith, cond-true, lt-ltb, Key, lines_of, after, Chain, IsCounted, taken_at, reach, World, Simulation, IsOpening, view, StopsAt, Simulates, next, IsLawful}
+use Rattle.fb_laws.specs.Worlds.{NotBefore, apart}
 use Rattle.fb_laws.proofs.lemmas.resources.ResourceAlone.{agree_run, at_cut, sim_cut}
 use Rattle.fb_laws.proofs.lemmas.schedules.Lines.{sim_merge, merge_same, Rises, lines_of_cut, sim_here}
-use Rattle.std.proofs.Common.{◌≡◌, ℕ, ◌+◌, ◌<◌, ◌≤◌, Some, None, List, [], ◌∷◌, refl, sym, ap, ◌∙◌, subst, inl, inr, ⊎_elim, arith}
-use Rattle.std.proofs.lemmas.Bool.{cond-true, lt-ltb}
-use Rattle.fb_types.specs.declared.key.Key.{Key}
-use Rattle.fb_laws.specs.Facts.{IsLawful}
 use Rattle.fb_types.proofs.lemmas.lists.Lookups.{none_some, option_cases, tick_before}
 use Rattle.fb_laws.proofs.lemmas.resources.Chains.{Agree, run_unique, cut_run, cut_all}
 use Rattle.fb_types.proofs.lemmas.lists.EachLaws.{each_map}

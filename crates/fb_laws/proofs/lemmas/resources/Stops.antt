@@ -1,10 +1,5 @@
 -- The items of a chain, and of a simulation, that stop.
-use Rattle.std.proofs.Common.{◌≡◌, ℕ, ◌<◌, ◌⊎◌, Option, Some, List, [], ◌∷◌, ◌++◌, refl, sym, ap, ◌∙◌, subst, inl, inr, ⊎_elim, arith}
-use Rattle.std.proofs.lemmas.Bool.{cases_lt, cases_eq}
-use Rattle.fb_types.specs.declared.key.Key.{Key}
-use Rattle.fb_types.specs.Machines.{Machine, Item, Local, Each, after, Chain, end, cut, at}
-use Rattle.fb_laws.specs.Facts.{IsLawful}
-use Rattle.fb_laws.specs.Worlds.{World, TakesLeast, next, Simulates, last, StopsAt, IsCounted}
+use Rattle.fb_laws.proofs.lemmas.Common.{◌≡◌, ℕ, ◌<◌, ◌⊎◌, Option, Some, List, [], ◌∷◌, ◌++◌, refl, sym, ap, ◌∙◌, subst, inl, inr, ⊎_elim, arith, cases_lt, cases_eq, Key, Machine, Item, Local, Each, end, cut, at, after, Chain, IsLawful, World, TakesLeast, next, Simulates, last, StopsAt, IsCounted}
 use Rattle.fb_types.proofs.lemmas.lists.Lookups.{edit_none, without_none, none_some, none_since, or_else_nones}
 use Rattle.fb_laws.proofs.lemmas.resources.Chains.{cut_in, cut_out}
 use Rattle.fb_laws.proofs.lemmas.takings.NoLesserTick.{Fair}

@@ -1,10 +1,5 @@
 -- A resource by itself, with its arrivals only in its inbox, takes an event from all that waits.
-use Rattle.std.proofs.Common.{◌≡◌, Bool, true, false, cond, Option, Some, None, refl, sym, ap, ◌∙◌, ⊎_elim}
-use Rattle.std.specs.Prelude.{◌==◌}
-use Rattle.std.proofs.lemmas.Bool.{cases_Bool}
-use Rattle.fb_types.specs.Keys.{same_key, or_else, without, changed_to}
-use Rattle.fb_types.specs.Machines.{Machine, Item, Local, waiting, after}
-use Rattle.fb_types.specs.declared.key.Key.{Key}
+use Rattle.fb_laws.proofs.lemmas.Common.{◌≡◌, Bool, true, false, cond, Option, Some, None, refl, sym, ap, ◌∙◌, ⊎_elim, ◌==◌, cases_Bool, same_key, or_else, without, changed_to, Machine, Item, Local, waiting, Key, after}
 use Rattle.fb_types.proofs.lemmas.lists.Lookups.{or_else_none, none_since, without_none}
 
 false_true : (b : Bool) → b ≡ false → b ≡ true → ⊥

@@ -1,17 +1,6 @@
 -- The law of schedules, for every schedule of accepted inputs.
-use Rattle.std.proofs.Common.{ℕ, ◌+◌, sym, ◌∙◌, subst, ⊎_elim, List, [], None}
-use Rattle.std.specs.Prelude.{if◌then◌else◌, nat_lt}
-use Rattle.fb_types.specs.Systems.{System}
-use Rattle.fb_types.specs.States.{Line}
-use Rattle.fb_types.specs.Simulation.{Stimulus, opening}
-use Rattle.fb_types.specs.Machines.{Machine, Item, lines_of}
-use Rattle.fb_types.specs.Parts.{machine, items_of, count_of}
-use Rattle.fb_types.specs.Merges.{IsMerge, lines_before}
-use Rattle.fb_types.specs.Cores.{Core, CoreStep, opening_core}
-use Rattle.fb_types.specs.Schedules.{IsSchedule, core_after, taken_after}
-use Rattle.fb_laws.specs.Sound.{IsSound}
-use Rattle.fb_laws.specs.Facts.{IsLawful}
-use Rattle.fb_laws.specs.Worlds.{World, IsOpening, IsCounted, reach}
+use Rattle.fb_laws.proofs.lemmas.Common.{ℕ, ◌+◌, sym, ◌∙◌, subst, ⊎_elim, List, [], None, if◌then◌else◌, nat_lt, System, opening, Machine, Item, machine, items_of, count_of, IsMerge, lines_before, Core, CoreStep, IsSchedule, core_after, taken_after, Line, Stimulus, lines_of, IsSound, IsLawful, World, IsOpening, IsCounted, reach}
+use Rattle.fb_types.proofs.Common.{opening_core}
 use Rattle.fb_laws.proofs.lemmas.schedules.Lines.{merge_same, sim_merge}
 use Rattle.fb_laws.proofs.lemmas.resources.OwnPart.{lawful}
 use Rattle.fb_laws.proofs.lemmas.machine.Bridge.{world_of}

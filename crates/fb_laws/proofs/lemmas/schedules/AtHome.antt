@@ -1,19 +1,11 @@
 -- Facts of a core after a schedule: where its clocks are, what waits and what is on its way.
-use Rattle.std.proofs.Common.{◌≡◌, ℕ, zero, suc, ◌+◌, ◌<◌, ◌≤◌, ◌⊎◌, max, Option, Some, None, List, [], ◌∷◌, refl, sym, ap, ◌∙◌, subst, inl, inr, ⊎_elim, arith}
-use Rattle.std.proofs.lemmas.Bool.{cases_lt}
-use Rattle.fb_types.specs.declared.key.Key.{Key}
-use Rattle.fb_types.specs.Keys.{found, or_else}
-use Rattle.fb_types.specs.Machines.{Machine, Item, Local, waiting, after, Chain, end, sent_by}
-use Rattle.fb_types.specs.Cores.{Member, Core, IsFloor, IsLegal, clock_after, exchanged, floor_of}
-use Rattle.fb_types.specs.Schedules.{IsLeastStop}
+use Rattle.fb_laws.proofs.lemmas.Common.{◌≡◌, ℕ, zero, suc, ◌+◌, ◌<◌, ◌≤◌, ◌⊎◌, max, Option, Some, None, List, [], ◌∷◌, refl, sym, ap, ◌∙◌, subst, inl, inr, ⊎_elim, arith, cases_lt, Key, found, or_else, Machine, Item, Local, waiting, end, sent_by, Member, Core, IsFloor, clock_after, exchanged, floor_of, IsLeastStop, after, Chain, IsLawful, World, view, Loan, IsLegalLoan, after_loan}
+use Rattle.fb_types.proofs.Common.{IsLegal}
 use Rattle.fb_types.proofs.lemmas.lists.Lookups.{none_some, none_since, option_cases, or_else_some, or_else_parts, or_else_nones, found-append}
-use Rattle.fb_laws.specs.Facts.{IsLawful}
-use Rattle.fb_laws.specs.Worlds.{World, view}
 use Rattle.fb_laws.proofs.lemmas.resources.Chains.{agree_waiting}
 use Rattle.fb_laws.proofs.lemmas.resources.Families.{start}
 use Rattle.fb_laws.proofs.lemmas.takings.NoLesserTick.{Late, takes_fair, takes_late, late_after, end_late}
 use Rattle.fb_laws.proofs.lemmas.resources.Stops.{HasStop}
-use Rattle.fb_laws.specs.Phases.{Loan, IsLegalLoan, after_loan}
 use Rattle.fb_laws.proofs.lemmas.resources.RunSteps.{Stopped, run_ends}
 use Rattle.fb_laws.proofs.lemmas.schedules.Keeps.{done_of, limit_of, passed, limit, mail, seat_floor, Inv, Moved, moved, floor_live}
 

@@ -1,11 +1,6 @@
 -- The lines of the simulation begin with the final lines of a core.
-use Rattle.std.proofs.Common.{◌≡◌, ℕ, zero, suc, ◌+◌, ◌<◌, ◌≤◌, ◌⊎◌, refl, sym, ap, ◌∙◌, subst, inl, inr, ⊎_elim, List, [], ◌∷◌, ◌++◌, Bool, true, false, Some, arith, append-nil}
-use Rattle.std.specs.Prelude.{if◌then◌else◌, ◌==◌, nat_lt}
-use Rattle.std.proofs.lemmas.Bool.{cases_lt, cond-true, cond-false, lt-ltb, le-ltb, eqb-true}
-use Rattle.std.specs.List.{filter}
-use Rattle.fb_types.specs.Machines.{Machine, Each}
-use Rattle.fb_types.specs.Merges.{NotAfter, IsInOrder, IsMerge, lines_at, lines_before}
-use Rattle.fb_types.specs.Cores.{Core, floor, floor_of}
+use Rattle.fb_types.proofs.Common.{◌≡◌, ℕ, zero, suc, ◌+◌, ◌<◌, ◌≤◌, ◌⊎◌, refl, sym, ap, ◌∙◌, subst, inl, inr, ⊎_elim, List, [], ◌∷◌, ◌++◌, Bool, true, false, Some, arith, append-nil, if◌then◌else◌, ◌==◌, nat_lt, cases_lt, cond-true, cond-false, lt-ltb, le-ltb, eqb-true, filter, Machine, Each, IsMerge, lines_at, lines_before, Core, floor, floor_of}
+use Rattle.fb_types.specs.Merges.{NotAfter, IsInOrder}
 use Rattle.fb_types.specs.Schedules.{IsFinal}
 use Rattle.fb_types.proofs.lemmas.lists.EachLaws.{each_map}
 use Rattle.fb_laws.proofs.lemmas.schedules.Lines.{filter_joined, filter_all, filter_nothing}

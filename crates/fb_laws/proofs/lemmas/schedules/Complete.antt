@@ -1,12 +1,6 @@
 -- The end of a complete schedule is that of the simulation.
-use Rattle.std.proofs.Common.{◌≡◌, ℕ, ◌+◌, ◌<◌, ◌≤◌, Some, None, List, sym, ap, ◌∙◌, subst, ⊎_elim, arith}
-use Rattle.std.proofs.lemmas.Bool.{cases_lt}
-use Rattle.fb_types.specs.declared.key.Key.{Key}
-use Rattle.fb_types.specs.Machines.{Machine, Item, Each, cut, at}
-use Rattle.fb_laws.specs.Facts.{IsLawful}
-use Rattle.fb_laws.specs.Worlds.{World, last, Simulation, IsOpening, reach, StopsAt, IsCounted}
-use Rattle.fb_types.specs.Cores.{CoreStep, Core}
-use Rattle.fb_types.specs.Schedules.{IsSchedule, IsLeastStop, IsAtHorizon}
+use Rattle.fb_laws.proofs.lemmas.Common.{◌≡◌, ℕ, ◌+◌, ◌<◌, ◌≤◌, Some, None, List, sym, ap, ◌∙◌, subst, ⊎_elim, arith, cases_lt, Key, Machine, Item, Each, cut, at, CoreStep, Core, IsSchedule, IsLeastStop, IsLawful, World, last, Simulation, IsOpening, reach, StopsAt, IsCounted}
+use Rattle.fb_types.proofs.Common.{IsAtHorizon}
 use Rattle.fb_laws.proofs.lemmas.schedules.Start.{opening}
 use Rattle.fb_types.proofs.lemmas.lists.Lookups.{none_some, option_cases}
 use Rattle.fb_laws.proofs.lemmas.resources.Chains.{cut_all}

@@ -1,11 +1,7 @@
 -- Edges: exactly what is before one is final, and a merge to an edge continues from there.
-use Rattle.std.proofs.Common.{◌≡◌, ℕ, ◌+◌, ◌<◌, ◌≤◌, ◌⊎◌, min, max, Bool, true, false, cond, not, Option, Some, None, List, [], ◌∷◌, ◌++◌, refl, sym, ap, ◌∙◌, subst, inl, inr, ⊎_elim, arith}
-use Rattle.std.specs.Prelude.{nat_lt, ◌==◌, ◌&&◌, is_some}
-use Rattle.std.specs.List.{filter}
-use Rattle.std.proofs.lemmas.Bool.{cases_lt, cases_order, cases_Bool, cond-true, cond-false, lt-ltb, le-ltb, ltb-true, ltb-false, eq-eqb, ne_eqb, eqb-true, or_left, or_right, or_from, and_from, and_left, and_right, not_from_true, not_from_false, not-true}
-use Rattle.fb_types.specs.Machines.{Machine, Each}
-use Rattle.fb_types.specs.Merges.{NotAfter, IsInOrder, IsMerge, lines_at, lines_before}
-use Rattle.fb_types.specs.Cores.{Core, floor, floor_of}
+use Rattle.fb_types.proofs.Common.{◌≡◌, ℕ, ◌+◌, ◌<◌, ◌≤◌, ◌⊎◌, min, max, Bool, true, false, cond, not, Option, Some, None, List, [], ◌∷◌, ◌++◌, refl, sym, ap, ◌∙◌, subst, inl, inr, ⊎_elim, arith, nat_lt, ◌==◌, ◌&&◌, is_some, filter, cases_lt, cases_Bool, cond-true, cond-false, lt-ltb, le-ltb, ltb-true, ltb-false, eq-eqb, ne_eqb, eqb-true, or_left, or_right, or_from, and_from, and_right, not_from_false, not-true, Machine, Each, IsMerge, lines_at, lines_before, Core, floor, floor_of}
+use Rattle.std.proofs.lemmas.Bool.{cases_order, and_left, not_from_true}
+use Rattle.fb_types.specs.Merges.{NotAfter, IsInOrder}
 use Rattle.fb_types.specs.Schedules.{IsFinal}
 use Rattle.fb_types.proofs.lemmas.lists.EachLaws.{each_map, each_both, each_append}
 use Rattle.fb_laws.proofs.lemmas.schedules.Lines.{filter_in, filter_out, filter_joined, filter_all, filter_nothing, merge_same}

@@ -1,13 +1,6 @@
 -- The final lines of a core are lines of the simulation.
-use Rattle.std.proofs.Common.{◌≡◌, ℕ, ◌+◌, ◌<◌, ◌≤◌, max, Option, Some, None, List, sym, ap, ◌∙◌, subst, ⊎_elim, arith}
-use Rattle.std.proofs.lemmas.Bool.{cases_lt}
-use Rattle.fb_types.specs.Machines.{Machine, Item, Each, Chain, lines_of, cut, at}
-use Rattle.fb_laws.specs.Facts.{IsLawful}
-use Rattle.fb_laws.specs.Worlds.{World, Simulation, IsOpening, view, reach, StopsAt, IsCounted}
-use Rattle.fb_types.specs.Cores.{CoreStep, Core, IsFloor, floor, floor_of}
-use Rattle.fb_types.specs.Schedules.{IsFinal, IsSchedule}
+use Rattle.fb_laws.proofs.lemmas.Common.{◌≡◌, ℕ, ◌+◌, ◌<◌, ◌≤◌, max, Option, Some, None, List, sym, ap, ◌∙◌, subst, ⊎_elim, arith, cases_lt, Machine, Item, Each, cut, at, CoreStep, Core, IsFloor, floor, floor_of, IsSchedule, lines_at, lines_before, Chain, lines_of, IsLawful, World, Simulation, IsOpening, view, reach, StopsAt, IsCounted, IsFinal}
 use Rattle.fb_laws.proofs.lemmas.schedules.Start.{opening}
-use Rattle.fb_types.specs.Merges.{lines_at, lines_before}
 use Rattle.fb_laws.proofs.lemmas.resources.Chains.{cut_all}
 use Rattle.fb_types.proofs.lemmas.lists.EachLaws.{each_map}
 use Rattle.fb_laws.proofs.lemmas.resources.Families.{start}

@@ -1,13 +1,6 @@
 -- The least tick of all events rises while a run goes on.
-use Rattle.std.proofs.Common.{◌≡◌, ℕ, ◌+◌, ◌<◌, ◌≤◌, Option, Some, None, List, [], ◌∷◌, ◌++◌, sym, ap, ◌∙◌, subst, ⊎_elim, arith}
-use Rattle.fb_types.specs.declared.key.Key.{Key}
-use Rattle.fb_types.specs.Machines.{Machine, waiting}
-use Rattle.fb_types.specs.Cores.{Member, Core, CoreStep, Exchange, IsFloor, exchanged}
-use Rattle.fb_types.specs.Schedules.{core_after, IsLeastStop}
+use Rattle.fb_laws.proofs.lemmas.Common.{◌≡◌, ℕ, ◌+◌, ◌<◌, ◌≤◌, Option, Some, None, List, [], ◌∷◌, ◌++◌, sym, ap, ◌∙◌, subst, ⊎_elim, arith, Key, Machine, waiting, Member, Core, CoreStep, Exchange, IsFloor, exchanged, core_after, IsLeastStop, IsLawful, World, IsOpening, Loan, IsLegalLoan, after_loan}
 use Rattle.fb_types.proofs.lemmas.lists.Lookups.{none_some, option_cases}
-use Rattle.fb_laws.specs.Facts.{IsLawful}
-use Rattle.fb_laws.specs.Worlds.{World, IsOpening}
-use Rattle.fb_laws.specs.Phases.{Loan, IsLegalLoan, after_loan}
 use Rattle.fb_laws.proofs.lemmas.schedules.Start.{opening}
 use Rattle.fb_laws.proofs.lemmas.schedules.Keeps.{Inv}
 use Rattle.fb_laws.proofs.lemmas.schedules.Reached.{inv_after, runs_after}

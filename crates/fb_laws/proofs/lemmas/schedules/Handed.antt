@@ -1,10 +1,5 @@
 -- How far the lines of each resource are handed out once a run has stopped.
-use Rattle.std.proofs.Common.{◌≡◌, ℕ, ◌+◌, ◌<◌, ◌≤◌, ◌⊎◌, max, true, sym, ap, ◌∙◌, inl, inr, ⊎_elim, arith}
-use Rattle.std.specs.Prelude.{nat_lt, is_some, if◌then◌else◌}
-use Rattle.std.proofs.lemmas.Bool.{cases_lt, cond-true, cond-false, lt-ltb, le-ltb}
-use Rattle.fb_types.specs.Machines.{Machine}
-use Rattle.fb_types.specs.Cores.{Core, floor, floor_of}
-use Rattle.fb_types.specs.Schedules.{IsLeastStop}
+use Rattle.fb_types.proofs.Common.{◌≡◌, ℕ, ◌+◌, ◌<◌, ◌≤◌, ◌⊎◌, max, true, sym, ap, ◌∙◌, inl, inr, ⊎_elim, arith, nat_lt, is_some, if◌then◌else◌, cases_lt, cond-true, cond-false, lt-ltb, le-ltb, Machine, Core, floor, floor_of, IsLeastStop}
 use Rattle.fb_types.proofs.lemmas.lists.Lookups.{option_cases}
 use Rattle.fb_laws.specs.Finality.{Edge, until, IsEdge}
 use Rattle.fb_laws.proofs.lemmas.schedules.Edges.{until_before, until_within, until_past}

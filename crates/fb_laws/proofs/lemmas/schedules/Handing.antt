@@ -1,15 +1,10 @@
 -- The lines of a core during a schedule: they rise, new ones were not final before, and what is final stays so.
-use Rattle.std.proofs.Common.{◌≡◌, ℕ, ◌<◌, ◌≤◌, max, Some, None, List, [], ◌∷◌, ◌++◌, refl, sym, ap, ◌∙◌, subst, inl, inr, ⊎_elim, arith, append_assoc}
-use Rattle.std.proofs.lemmas.Bool.{cases_lt}
-use Rattle.fb_types.specs.declared.key.Key.{Key}
-use Rattle.fb_types.specs.Keys.{found}
-use Rattle.fb_types.specs.Machines.{Machine, Item, Each, waiting, lines_of}
-use Rattle.fb_types.specs.Cores.{Member, CoreStep, Lend, Give, Exchange, Core, IsFloor, floor, floor_of, returned, exchanged, done, MayDo}
-use Rattle.fb_types.specs.Schedules.{IsSchedule, IsFinal, core_after, taken_by, taken_after}
+use Rattle.fb_laws.proofs.lemmas.Common.{◌≡◌, ℕ, ◌<◌, ◌≤◌, max, Some, None, List, [], ◌∷◌, ◌++◌, refl, sym, ap, ◌∙◌, subst, inl, inr, ⊎_elim, arith, cases_lt, Key, found, Machine, Item, Each, waiting, Member, CoreStep, Lend, Give, Exchange, Core, IsFloor, floor, floor_of, returned, exchanged, done, IsSchedule, core_after, taken_after, lines_of, IsFinal, IsLawful, World}
+use Rattle.fb_types.proofs.Common.{append_assoc}
+use Rattle.fb_types.specs.Cores.{MayDo}
+use Rattle.fb_types.specs.Schedules.{taken_by}
 use Rattle.fb_types.proofs.lemmas.lists.EachLaws.{each_map, each_append}
 use Rattle.fb_types.proofs.lemmas.lists.Lookups.{none_some, option_cases}
-use Rattle.fb_laws.specs.Facts.{IsLawful}
-use Rattle.fb_laws.specs.Worlds.{World}
 use Rattle.fb_laws.proofs.lemmas.takings.NoLesserTick.{chain_fair}
 use Rattle.fb_laws.proofs.lemmas.schedules.Lines.{Here, Rises, chain_here, chain_rises}
 use Rattle.fb_laws.specs.Finality.{TicksRise, IsFinalIn}

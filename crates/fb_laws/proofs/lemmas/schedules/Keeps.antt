@@ -1,15 +1,9 @@
 -- What every schedule keeps.
-use Rattle.std.proofs.Common.{◌≡◌, ℕ, ◌+◌, ◌<◌, ◌≤◌, max, Bool, true, false, Option, Some, None, List, [], ◌∷◌, ◌++◌, refl, sym, ap, ◌∙◌, subst, ⊎_elim, arith, append_assoc}
-use Rattle.std.specs.Prelude.{if◌then◌else◌, ◌==◌}
-use Rattle.std.proofs.lemmas.Bool.{cases_lt}
-use Rattle.fb_types.specs.declared.key.Key.{Key}
-use Rattle.fb_types.specs.Keys.{same_key, or_else, found}
-use Rattle.fb_types.specs.Machines.{Machine, Item, Local, Each, waiting, Chain, end, Rests, Run, sent_by, lines_of}
-use Rattle.fb_laws.specs.Facts.{IsLawful}
-use Rattle.fb_types.specs.Takes.{with_at}
-use Rattle.fb_laws.specs.Worlds.{World, IsOpening, view}
-use Rattle.fb_types.specs.Cores.{bound_of, floor_of, clock_after, Member, CoreStep, Lend, Give, Exchange, Core, returned, exchanged, done, MayLend, MayGive, MayDo}
-use Rattle.fb_types.specs.Schedules.{IsSchedule, core_after, taken_by, taken_after}
+use Rattle.fb_laws.proofs.lemmas.Common.{◌≡◌, ℕ, ◌+◌, ◌<◌, ◌≤◌, max, Bool, true, false, Option, Some, None, List, [], ◌∷◌, ◌++◌, refl, sym, ap, ◌∙◌, subst, ⊎_elim, arith, if◌then◌else◌, ◌==◌, cases_lt, Key, same_key, or_else, found, Machine, Item, Local, Each, waiting, end, Run, sent_by, with_at, floor_of, clock_after, Member, CoreStep, Lend, Give, Exchange, Core, returned, exchanged, done, IsSchedule, core_after, taken_after, Chain, lines_of, IsLawful, World, IsOpening, view}
+use Rattle.fb_types.proofs.Common.{append_assoc}
+use Rattle.fb_types.specs.Machines.{Rests}
+use Rattle.fb_types.specs.Cores.{bound_of, MayLend, MayGive, MayDo}
+use Rattle.fb_types.specs.Schedules.{taken_by}
 use Rattle.fb_laws.proofs.lemmas.schedules.Start.{opening}
 use Rattle.fb_types.proofs.lemmas.lists.Lookups.{none_some, none_since, option_cases, or_else_nones, or_else_parts, same_apart, found-append}
 use Rattle.fb_laws.proofs.lemmas.resources.Chains.{Agree, agree_chain, agree_end, agree_waiting, chain_append, end_append, sent_append, lines_append}

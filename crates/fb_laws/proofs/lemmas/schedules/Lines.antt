@@ -1,12 +1,8 @@
 -- The lines of the simulation are the merge of the resources' lines, and a merge is determined.
-use Rattle.std.proofs.Common.{◌≡◌, ℕ, ◌<◌, ◌≤◌, ◌⊎◌, Bool, true, false, cond, List, [], ◌∷◌, ◌++◌, refl, sym, ap, ◌∙◌, subst, inl, inr, ⊎_elim, arith}
-use Rattle.std.specs.Prelude.{nat_lt, ◌==◌, filter}
-use Rattle.std.proofs.lemmas.Bool.{cases_lt, cases_eq, cond-true, cond-false, lt-ltb, le-ltb, eq-eqb, ne_eqb}
-use Rattle.fb_types.specs.declared.key.Key.{Key}
-use Rattle.fb_laws.specs.Worlds.{IndexUpTo, World, next, Simulates, IsCounted}
-use Rattle.fb_types.specs.Machines.{Machine, Item, Local, Each, after, Chain, lines_of, cut, at}
-use Rattle.fb_laws.specs.Facts.{IsLawful}
-use Rattle.fb_types.specs.Merges.{NotAfter, IsInOrder, lines_at, lines_before, IsMerge}
+use Rattle.fb_laws.proofs.lemmas.Common.{◌≡◌, ℕ, ◌<◌, ◌≤◌, ◌⊎◌, Bool, true, false, cond, List, [], ◌∷◌, ◌++◌, refl, sym, ap, ◌∙◌, subst, inl, inr, ⊎_elim, arith, nat_lt, ◌==◌, cases_lt, cases_eq, cond-true, cond-false, lt-ltb, le-ltb, eq-eqb, ne_eqb, Key, Machine, Item, Local, Each, cut, at, lines_at, lines_before, IsMerge, World, next, Simulates, IsCounted, after, Chain, lines_of, IsLawful}
+use Rattle.std.specs.Prelude.{filter}
+use Rattle.fb_laws.specs.Worlds.{IndexUpTo}
+use Rattle.fb_types.specs.Merges.{NotAfter, IsInOrder}
 use Rattle.fb_laws.proofs.lemmas.resources.Chains.{cut_in, cut_out}
 use Rattle.fb_types.proofs.lemmas.lists.EachLaws.{each_map, each_append}
 use Rattle.fb_laws.proofs.lemmas.takings.NoLesserTick.{chain_late, late_after, takes_fair, takes_late}

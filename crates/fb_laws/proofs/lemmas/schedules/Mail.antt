@@ -1,14 +1,6 @@
 -- Each message that was sent and not taken is in its sender's outbox or on its receiver's agenda, and nothing else arrives.
-use Rattle.std.proofs.Common.{◌≡◌, ℕ, ◌+◌, ◌<◌, Bool, true, false, ◌||◌, Option, None, List, [], ◌∷◌, refl, sym, ap, ◌∙◌, ⊎_elim, arith}
-use Rattle.std.specs.Prelude.{if◌then◌else◌}
-use Rattle.std.proofs.lemmas.Bool.{or_cases}
-use Rattle.fb_types.specs.declared.key.Key.{Key}
-use Rattle.fb_types.specs.Keys.{same_key, or_else, found}
-use Rattle.fb_types.specs.Machines.{Machine, Item, Local, Each, after, end, sent_by}
-use Rattle.fb_laws.specs.Facts.{IsLawful}
-use Rattle.fb_laws.specs.Worlds.{World, IsOpening}
-use Rattle.fb_types.specs.Cores.{CoreStep}
-use Rattle.fb_types.specs.Schedules.{IsSchedule}
+use Rattle.fb_laws.proofs.lemmas.Common.{◌≡◌, ℕ, ◌+◌, ◌<◌, Bool, true, false, Option, None, List, [], ◌∷◌, refl, sym, ap, ◌∙◌, ⊎_elim, arith, if◌then◌else◌, Key, same_key, or_else, found, Machine, Item, Local, Each, end, sent_by, CoreStep, IsSchedule, after, IsLawful, World, IsOpening}
+use Rattle.fb_types.proofs.Common.{◌||◌, or_cases}
 use Rattle.fb_laws.proofs.lemmas.schedules.Start.{opening}
 use Rattle.fb_laws.specs.ScheduleLaw.{has_key}
 use Rattle.fb_types.proofs.lemmas.events.KeyLaws.{same_key_is}

@@ -1,13 +1,6 @@
 -- The lines of the simulation are the merge of the resources' lines, and a merge is determined.
-use Rattle.std.proofs.Common.{◌≡◌, ℕ, ◌+◌, List, sym, ap, ◌∙◌}
-use Rattle.std.specs.Prelude.{if◌then◌else◌, nat_lt}
-use Rattle.fb_types.specs.declared.key.Key.{Key}
-use Rattle.fb_types.specs.Machines.{Machine, Item, lines_of}
-use Rattle.fb_laws.specs.Facts.{IsLawful}
-use Rattle.fb_laws.specs.Worlds.{World, Simulation, IsOpening, reach, IsCounted}
-use Rattle.fb_types.specs.Merges.{lines_before, IsMerge}
-use Rattle.fb_types.specs.Cores.{CoreStep}
-use Rattle.fb_types.specs.Schedules.{IsSchedule, IsLeastStop, IsAtHorizon}
+use Rattle.fb_laws.proofs.lemmas.Common.{◌≡◌, ℕ, ◌+◌, List, sym, ap, ◌∙◌, if◌then◌else◌, nat_lt, Key, Machine, Item, lines_before, IsMerge, CoreStep, IsSchedule, IsLeastStop, lines_of, IsLawful, World, Simulation, IsOpening, reach, IsCounted}
+use Rattle.fb_types.proofs.Common.{IsAtHorizon}
 use Rattle.fb_laws.proofs.lemmas.schedules.Start.{opening}
 use Rattle.fb_laws.proofs.lemmas.schedules.Reached.{reached_by, runs_after, inv_after}
 use Rattle.fb_laws.proofs.lemmas.schedules.Complete.{ends_alike, stops_alike}

@@ -1,15 +1,11 @@
 -- The steps of a phase may come in every order, and all orders lead to one core.
-use Rattle.std.proofs.Common.{◌≡◌, ℕ, ◌≤◌, refl, sym, ap, ◌∙◌, subst, ⊎_elim, List, [], ◌∷◌, Option, Some, None}
-use Rattle.std.proofs.lemmas.Bool.{cases_eq, eq-eqb, ne_eqb}
-use Rattle.fb_types.specs.Takes.{with_at}
-use Rattle.fb_types.specs.Machines.{Machine, Item, Run}
-use Rattle.fb_types.specs.Cores.{Member, Core, CoreStep, Lend, Give, Exchange, IsLegal, returned, MayLend, MayGive}
-use Rattle.fb_types.specs.Schedules.{IsSchedule, core_after, taken_by}
-use Rattle.fb_laws.specs.Facts.{IsLawful}
-use Rattle.fb_laws.specs.Worlds.{World}
+use Rattle.fb_laws.proofs.lemmas.Common.{◌≡◌, ℕ, ◌≤◌, refl, sym, ap, ◌∙◌, subst, ⊎_elim, List, [], ◌∷◌, Option, Some, None, cases_eq, eq-eqb, ne_eqb, with_at, Machine, Item, Run, Member, Core, CoreStep, Lend, Give, Exchange, returned, IsSchedule, core_after, IsLawful, World, Loan, IsLegalLoan, after_loan}
+use Rattle.fb_types.proofs.Common.{IsLegal}
+use Rattle.fb_types.specs.Cores.{MayLend, MayGive}
+use Rattle.fb_types.specs.Schedules.{taken_by}
 use Rattle.fb_laws.proofs.lemmas.resources.Global.{with_at_same, with_at_other}
 use Rattle.fb_laws.proofs.lemmas.schedules.Lines.{filter_in, filter_out}
-use Rattle.fb_laws.specs.Phases.{Loan, is_step_of, steps_of, loan_steps, IsPhase, IsLegalLoan, after_loan, IsOrderFree}
+use Rattle.fb_laws.specs.Phases.{is_step_of, steps_of, loan_steps, IsPhase, IsOrderFree}
 use Rattle.fb_laws.proofs.lemmas.schedules.Keeps.{Inv, inv_step}
 use Rattle.fb_laws.proofs.lemmas.schedules.Phase.{legal_lend, legal_give}
 

@@ -1,12 +1,7 @@
 -- A legal bound stays legal while others leave and come back: so a phase's steps may come in every order.
-use Rattle.std.proofs.Common.{◌≡◌, ℕ, ◌<◌, ◌≤◌, max, Some, None, List, sym, ◌∙◌, subst, arith}
-use Rattle.fb_types.specs.declared.key.Key.{Key}
-use Rattle.fb_types.specs.Keys.{found}
-use Rattle.fb_types.specs.Machines.{Machine, Item, waiting, sent_by}
-use Rattle.fb_laws.specs.Facts.{IsLawful}
-use Rattle.fb_types.specs.Takes.{with_at}
-use Rattle.fb_laws.specs.Worlds.{World}
-use Rattle.fb_types.specs.Cores.{Member, Lend, Give, Core, floor, IsLegal, MayGive, done, returned}
+use Rattle.fb_laws.proofs.lemmas.Common.{◌≡◌, ℕ, ◌<◌, ◌≤◌, max, Some, None, List, sym, ◌∙◌, subst, arith, Key, found, Machine, Item, waiting, sent_by, with_at, Member, Lend, Give, Core, floor, done, returned, IsLawful, World}
+use Rattle.fb_types.proofs.Common.{IsLegal}
+use Rattle.fb_types.specs.Cores.{MayGive}
 use Rattle.fb_types.proofs.lemmas.lists.Lookups.{none_since, or_else_nones, found-append}
 use Rattle.fb_types.proofs.lemmas.lists.EachLaws.{each_both}
 use Rattle.fb_laws.proofs.lemmas.takings.NoLesserTick.{Fair, chain_fair, found_none, end_late}

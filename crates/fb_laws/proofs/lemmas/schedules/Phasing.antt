@@ -1,13 +1,7 @@
 -- A phase and the exchange after it, after the steps before.
-use Rattle.std.proofs.Common.{◌≡◌, ℕ, zero, suc, ◌<◌, ◌≤◌, Option, Some, None, List, [], ◌∷◌, ◌++◌, refl, sym, ap, ◌∙◌, subst, ⊎_elim, arith}
-use Rattle.std.proofs.lemmas.Bool.{cases_lt, eq-eqb, ne_eqb}
-use Rattle.fb_types.specs.Machines.{Machine, Item}
-use Rattle.fb_types.specs.Cores.{Member, Core, CoreStep, Lend, Give, Exchange, exchanged, done}
-use Rattle.fb_types.specs.Schedules.{IsSchedule, core_after}
-use Rattle.fb_laws.specs.Facts.{IsLawful}
-use Rattle.fb_laws.specs.Worlds.{World}
+use Rattle.fb_laws.proofs.lemmas.Common.{◌≡◌, ℕ, zero, suc, ◌<◌, ◌≤◌, Option, Some, None, List, [], ◌∷◌, ◌++◌, refl, sym, ap, ◌∙◌, subst, ⊎_elim, arith, cases_lt, eq-eqb, ne_eqb, Machine, Item, Member, Core, CoreStep, Lend, Give, Exchange, exchanged, done, IsSchedule, core_after, IsLawful, World, Loan, IsLegalLoan, after_loan}
 use Rattle.fb_laws.proofs.lemmas.schedules.Lines.{filter_joined, filter_in, filter_out}
-use Rattle.fb_laws.specs.Phases.{Loan, is_step_of, steps_of, loan_steps, IsPhase, IsLegalLoan, after_loan, IsOrderFree}
+use Rattle.fb_laws.specs.Phases.{is_step_of, steps_of, loan_steps, IsPhase, IsOrderFree}
 use Rattle.fb_laws.proofs.lemmas.schedules.Keeps.{Inv}
 use Rattle.fb_laws.proofs.lemmas.schedules.Orders.{order_free}
 

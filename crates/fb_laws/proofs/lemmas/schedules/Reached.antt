@@ -1,10 +1,7 @@
 -- Each resource by itself is at its history, whatever the schedule.
-use Rattle.std.proofs.Common.{◌≡◌, ℕ, ◌+◌, ◌<◌, ◌≤◌, min, max, None, List, [], sym, ap, ◌∙◌, arith}
-use Rattle.fb_types.specs.Machines.{Machine, Item, end, lines_of, cut, at}
-use Rattle.fb_laws.specs.Facts.{IsLawful}
-use Rattle.fb_laws.specs.Worlds.{World, Simulation, IsOpening, view, IsCovered, taken_at, left_at}
-use Rattle.fb_types.specs.Cores.{Member, CoreStep, Core}
-use Rattle.fb_types.specs.Schedules.{IsSchedule, core_after, taken_after}
+use Rattle.fb_laws.proofs.lemmas.Common.{◌≡◌, ℕ, ◌+◌, ◌<◌, ◌≤◌, max, None, List, [], sym, ap, ◌∙◌, arith, Machine, Item, end, cut, at, Member, CoreStep, Core, IsSchedule, core_after, taken_after, lines_of, IsLawful, World, Simulation, IsOpening, view, taken_at}
+use Rattle.fb_types.proofs.Common.{min}
+use Rattle.fb_laws.specs.Worlds.{IsCovered, left_at}
 use Rattle.fb_laws.proofs.lemmas.schedules.Start.{opening}
 use Rattle.fb_types.specs.Histories.{IsSameAt}
 use Rattle.fb_laws.proofs.lemmas.resources.Chains.{cut_all, cut_cut}

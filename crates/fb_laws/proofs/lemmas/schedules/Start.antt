@@ -1,8 +1,5 @@
 -- The opening core of a world.
-use Rattle.std.proofs.Common.{None, []}
-use Rattle.fb_types.specs.Machines.{Machine}
-use Rattle.fb_types.specs.Cores.{Core}
-use Rattle.fb_laws.specs.Worlds.{World, view}
+use Rattle.fb_laws.proofs.lemmas.Common.{None, [], Machine, Core, World, view}
 
 module _ (M : Machine) where
   abbrev pub opening : World M → Core M

@@ -1,28 +1,11 @@
 -- Every accepted system is sound.
-use Rattle.std.proofs.Common.{◌≡◌, ℕ, zero, suc, ◌<◌, ◌≤◌, refl, sym, ap, ◌∙◌, subst, inl, inr, ⊎_elim, List, [], ◌∷◌, ◌++◌, map, length, Bool, true, false, ◌&&◌, Option, Some, None, arith}
-use Rattle.std.specs.Prelude.{flat_map, ◌^◌, cond, slice_get, slice_index_or, unwrap_or, Contains, nat_le}
-use Rattle.std.specs.List.{filter, position, position_or_len}
-use Rattle.std.proofs.lemmas.Bool.{lt-ltb, le-ltb, cases_lt, cases_Bool, and_parts}
-use Rattle.std.proofs.lemmas.List.{length-map}
-use Rattle.std.proofs.lemmas.List.Elements.{All-contains, Contains-append_left, Contains-append_right}
+use Rattle.fb_types.proofs.Common.{◌≡◌, ℕ, zero, suc, ◌<◌, ◌≤◌, refl, sym, ap, ◌∙◌, subst, inl, inr, ⊎_elim, List, [], ◌∷◌, ◌++◌, map, length, Bool, true, false, ◌&&◌, Option, Some, None, arith, flat_map, ◌^◌, cond, slice_get, slice_index_or, unwrap_or, Contains, nat_le, filter, position_or_len, lt-ltb, le-ltb, cases_lt, cases_Bool, and_parts, length-map, All-contains, Contains-append_left, Contains-append_right, slice_get_within, slice_get-get_or, unwrap_or-slice_get, Name, Path, same_name, Port, same_port, among, last_of, network_at, parent, port_in, pairs_in, events_inside, targets_of, resource_names_of, holder, resource_of, latency_at, Twice, block_type_names, port_names, basics, algorithm_names, state_names, networks, instance_names, with_lists, interfaces, parameter_lists, name_spaces, NoLink, Inputs, system_of, Each, Library, Connection, PortName, Network, Entry, Plan, Link}
+use Rattle.std.specs.List.{position}
 use Rattle.std.proofs.lemmas.List.Quantifiers.{position-Some}
 use Rattle.std.proofs.lemmas.List.Sums.{position_or_len_is}
-use Rattle.std.proofs.lemmas.Option.{slice_get_within, slice_get-get_or, unwrap_or-slice_get}
-use Rattle.fb_types.specs.Names.{Name, Path, same_name, Port, same_port}
-use Rattle.fb_types.specs.Blocks.{among}
-use Rattle.fb_types.specs.Flat.{flat, last_of, network_at, parent, port_in, pairs_in, events_inside, events_at, targets_of, resource_names_of, holder, resource_of, name_of_resource, link_between, latency_at, latency_of, end_of}
-use Rattle.fb_types.specs.Repeated.{Twice, block_type_names, port_names, basics, algorithm_names, state_names, networks, instance_names, with_lists, interfaces, parameter_lists, name_spaces}
-use Rattle.fb_types.specs.Mapped.{event_pairs_of, data_pairs_of, NoLink}
-use Rattle.fb_types.specs.Headline.{Inputs, system_of}
+use Rattle.fb_types.specs.Flat.{flat, events_at, name_of_resource, link_between, latency_of, end_of}
+use Rattle.fb_types.specs.Mapped.{event_pairs_of, data_pairs_of}
 use Rattle.fb_types.specs.Latencies.{IsLatencyTable}
-use Rattle.fb_types.specs.Machines.{Each}
-use Rattle.fb_types.specs.declared.library.Library.{Library}
-use Rattle.fb_types.specs.declared.library.Connection.{Connection}
-use Rattle.fb_types.specs.declared.library.PortName.{PortName}
-use Rattle.fb_types.specs.declared.library.Network.{Network}
-use Rattle.fb_types.specs.declared.latency.Entry.{Entry}
-use Rattle.fb_types.specs.declared.deploy.Plan.{Plan}
-use Rattle.fb_types.specs.declared.deploy.Link.{Link}
 use Rattle.fb_types.proofs.lemmas.names.NameLaws.{same_from_same_name, same_name-itself}
 use Rattle.fb_types.proofs.lemmas.names.PathLaws.{same_port_is}
 use Rattle.fb_laws.specs.Sound.{AreGood, IsLink, IsLinked, IsSound}

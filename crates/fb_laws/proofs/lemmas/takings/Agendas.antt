@@ -1,11 +1,6 @@
 -- Facts of all events that wait on an agenda.
-use Rattle.std.proofs.Common.{◌≡◌, subst, Bool, true, false, cond, List, [], ◌∷◌, Option, Some, None, All}
-use Rattle.std.proofs.lemmas.List.Elements.{All-head, All-tail}
-use Rattle.fb_types.specs.Keys.{or_else, found, same_key, changed_to, without, Map}
-use Rattle.fb_types.specs.Takes.{put_of}
-use Rattle.fb_types.specs.States.{Event}
-use Rattle.fb_types.specs.declared.key.Key.{Key}
-use Rattle.std.proofs.lemmas.Option.{same_Some}
+use Rattle.fb_laws.proofs.lemmas.Common.{◌≡◌, subst, Bool, true, false, cond, List, [], ◌∷◌, Option, Some, None, All, All-head, All-tail, or_else, found, same_key, changed_to, without, put_of, Key, same_Some, Event}
+use Rattle.fb_types.specs.Keys.{Map}
 
 -- holds of what is there, if anything is
 abbrev pub Holds : {X : Type 0} → (X → Type 0) → Option X → Type 0

@@ -1,20 +1,8 @@
 -- What taking an event gives: facts of its changes, messages and lines.
-use Rattle.std.proofs.Common.{◌≡◌, ℕ, zero, suc, ◌≤◌, ◌⊎◌, refl, sym, ap, ◌∙◌, subst, inl, inr, ⊎_elim, [], Bool, true, false, Option, Some, None, arith}
-use Rattle.std.specs.Prelude.{if◌then◌else◌, ◌==◌}
-use Rattle.std.proofs.lemmas.Bool.{eqb-true, eq-eqb, ne_eqb, and_parts}
-use Rattle.fb_types.specs.Keys.{same_key, found, changed_to, without, timer_key}
-use Rattle.fb_types.specs.Systems.{System}
-use Rattle.fb_types.specs.States.{State, Meter, Event, Expired, path_of, Line, Agenda}
-use Rattle.fb_types.specs.Reactions.{Outcome}
-use Rattle.fb_types.specs.Takes.{Effect, Takes, TakesWith, begun, world_of, posts_of, effect_of, out_of_steps, put_of, is_timer_of, timer_change, agenda_after}
-use Rattle.fb_types.specs.Machines.{Each}
-use Rattle.fb_types.specs.Parts.{machine, outcome_of, IsAtResource}
-use Rattle.fb_types.specs.declared.key.Key.{Key}
-use Rattle.fb_types.specs.declared.run.TimerAsk.{TimerAsk}
-use Rattle.fb_types.specs.declared.run.TimerAsk.TheVariants.{Keep, Clear, At}
+use Rattle.fb_laws.proofs.lemmas.Common.{◌≡◌, ℕ, zero, suc, ◌≤◌, ◌⊎◌, refl, sym, ap, ◌∙◌, subst, inl, inr, ⊎_elim, [], Bool, true, false, Option, Some, None, arith, if◌then◌else◌, ◌==◌, eqb-true, eq-eqb, ne_eqb, same_key, found, changed_to, without, timer_key, System, State, Meter, Expired, path_of, Outcome, Effect, Takes, TakesWith, begun, world_of, posts_of, effect_of, out_of_steps, put_of, is_timer_of, timer_change, Each, machine, IsAtResource, Key, TimerAsk, Keep, Clear, At, Event, Line, IsSound, IsTaking}
+use Rattle.fb_types.proofs.Common.{and_parts, Agenda, agenda_after}
+use Rattle.fb_types.specs.Parts.{outcome_of}
 use Rattle.fb_types.proofs.lemmas.events.KeyLaws.{same_key_is}
-use Rattle.fb_laws.specs.Sound.{IsSound}
-use Rattle.fb_laws.specs.Facts.{IsTaking}
 use Rattle.fb_types.proofs.lemmas.lists.Lookups.{or_else_some, none_some, edit_some, without_some}
 use Rattle.fb_types.proofs.lemmas.lists.EachLaws.{each_map}
 use Rattle.fb_laws.proofs.lemmas.takings.Timers.{IsLater}

@@ -1,19 +1,7 @@
 -- A row may be put after all that was taken.
-use Rattle.std.proofs.Common.{◌≡◌, ℕ, zero, suc, ◌+◌, ◌<◌, Bool, true, false, cond, List, [], ◌∷◌, ◌++◌, length, refl, sym, ap, subst, ◌∙◌, Option, Some, None, arith}
-use Rattle.std.specs.Prelude.{flat_map}
-use Rattle.fb_types.specs.Names.{Path}
-use Rattle.fb_types.specs.Blocks.{Kind, Event as EventBlock}
-use Rattle.fb_types.specs.Keys.{Precedes, found, or_else, without, changed_to, same_key, timer_key}
-use Rattle.fb_types.specs.Machines.{Each}
-use Rattle.fb_types.specs.Reactions.{Out, Local, Sends, Outcome}
-use Rattle.fb_types.specs.Simulation.{Stimulus, Taken, TakesLeast, Chain, after, last, opening, restart_of, stimuli_from}
-use Rattle.fb_types.specs.States.{State, Meter, Config, Event, path_of}
-use Rattle.fb_types.specs.Systems.{System}
-use Rattle.fb_types.specs.Takes.{Effect, Posts, Takes, TakesWith, begun, is_timer_of, post, post_all, posts_of, put_of, timer_change}
-use Rattle.fb_types.specs.declared.event_kind.EventKind.TheVariants.{Restart}
-use Rattle.fb_types.specs.declared.key.Key.{Key}
-use Rattle.fb_types.specs.declared.run.TimerAsk.{TimerAsk}
-use Rattle.fb_types.specs.declared.run.TimerAsk.TheVariants.{Keep, Clear, At}
+use Rattle.fb_laws.proofs.lemmas.Common.{◌≡◌, ℕ, zero, suc, ◌+◌, ◌<◌, Bool, true, false, cond, List, [], ◌∷◌, ◌++◌, length, refl, sym, ap, subst, ◌∙◌, Option, Some, None, arith, flat_map, Path, Kind, Precedes, found, or_else, without, changed_to, same_key, timer_key, Each, Out, Sends, Outcome, Taken, opening, stimuli_from, State, Meter, Config, path_of, System, Effect, Posts, Takes, TakesWith, begun, is_timer_of, post, post_all, posts_of, put_of, timer_change, Restart, Key, TimerAsk, Keep, Clear, At, Stimulus, Event}
+use Rattle.fb_types.proofs.Common.{Event as EventBlock, TakesLeast, Chain, after, last, restart_of}
+use Rattle.fb_types.specs.Reactions.{Local}
 use Rattle.fb_types.proofs.lemmas.lists.EachLaws.{each_append, each_map}
 use Rattle.fb_types.proofs.lemmas.events.KeyLaws.{same_key_is}
 use Rattle.fb_types.proofs.lemmas.lists.Lookups.{before_irrefl, before_trans, found-append, none_since, or_else_none, without_none}

@@ -1,23 +1,11 @@
 -- Every key under which a taking puts an event is greater than the key taken.
-use Rattle.std.proofs.Common.{◌≡◌, ℕ, zero, suc, ◌+◌, ◌<◌, ◌≤◌, ◌⊎◌, refl, sym, ap, ◌∙◌, subst, inl, inr, ⊎_elim, List, [], ◌∷◌, Bool, true, false, Option, Some, None, arith}
-use Rattle.std.specs.Prelude.{if◌then◌else◌}
-use Rattle.std.proofs.lemmas.Bool.{cases_lt, cases_eq, eq-eqb, lt-ltb}
-use Rattle.fb_types.specs.Keys.{Precedes, NoneBelow, same_key, found, timer_key, stimulus_key}
-use Rattle.fb_types.specs.Blocks.{Kind, Basic, Event as EventBlock, Composite}
+use Rattle.fb_laws.proofs.lemmas.Common.{◌≡◌, ℕ, zero, suc, ◌+◌, ◌<◌, ◌≤◌, ◌⊎◌, refl, sym, ap, ◌∙◌, subst, inl, inr, ⊎_elim, List, [], ◌∷◌, Bool, true, false, Option, Some, None, arith, if◌then◌else◌, cases_lt, cases_eq, eq-eqb, lt-ltb, Precedes, same_key, found, timer_key, Kind, Basic, Composite, System, State, Meter, Expired, path_of, Config, Out, Sends, Outcome, memory_of, Effect, Posts, post, post_all, Takes, TakesWith, begun, world_of, posts_of, effect_of, out_of_steps, put_of, is_timer_of, timer_change, Taken, IsSimulation, opening, Each, Key, EventKind, TimerAsk, Keep, Clear, At, Event, Stimulus, IsSound}
+use Rattle.fb_types.proofs.Common.{NoneBelow, stimulus_key, Event as EventBlock, TakesLeast, after, Chain, opening_block, Rendezvous}
 use Rattle.fb_types.specs.EventBlocks.{memory_at_start}
-use Rattle.fb_types.specs.Systems.{System}
-use Rattle.fb_types.specs.States.{State, Meter, Event, Expired, path_of, Config}
-use Rattle.fb_types.specs.Reactions.{Out, Local, Sends, Outcome, memory_of}
-use Rattle.fb_types.specs.Takes.{Effect, Posts, post, post_all, Takes, TakesWith, begun, is_tick, world_of, posts_of, effect_of, out_of_steps, put_of, is_timer_of, timer_change}
-use Rattle.fb_types.specs.Simulation.{Stimulus, Taken, TakesLeast, after, Chain, IsSimulation, opening, opening_memory, opening_block}
-use Rattle.fb_types.specs.Machines.{Each}
-use Rattle.fb_types.specs.declared.key.Key.{Key}
-use Rattle.fb_types.specs.declared.event_kind.EventKind.{EventKind}
-use Rattle.fb_types.specs.declared.event_kind.EventKind.TheVariants.{Rendezvous}
-use Rattle.fb_types.specs.declared.run.TimerAsk.{TimerAsk}
-use Rattle.fb_types.specs.declared.run.TimerAsk.TheVariants.{Keep, Clear, At}
+use Rattle.fb_types.specs.Reactions.{Local}
+use Rattle.fb_types.specs.Takes.{is_tick}
+use Rattle.fb_types.specs.Simulation.{opening_memory}
 use Rattle.fb_types.proofs.lemmas.events.KeyLaws.{same_key_is}
-use Rattle.fb_laws.specs.Sound.{IsSound}
 use Rattle.fb_laws.specs.ResourceLaw.{PutsLater}
 use Rattle.fb_types.proofs.lemmas.lists.Lookups.{cmp_equal, tick_before, or_else_some, none_some, none_since, edit_some, without_some}
 use Rattle.fb_types.proofs.lemmas.lists.EachLaws.{each_map, each_append}

@@ -1,11 +1,5 @@
 -- Nothing comes under a lesser tick than the one taken.
-use Rattle.std.proofs.Common.{◌≡◌, ℕ, ◌<◌, ◌≤◌, true, false, Option, Some, None, List, [], ◌∷◌, refl, sym, ◌∙◌, ⊎_elim, arith}
-use Rattle.std.specs.Prelude.{◌==◌}
-use Rattle.std.proofs.lemmas.Bool.{cases_lt}
-use Rattle.fb_types.specs.declared.key.Key.{Key}
-use Rattle.fb_types.specs.Keys.{found}
-use Rattle.fb_types.specs.Machines.{Machine, Item, Local, Each, waiting, TakesAlone, after, Chain, end, sent_by, cut}
-use Rattle.fb_laws.specs.Facts.{IsTaking, IsLawful}
+use Rattle.fb_laws.proofs.lemmas.Common.{◌≡◌, ℕ, ◌<◌, ◌≤◌, true, false, Option, Some, None, List, [], ◌∷◌, refl, sym, ◌∙◌, ⊎_elim, arith, ◌==◌, cases_lt, Key, found, Machine, Item, Local, Each, waiting, TakesAlone, end, sent_by, cut, after, Chain, IsTaking, IsLawful}
 use Rattle.fb_types.proofs.lemmas.lists.Lookups.{tick_before, or_else_parts, or_else_nones, none_some, found-append, without_none, edit_none}
 use Rattle.fb_types.proofs.lemmas.lists.EachLaws.{each_both}
 use Rattle.fb_laws.proofs.lemmas.resources.Chains.{cut_in, cut_out}

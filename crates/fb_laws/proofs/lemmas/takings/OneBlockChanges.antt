@@ -1,17 +1,7 @@
 -- A reaction changes only the block of its event.
-use Rattle.std.proofs.Common.{◌≡◌, ℕ, refl, ap, ◌∙◌, List, [], ◌∷◌, Bool, true, false, Option, Some, None}
-use Rattle.std.specs.Prelude.{if◌then◌else◌}
-use Rattle.fb_types.specs.Names.{Path, same_path, Port}
-use Rattle.fb_types.specs.Blocks.{Kind, Basic, Event, Composite, ports_of, is_event_input, bound, outputs_with, Emission}
-use Rattle.fb_types.specs.Charts.{Position}
+use Rattle.fb_types.proofs.Common.{◌≡◌, ℕ, refl, ap, ◌∙◌, List, [], ◌∷◌, Bool, true, false, Option, Some, None, if◌then◌else◌, Path, same_path, Port, Kind, Basic, Event, Composite, ports_of, is_event_input, bound, outputs_with, Emission, Position, System, Stimulated, Expired, Arrived, Raised, path_of, World, Outcome, emitted, emitted_all, charted, answered, taking, crossing_in, crossing_out, silent, expires, settled, remembered, from_inside, emissions, with_slots, hold_all, ReactsAt, Reacts, memory_of, Key, Reason, Ports, EventKind}
 use Rattle.fb_types.specs.EventBlocks as blocks
-use Rattle.fb_types.specs.Systems.{System}
-use Rattle.fb_types.specs.States.{Event as AnEvent, Stimulated, Expired, Arrived, Raised, path_of}
-use Rattle.fb_types.specs.Reactions.{World, Outcome, emitted, emitted_all, charted, answered, taking, crossing_in, crossing_out, silent, expires, settled, remembered, from_inside, emissions, with_slots, hold_all, ReactsAt, Reacts, memory_of}
-use Rattle.fb_types.specs.declared.key.Key.{Key}
-use Rattle.fb_types.specs.declared.value.Reason.{Reason}
-use Rattle.fb_types.specs.declared.library.Ports.{Ports}
-use Rattle.fb_types.specs.declared.event_kind.EventKind.{EventKind}
+use Rattle.fb_types.specs.States.{Event as AnEvent}
 
 module _ (sys : System) (k : Key) (q p : Path) (other : same_path q p ≡ false) where
   emitted_stays : (e : Emission) (o : Outcome) → (emitted sys k p e o).world.blocks q ≡ o.world.blocks q

@@ -1,17 +1,9 @@
 -- Local events and messages under their keys.
-use Rattle.std.proofs.Common.{◌≡◌, ℕ, ◌+◌, refl, sym, ap, ◌∙◌, subst, ⊎_elim, List, [], ◌∷◌, ◌++◌, true, Some, None}
-use Rattle.std.specs.Prelude.{if◌then◌else◌, ◌==◌}
-use Rattle.std.proofs.lemmas.Bool.{cond-true, cond-false, ne_eqb}
-use Rattle.fb_types.specs.Keys.{same_key, found, local_key, message_key}
-use Rattle.fb_types.specs.Systems.{System}
-use Rattle.fb_types.specs.States.{Event, Arrived, Raised}
-use Rattle.fb_types.specs.Reactions.{Out, Local, Sends}
-use Rattle.fb_types.specs.Takes.{Posts, post, post_all}
-use Rattle.fb_types.specs.Machines.{Each}
-use Rattle.fb_types.specs.Parts.{IsArrival, IsAtResource}
-use Rattle.fb_types.specs.declared.key.Key.{Key}
+use Rattle.fb_laws.proofs.lemmas.Common.{◌≡◌, ℕ, ◌+◌, refl, sym, ap, ◌∙◌, subst, ⊎_elim, List, [], ◌∷◌, ◌++◌, true, Some, None, if◌then◌else◌, ◌==◌, cond-true, cond-false, ne_eqb, same_key, found, System, Arrived, Raised, Out, Sends, Posts, post, post_all, Each, IsAtResource, Key, Event, IsSound}
+use Rattle.fb_types.proofs.Common.{local_key, message_key}
+use Rattle.fb_types.specs.Reactions.{Local}
+use Rattle.fb_types.specs.Parts.{IsArrival}
 use Rattle.fb_types.proofs.lemmas.events.KeyLaws.{same_key_from}
-use Rattle.fb_laws.specs.Sound.{IsSound}
 use Rattle.fb_types.proofs.lemmas.lists.Lookups.{same_cases, or_else_some, none_some}
 use Rattle.fb_types.proofs.lemmas.lists.EachLaws.{each_append}
 use Rattle.fb_laws.proofs.lemmas.soundness.Outs.{IsGood}

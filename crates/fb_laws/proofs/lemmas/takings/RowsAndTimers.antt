@@ -1,14 +1,7 @@
 -- Rows and timers by their keys.
-use Rattle.std.proofs.Common.{◌≡◌, ℕ, suc, ◌+◌, List, [], ◌∷◌, ◌++◌, length, eqb, true, ap, ◌∙◌, arith}
-use Rattle.std.specs.Prelude.{◌&&◌}
-use Rattle.std.proofs.lemmas.Bool.{eqb-true}
+use Rattle.fb_types.proofs.Common.{◌≡◌, ℕ, suc, ◌+◌, List, [], ◌∷◌, ◌++◌, length, eqb, true, ap, ◌∙◌, arith, ◌&&◌, eqb-true, stimulus_key, stimuli_from, Stimulated, System, is_timer_of, Key}
 use Rattle.std.specs.Cmp.{first_so, second_so}
-use Rattle.fb_types.specs.Keys.{stimulus_key}
-use Rattle.fb_types.specs.Simulation.{Stimulus, stimuli_from}
-use Rattle.fb_types.specs.States.{Stimulated}
-use Rattle.fb_types.specs.Systems.{System}
-use Rattle.fb_types.specs.Takes.{is_timer_of}
-use Rattle.fb_types.specs.declared.key.Key.{Key}
+use Rattle.fb_types.specs.Simulation.{Stimulus}
 
 -- the key of a timer has class 1
 pub timer_class : (r n : ℕ) (j : Key) → is_timer_of r n j ≡ true → j.class ≡ 1

@@ -1,13 +1,6 @@
 -- A timer is set at the tick of its setting or later.
-use Rattle.std.proofs.Common.{ℕ, ◌≤◌, Bool, true, false, ◌||◌, ◌&&◌, arith}
-use Rattle.std.specs.Prelude.{if◌then◌else◌, codes, nat_lt}
-use Rattle.fb_types.specs.Names.{Name}
-use Rattle.fb_types.specs.Values.{Values}
-use Rattle.fb_types.specs.EventBlocks.{Memory, Idle, Marks, Flag, Running, Count, Reaction, emits_if, reaction, expiry, started, timed, counted, rendezvous, met, again, is}
-use Rattle.fb_types.specs.declared.event_kind.EventKind.{EventKind}
-use Rattle.fb_types.specs.declared.event_kind.EventKind.TheVariants.{Restart, Split, Merge, Rendezvous, Permit, Select, Switch, Delay, Cycle, SetReset, DataLatch, RisingEdge, FallingEdge, CountUp}
-use Rattle.fb_types.specs.declared.run.TimerAsk.{TimerAsk}
-use Rattle.fb_types.specs.declared.run.TimerAsk.TheVariants.{Keep, Clear, At}
+use Rattle.fb_types.proofs.Common.{ℕ, ◌≤◌, Bool, true, false, ◌||◌, ◌&&◌, arith, if◌then◌else◌, codes, nat_lt, Name, Values, Memory, Idle, Marks, Flag, Count, Reaction, reaction, expiry, started, counted, is, EventKind, Restart, Split, Merge, Rendezvous, Permit, Select, Switch, Delay, Cycle, SetReset, DataLatch, RisingEdge, FallingEdge, CountUp, TimerAsk, Keep, Clear, At}
+use Rattle.fb_types.specs.EventBlocks.{Running, emits_if, timed, rendezvous, met, again}
 
 abbrev pub IsLater : ℕ → TimerAsk → Type 0
 IsLater tick (At t) = tick ≤ t

@@ -1,12 +1,6 @@
 -- What was accepted is typed, and so are its simulations.
-use Rattle.std.proofs.Common.{inl, inr, refl}
+use Rattle.fb_types.proofs.Common.{inl, inr, refl, Inputs, AreAccepted, system_of, stimuli_of, OutOfRange, KindWrong, NameTwice, ends_known, NameUnknown, BadStimulus}
 use Rattle.std.proofs.lemmas.Bool.{true_from_ne_false}
-use Rattle.fb_types.specs.Headline.{Inputs, AreAccepted, system_of, stimuli_of}
-use Rattle.fb_types.specs.Joined.{OutOfRange}
-use Rattle.fb_types.specs.Kinds.{KindWrong}
-use Rattle.fb_types.specs.Repeated.{NameTwice}
-use Rattle.fb_types.specs.Unknown.{ends_known, NameUnknown}
-use Rattle.fb_types.specs.Accepted.{BadStimulus}
 use Rattle.fb_laws.specs.Simulations.{AreTypedInputs, AcceptedAreTyped, SimulationsAreTyped}
 use Rattle.fb_laws.proofs.lemmas.typing.Sources.{source-fitting, output-first}
 use Rattle.fb_laws.proofs.lemmas.typing.Initials.{begins-typed, stimuli-typed}

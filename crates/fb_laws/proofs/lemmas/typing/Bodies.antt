@@ -1,13 +1,7 @@
 -- What each assignment within the types keeps, a run of a body keeps.
-use Rattle.std.proofs.Common.{◌≡◌, ℕ, zero, suc, ℤ, ◌+ℤ◌, sym, refl, subst, Bool, true, false, not, Result, Ok, Err}
-use Rattle.std.specs.Prelude.{if◌then◌else◌}
-use Rattle.fb_types.specs.Names.{Name, with_value}
-use Rattle.fb_types.specs.Syntax.{Stmt, Empty, Exit, Return, Assign, If, Case, For, While, Repeat, Stmts, no_stmt, then_stmts, Choices, no_choice, then_choices, Branches, no_branch, then_branches}
-use Rattle.fb_types.specs.Values.{Values, Types, fits, value_of, truth_of, and_then, whole}
-use Rattle.fb_types.specs.Bodies.{Point, End, Went, Left, Returned, Stopped, Running, Ends, StepAnd, Step, With, After, Then, Either, Assigns, AfterTurn, TurnThen, Turns, Loop, passed, Advances, label_fits, Runs, RunsAll, RunsChoice, RunsBranch, RunsBody}
-use Rattle.fb_types.specs.declared.value.Value.{Value}
+use Rattle.fb_types.proofs.Common.{◌≡◌, ℕ, zero, suc, ℤ, ◌+ℤ◌, sym, refl, subst, Bool, true, false, not, Result, Ok, Err, if◌then◌else◌, Name, with_value, Stmt, Empty, Exit, Return, Assign, If, Case, For, While, Repeat, Stmts, no_stmt, then_stmts, Choices, no_choice, then_choices, Branches, no_branch, then_branches, Values, Types, fits, value_of, truth_of, and_then, whole, Point, End, Went, Left, Returned, Stopped, Running, Ends, Step, After, Then, Either, Assigns, TurnThen, Loop, passed, Advances, label_fits, Runs, RunsAll, RunsChoice, RunsBranch, RunsBody, Value, Reason}
+use Rattle.fb_types.specs.Bodies.{StepAnd, With, AfterTurn, Turns}
 use Rattle.fb_types.specs.declared.value.Value.TheVariants as value
-use Rattle.fb_types.specs.declared.value.Reason.{Reason}
 use Rattle.fb_types.specs.declared.value.Reason.TheVariants as reason
 
 -- The values that a run leaves are such, if those before it are.

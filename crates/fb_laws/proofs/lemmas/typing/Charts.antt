@@ -1,15 +1,6 @@
 -- What the runs of bodies keep, the reaction of a chart keeps, and it emits such values.
-use Rattle.std.proofs.Common.{ℕ, zero, suc, sym, subst, List, [], ◌∷◌, Option, Some, None, All}
-use Rattle.std.proofs.lemmas.List.Elements.{All-push}
-use Rattle.fb_types.specs.Names.{Name}
-use Rattle.fb_types.specs.Values.{Values}
-use Rattle.fb_types.specs.Bodies.{End, Went, Left, Returned, Stopped, RunsBody}
-use Rattle.fb_types.specs.Blocks.{types_of, outputs_with, bound, Emission}
-use Rattle.fb_types.specs.Charts.{Position, Moving, Halts, Performs, AfterBody, Acts, OrHalts, Trial, Clears, NoneClears, Fails, Rests, Enters, Links, ChartReacts, trial_at, actions_of, algorithm_of, at_point, emitting}
-use Rattle.fb_types.specs.declared.library.Action.{Action}
-use Rattle.fb_types.specs.declared.library.BasicType.{BasicType}
-use Rattle.fb_types.specs.declared.value.Reason.{Reason}
-use Rattle.fb_types.specs.declared.value.Reason.TheVariants.{Steps}
+use Rattle.fb_types.proofs.Common.{ℕ, zero, suc, sym, subst, List, [], ◌∷◌, Option, Some, None, All, All-push, Name, Values, End, Went, Left, Returned, Stopped, RunsBody, types_of, outputs_with, bound, Emission, Position, Moving, Halts, Performs, AfterBody, Acts, Trial, Clears, NoneClears, Fails, Rests, Enters, Links, ChartReacts, trial_at, actions_of, algorithm_of, at_point, emitting, Action, BasicType, Reason, Steps}
+use Rattle.fb_types.specs.Charts.{OrHalts}
 use Rattle.fb_laws.proofs.lemmas.typing.Bodies.{Keeps}
 
 -- a position with such values, where all that was emitted is good

@@ -1,11 +1,6 @@
 -- A variable looked up by its name among those that are declared.
-use Rattle.std.proofs.Common.{◌≡◌, ◌⊎◌, inl, inr, ⊎_elim, refl, Bool, true, false, cond, List, [], ◌∷◌, ◌++◌, filter, Option, Some, None, All}
-use Rattle.std.proofs.lemmas.Bool.{or_cases, or_parts, or_left, or_right, false_from_ne_true, both_ways}
-use Rattle.std.proofs.lemmas.List.Elements.{All-nil, All-cons}
-use Rattle.fb_types.specs.Names.{Name, same_name}
-use Rattle.fb_types.specs.Values.{Values}
-use Rattle.fb_types.specs.Blocks.{Bound, bound, among, variable_names}
-use Rattle.fb_types.specs.declared.library.Variable.{Variable}
+use Rattle.fb_types.proofs.Common.{◌≡◌, ◌⊎◌, inl, inr, ⊎_elim, refl, Bool, true, false, cond, List, [], ◌∷◌, ◌++◌, Option, Some, None, All, or_cases, or_parts, or_left, or_right, false_from_ne_true, both_ways, All-nil, All-cons, Name, same_name, Values, Bound, bound, among, variable_names, Variable}
+use Rattle.std.proofs.Common.{filter}
 use Rattle.fb_types.proofs.lemmas.names.NameLaws.{same_from_same_name, same_name-itself}
 use Rattle.fb_laws.specs.Typed.{variable_named}
 

@@ -1,18 +1,10 @@
 -- What an event block remembers gives its data outputs values of their types.
-use Rattle.std.proofs.Common.{◌≡◌, ◌≤◌, ◌<◌, ◌+◌, ℕ, refl, subst, ltb, leb, nat_le, Bool, true, false, cond, List, [], ◌∷◌, Some, codes, arith}
-use Rattle.std.proofs.lemmas.Bool.{ltb-true, lt-ltb, le-leb, and_from}
-use Rattle.fb_types.specs.Names.{Name, same_name}
-use Rattle.fb_types.specs.Values.{Values, fits, whole}
-use Rattle.fb_types.specs.Blocks.{Event, ports_of_event_block, variable}
-use Rattle.fb_types.specs.EventBlocks.{Memory, Idle, Marks, Flag, Running, Count, Reaction, output_of, emits, stays, counted, memory_at_start, reaction, expiry, natural, is}
-use Rattle.fb_types.specs.Reactions.{memory_of}
+use Rattle.fb_types.proofs.Common.{◌≡◌, ◌≤◌, ◌<◌, ◌+◌, ℕ, refl, subst, ltb, leb, nat_le, Bool, true, false, cond, List, [], ◌∷◌, Some, codes, arith, ltb-true, lt-ltb, le-leb, and_from, Name, same_name, Values, fits, whole, Event, ports_of_event_block, Memory, Idle, Marks, Flag, Count, Reaction, counted, reaction, expiry, is, memory_of, EventKind, Delay, Cycle, SetReset, DataLatch, CountUp, Variable, same_Some}
+use Rattle.fb_types.specs.Blocks.{variable}
+use Rattle.fb_types.specs.EventBlocks.{Running, output_of, emits, stays, memory_at_start, natural}
 use Rattle.fb_types.specs.States as states
-use Rattle.fb_types.specs.declared.event_kind.EventKind.{EventKind}
-use Rattle.fb_types.specs.declared.event_kind.EventKind.TheVariants.{Delay, Cycle, SetReset, DataLatch, CountUp}
-use Rattle.fb_types.specs.declared.library.Variable.{Variable}
 use Rattle.fb_types.specs.declared.value.Ty.TheVariants.{Uint, Bool as Boolean}
 use Rattle.fb_types.proofs.lemmas.names.NameLaws.{same_from_same_name}
-use Rattle.std.proofs.lemmas.Option.{same_Some}
 use Rattle.fb_laws.specs.Typed.{variable_named, AllFit, IsTypedMemory}
 
 -- ---- Outputs

@@ -1,34 +1,13 @@
 -- In an accepted declaration each variable begins with a value of its type, and stimuli set such values.
-use Rattle.std.proofs.Common.{◌≡◌, inl, inr, refl, sym, subst, ap, ◌∙◌, true, false, List, [], ◌∷◌, ◌++◌, map, Option, Some, None, Contains, All}
-use Rattle.std.specs.Prelude.{option_and_then, flat_map}
-use Rattle.std.specs.List.{list_all}
-use Rattle.std.proofs.lemmas.Bool.{true_from_ne_false, both_ways}
-use Rattle.std.proofs.lemmas.List.Elements.{All-map, Contains-get_or, Contains-append_left, Contains-append_right}
-use Rattle.fb_types.specs.Names.{Name, Path}
-use Rattle.fb_types.specs.Values.{fits, zero_of}
-use Rattle.fb_types.specs.Blocks.{Kind, Event, ports_of, named, among, variable_names, initial_of, Bound}
-use Rattle.fb_types.specs.Flat.{flat, instance_in, kind_of_instance, network_at, instance_at, kind_at, variables_in, declared_initial, zero_value}
-use Rattle.fb_types.specs.Accepted.{IsGood, is_held, BadStimulus}
-use Rattle.fb_types.specs.Kinds.{KindWrong, declared_right, parameter_right, parameters_right}
-use Rattle.fb_types.specs.Repeated.{OwnedNetwork, networks, basics, interfaces}
-use Rattle.fb_types.specs.Unknown.{Required, required, all_of, required_types, required_withs, required_chart, required_parameters, required_deployment, NameUnknown}
-use Rattle.fb_types.specs.Simulation.{stimulus_of}
-use Rattle.fb_types.specs.declared.event_kind.EventKind.{EventKind}
-use Rattle.fb_types.specs.declared.event_kind.EventKind.TheVariants.{Restart}
-use Rattle.fb_types.specs.declared.library.Library.{Library}
-use Rattle.fb_types.specs.declared.library.Instance.{Instance}
-use Rattle.fb_types.specs.declared.library.Network.{Network}
-use Rattle.fb_types.specs.declared.library.Parameter.{Parameter}
-use Rattle.fb_types.specs.declared.library.Variable.{Variable}
-use Rattle.fb_types.specs.declared.deploy.Plan.{Plan}
-use Rattle.fb_types.specs.declared.deploy.Setting.{Setting}
-use Rattle.fb_types.specs.declared.deploy.Stimulus.{Stimulus}
-use Rattle.fb_types.specs.declared.value.Ty.{Ty}
+use Rattle.fb_types.proofs.Common.{◌≡◌, inl, inr, refl, sym, subst, ap, ◌∙◌, true, false, List, [], ◌∷◌, ◌++◌, map, Option, Some, None, Contains, All, option_and_then, flat_map, list_all, both_ways, All-map, Contains-get_or, Contains-append_left, Contains-append_right, Name, Path, fits, Kind, Event, ports_of, named, among, variable_names, initial_of, Bound, instance_in, kind_of_instance, network_at, instance_at, kind_at, variables_in, zero_value, IsGood, BadStimulus, KindWrong, declared_right, OwnedNetwork, networks, basics, interfaces, Required, required, all_of, required_types, required_withs, required_chart, required_parameters, required_deployment, NameUnknown, stimulus_of, EventKind, Restart, Library, Instance, Network, Parameter, Variable, Plan, Setting, Stimulus, Ty, Value, same_Some}
+use Rattle.std.proofs.lemmas.Bool.{true_from_ne_false}
+use Rattle.fb_types.specs.Values.{zero_of}
+use Rattle.fb_types.specs.Flat.{flat, declared_initial}
+use Rattle.fb_types.specs.Accepted.{is_held}
+use Rattle.fb_types.specs.Kinds.{parameter_right, parameters_right}
 use Rattle.fb_types.specs.declared.value.Ty.TheVariants.{Sint}
-use Rattle.fb_types.specs.declared.value.Value.{Value}
 use Rattle.fb_types.proofs.lemmas.lists.Elements.{Contains-map, Contains-flat_map}
 use Rattle.fb_types.proofs.lemmas.names.NameLaws.{any_from_contains, named-Contains}
-use Rattle.std.proofs.lemmas.Option.{same_Some}
 use Rattle.fb_laws.specs.Typed.{variable_named, FitsAt}
 use Rattle.fb_types.proofs.lemmas.lists.Options.{and_then_parts}
 use Rattle.fb_types.proofs.lemmas.lists.ListTests.{passes_at}

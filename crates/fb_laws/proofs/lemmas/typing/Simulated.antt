@@ -1,19 +1,8 @@
 -- In a simulation each variable holds a value of its type.
-use Rattle.std.proofs.Common.{ℕ, zero, suc, ◌+◌, sym, subst, eqb, Bool, true, false, cond, List, [], ◌∷◌, Option, Some, None, All}
-use Rattle.std.specs.Prelude.{flat_map}
-use Rattle.std.proofs.lemmas.List.Elements.{All-nil, All-cons, All-head, All-tail, All-append, All-push}
-use Rattle.fb_types.specs.Names.{Path, Port}
-use Rattle.fb_types.specs.Blocks.{Kind, Event}
-use Rattle.fb_types.specs.Keys.{or_else, found, changed_to, same_key, timer_key, local_key, without}
-use Rattle.fb_types.specs.Reactions.{Out, Local, Sends, Outcome}
-use Rattle.fb_types.specs.Simulation.{Stimulus, Taken, IsSimulation, Chain, after, opening, opening_state, opening_memory, opening_agenda, opening_events, stimuli_from, restart_of}
-use Rattle.fb_types.specs.States.{State, Meter, Config, Agenda, Event as AnEvent, Expired, Raised, path_of}
-use Rattle.fb_types.specs.Systems.{System}
-use Rattle.fb_types.specs.Takes.{Posts, post, post_all, posts_of, timer_change, is_timer_of, Effect, put_of, world_of, effect_of, TakesWith, Takes, begun, agenda_after}
-use Rattle.fb_types.specs.declared.event_kind.EventKind.TheVariants.{Restart}
-use Rattle.fb_types.specs.declared.key.Key.{Key}
-use Rattle.fb_types.specs.declared.run.TimerAsk.{TimerAsk}
-use Rattle.fb_types.specs.declared.run.TimerAsk.TheVariants.{Keep, Clear, At}
+use Rattle.fb_types.proofs.Common.{ℕ, zero, suc, ◌+◌, sym, subst, eqb, Bool, true, false, cond, List, [], ◌∷◌, Option, Some, None, All, flat_map, All-nil, All-cons, All-head, All-tail, All-append, All-push, Path, Port, Kind, Event, or_else, found, changed_to, same_key, timer_key, local_key, without, Out, Sends, Outcome, Taken, IsSimulation, Chain, after, opening, opening_state, opening_events, stimuli_from, restart_of, State, Meter, Config, Agenda, Expired, Raised, path_of, System, Posts, post, post_all, posts_of, timer_change, is_timer_of, Effect, put_of, world_of, effect_of, TakesWith, Takes, begun, agenda_after, Restart, Key, TimerAsk, Keep, Clear, At}
+use Rattle.fb_types.specs.Reactions.{Local}
+use Rattle.fb_types.specs.Simulation.{Stimulus, opening_memory, opening_agenda}
+use Rattle.fb_types.specs.States.{Event as AnEvent}
 use Rattle.fb_laws.specs.Typed.{FitsAt, AreTyped, IsTypedMemory, IsTypedEvent, IsTypedOut, IsTypedSystem}
 use Rattle.fb_laws.specs.Simulations.{BeginsTyped, IsTypedStimulus, IsTypedState, IsTypedTaking}
 use Rattle.fb_laws.proofs.lemmas.typing.Values.{port-found, input-found}

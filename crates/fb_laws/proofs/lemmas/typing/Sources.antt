@@ -1,26 +1,10 @@
 -- In an accepted declaration sources fit what they feed, and the name of an output is that of no other variable.
-use Rattle.std.proofs.Common.{◌≡◌, ◌⊎◌, inl, inr, ⊎_elim, refl, sym, subst, ap, ◌∙◌, Bool, true, false, cond, ◌&&◌, List, [], ◌∷◌, ◌++◌, Option, Some, None, Contains, codes}
-use Rattle.std.specs.Prelude.{option_map}
-use Rattle.std.specs.List.{list_all}
-use Rattle.std.proofs.lemmas.Bool.{and_parts, true_from_ne_false, both_ways}
-use Rattle.std.proofs.lemmas.List.Elements.{Contains-append_right}
-use Rattle.fb_types.specs.Names.{Name, Path, Port, same_name}
-use Rattle.fb_types.specs.Values.{fits}
-use Rattle.fb_types.specs.Blocks.{Kind, ports_of, ports_of_event_block, event_names, variable_names, variable}
-use Rattle.fb_types.specs.Flat.{flat, port_in, kind_of, kind_at, source_of, variables_in}
-use Rattle.fb_types.specs.Joined.{type_among, type_at_end, OutOfRange}
-use Rattle.fb_types.specs.Repeated.{Twice, OwnedNetwork, networks, NameTwice}
-use Rattle.fb_types.specs.Unknown.{is_end, data_ins, data_outs, event_ins, event_outs, ends_known}
-use Rattle.fb_types.specs.declared.event_kind.EventKind.{EventKind}
-use Rattle.fb_types.specs.declared.event_kind.EventKind.TheVariants.{SetReset, DataLatch, CountUp}
-use Rattle.fb_types.specs.declared.library.Library.{Library}
-use Rattle.fb_types.specs.declared.library.BlockType.{BlockType}
+use Rattle.fb_types.proofs.Common.{◌≡◌, ◌⊎◌, inl, inr, ⊎_elim, refl, sym, subst, ap, ◌∙◌, Bool, true, false, cond, ◌&&◌, List, [], ◌∷◌, ◌++◌, Option, Some, None, Contains, codes, option_map, list_all, and_parts, both_ways, Contains-append_right, Name, Path, Port, same_name, fits, Kind, ports_of, ports_of_event_block, event_names, variable_names, port_in, kind_of, kind_at, source_of, variables_in, OutOfRange, Twice, OwnedNetwork, networks, NameTwice, is_end, data_ins, data_outs, event_ins, event_outs, ends_known, EventKind, SetReset, DataLatch, CountUp, Library, BlockType, Connection, PortName, Ports, Variable, Plan, none-some}
+use Rattle.std.proofs.lemmas.Bool.{true_from_ne_false}
+use Rattle.fb_types.specs.Blocks.{variable}
+use Rattle.fb_types.specs.Flat.{flat}
+use Rattle.fb_types.specs.Joined.{type_among, type_at_end}
 use Rattle.fb_types.specs.declared.library.BlockType.TheVariants as block
-use Rattle.fb_types.specs.declared.library.Connection.{Connection}
-use Rattle.fb_types.specs.declared.library.PortName.{PortName}
-use Rattle.fb_types.specs.declared.library.Ports.{Ports}
-use Rattle.fb_types.specs.declared.library.Variable.{Variable}
-use Rattle.fb_types.specs.declared.deploy.Plan.{Plan}
 use Rattle.fb_types.specs.declared.value.Ty.TheVariants.{Uint, Bool as Boolean}
 use Rattle.fb_types.proofs.lemmas.lists.TwiceLaws.{Twice-append_left, Twice-both}
 use Rattle.fb_types.proofs.lemmas.lists.Elements.{Contains-map}
@@ -29,7 +13,6 @@ use Rattle.fb_check_names.proofs.lemmas.twice.NameTwice.{block_twice}
 use Rattle.fb_check_names.specs.GivenTwice.{BlockTwice, names_of_ports}
 use Rattle.fb_laws.specs.Typed.{variable_named, IsFitting}
 use Rattle.fb_types.proofs.lemmas.lists.ListTests.{passes_at}
-use Rattle.std.proofs.lemmas.Option.{none-some}
 use Rattle.fb_laws.proofs.lemmas.typing.DeclaredVariables.{IsNamed, named-among, named-front, named-back}
 use Rattle.fb_laws.proofs.lemmas.typing.Values.{kind_one, port_variables, port-found}
 use Rattle.fb_laws.proofs.lemmas.typing.Declared.{IsDeclared, kind-declared, IsNetworkAt, network-declared, named-name}

@@ -1,14 +1,7 @@
 -- Changes of a world that keep its types.
-use Rattle.std.proofs.Common.{◌≡◌, ℕ, refl, sym, subst, ap, ◌∙◌, eqb, Bool, true, false, cond, List, [], ◌∷◌, ◌++◌, Some, All}
-use Rattle.std.proofs.lemmas.List.Elements.{All-head, All-tail, All-weaker}
-use Rattle.fb_types.specs.Names.{Path, same_path, Port, same_port}
-use Rattle.fb_types.specs.Values.{fits}
-use Rattle.fb_types.specs.Blocks.{Kind, ports_of, Bound, is_input}
-use Rattle.fb_types.specs.States.{Block}
-use Rattle.fb_types.specs.Systems.{System}
-use Rattle.fb_types.specs.Reactions.{World, with_block, with_held, with_slots, hold_all, seen, shown}
-use Rattle.fb_types.specs.declared.library.Variable.{Variable}
-use Rattle.fb_types.specs.declared.value.Value.{Value}
+use Rattle.fb_types.proofs.Common.{◌≡◌, ℕ, refl, sym, subst, ap, ◌∙◌, eqb, Bool, true, false, cond, List, [], ◌∷◌, ◌++◌, Some, All, All-head, All-tail, All-weaker, Path, same_path, Port, same_port, fits, Kind, ports_of, Bound, Block, System, World, with_block, with_slots, hold_all, shown, Variable, Value}
+use Rattle.fb_types.specs.Blocks.{is_input}
+use Rattle.fb_types.specs.Reactions.{with_held, seen}
 use Rattle.fb_types.proofs.lemmas.names.PathLaws.{same_path_is, same_port_is}
 use Rattle.fb_laws.specs.Typed.{variable_named, IsTypedBlock, FitsAt, AreTyped, IsTypedSystem}
 use Rattle.fb_laws.proofs.lemmas.typing.DeclaredVariables.{named-not_among, named-back}

@@ -1,5 +1,4 @@
-use Rattle.std.proofs.Common.{◌≡◌, take}
-use Rattle.fb_types.specs.Flat.{latency_at}
+use Rattle.fb_types.proofs.Common.{◌≡◌, take, latency_at}
 use Rattle.fb_link.proofs.arrivals.latency_at.Given as goal
 
 abbrev pub invariant-loop-entry : goal.invariant-loop-entry

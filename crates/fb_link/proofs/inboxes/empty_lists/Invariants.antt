@@ -1,7 +1,5 @@
-use Rattle.std.proofs.Common.{◌≡◌, ℕ, [], length, Some, Vec}
-use Rattle.std.specs.Prelude.{slice_get}
-use Rattle.std.specs.declared.alloc.Global.{Global}
-use Rattle.fb_types.specs.declared.run.Message.{Message}
+use Rattle.fb_types.proofs.Common.{◌≡◌, ℕ, [], length, Some, slice_get, Global, Message}
+use Rattle.std.proofs.Common.{Vec}
 use Rattle.fb_link.proofs.inboxes.empty_lists.Given as goal
 
 abbrev pub invariant-loop : goal.invariant-loop

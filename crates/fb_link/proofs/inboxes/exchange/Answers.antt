@@ -1,11 +1,6 @@
-use Rattle.std.proofs.Common.{◌≡◌, ◌<◌, ◌≤◌, ◌++◌, [], ◌∷◌, All, Vec, length, refl, sym, ap, subst, ◌∙◌, append_assoc, append-nil, arith}
-use Rattle.std.specs.declared.alloc.Global.{Global}
-use Rattle.std.specs.Vec.Iter.{into_iter_items}
-use Rattle.std.proofs.lemmas.List.{length-set, nil_from_length}
-use Rattle.std.proofs.lemmas.Option.{slice_get_read}
-use Rattle.fb_types.specs.Headline.{system_of}
+use Rattle.fb_types.proofs.Common.{◌≡◌, ◌<◌, ◌≤◌, ◌++◌, [], ◌∷◌, All, length, refl, sym, ap, subst, ◌∙◌, append_assoc, append-nil, arith, Global, into_iter_items, length-set, nil_from_length, slice_get_read, system_of, Message}
+use Rattle.std.proofs.Common.{Vec}
 use Rattle.fb_link.specs.Exchanges.{all_of, AreDealt}
-use Rattle.fb_types.specs.declared.run.Message.{Message}
 use Rattle.fb_link.proofs.lemmas.Dealt.{all_snoc, sorted_all, sorted_more, sorted_none}
 use Rattle.fb_link.proofs.lemmas.Lists.{next_of}
 use Rattle.fb_link.proofs.inboxes.exchange.Goals as goal

@@ -1,6 +1,4 @@
-use Rattle.std.proofs.Common.{◌≡◌, ◌++◌, length}
-use Rattle.std.specs.Vec.Iter.{into_iter_items, into_iter_len}
-use Rattle.fb_types.specs.Headline.{system_of}
+use Rattle.fb_types.proofs.Common.{◌≡◌, ◌++◌, length, into_iter_items, into_iter_len, system_of}
 use Rattle.fb_link.specs.Exchanges.{all_of, AreDealt}
 use Rattle.fb_link.proofs.lemmas.Dealt.{AreSortedTo}
 use Rattle.fb_link.proofs.inboxes.exchange.Given as goal

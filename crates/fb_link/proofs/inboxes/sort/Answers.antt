@@ -1,6 +1,4 @@
-use Rattle.std.proofs.Common.{rules}
-use Rattle.std.proofs.lemmas.List.Sorted.{answers_always}
-use Rattle.std.proofs.lemmas.Result.{on_ok_weaker}
+use Rattle.fb_types.proofs.Common.{rules, answers_always, on_ok_weaker}
 use Rattle.fb_link.proofs.lemmas.Exchanged.{index_of, sorted}
 use Rattle.fb_link.proofs.inboxes.sort.Goals as goal
 

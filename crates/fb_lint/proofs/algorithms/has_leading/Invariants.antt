@@ -1,5 +1,4 @@
-use Rattle.std.proofs.Common.{◌≡◌, drop}
-use Rattle.std.specs.List.{list_any}
+use Rattle.fb_types.proofs.Common.{◌≡◌, drop, list_any}
 use Rattle.fb_lint.specs.Reads.{chart_of, leads_unsampled}
 use Rattle.fb_lint.proofs.algorithms.has_leading.Given as goal
 

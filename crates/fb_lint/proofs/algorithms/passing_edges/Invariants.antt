@@ -1,5 +1,4 @@
-use Rattle.std.proofs.Common.{◌≡◌, ◌++◌, drop, map}
-use Rattle.std.specs.List.{filter}
+use Rattle.fb_types.proofs.Common.{◌≡◌, ◌++◌, drop, map, filter}
 use Rattle.fb_lint.specs.Reached.{edge_of, edges_are}
 use Rattle.fb_lint.specs.Reads.{passes_by}
 use Rattle.fb_lint.proofs.algorithms.passing_edges.Given as goal

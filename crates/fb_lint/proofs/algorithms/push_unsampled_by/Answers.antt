@@ -1,7 +1,5 @@
-use Rattle.std.proofs.Common.{◌++◌, Bool, ◌∙◌, ap}
-use Rattle.fb_lint.specs.Findings.{when}
+use Rattle.fb_lint.proofs.lemmas.Common.{◌++◌, Bool, ◌∙◌, ap, when, meant_all}
 use Rattle.fb_lint.specs.declared.warning.Warning.TheVariants.{UnsampledInAlgorithm}
-use Rattle.fb_check.specs.types.Mentions.{meant_all}
 use Rattle.fb_lint.specs.Reads as spec
 use Rattle.fb_lint.proofs.lemmas.WarningLists.{all_found, next_found}
 use Rattle.fb_lint.proofs.algorithms.push_unsampled_by.Goals as goal

@@ -1,5 +1,4 @@
-use Rattle.std.proofs.Common.{Option, sym, ◌∙◌, ap}
-use Rattle.fb_types.specs.Names.{Name}
+use Rattle.fb_types.proofs.Common.{Option, sym, ◌∙◌, ap, Name}
 use Rattle.fb_lint.specs.Charts as spec
 use Rattle.fb_lint.proofs.charts.is_met_with.Goals as goal
 

@@ -1,5 +1,4 @@
-use Rattle.std.proofs.Common.{◌++◌, Bool, not, ◌∙◌, ap}
-use Rattle.fb_lint.specs.Findings.{when}
+use Rattle.fb_lint.proofs.lemmas.Common.{◌++◌, Bool, not, ◌∙◌, ap, when}
 use Rattle.fb_lint.specs.declared.warning.Warning.TheVariants.{FinalState}
 use Rattle.fb_lint.specs.Charts as spec
 use Rattle.fb_lint.proofs.lemmas.WarningLists.{all_found, next_found}

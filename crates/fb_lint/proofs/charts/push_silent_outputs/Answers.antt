@@ -1,6 +1,4 @@
-use Rattle.std.proofs.Common.{◌++◌, Bool, not, ◌∙◌, ap}
-use Rattle.fb_lint.specs.Findings.{when}
-use Rattle.fb_lint.specs.declared.warning.Warning.TheVariants.{UnusedPort}
+use Rattle.fb_lint.proofs.lemmas.Common.{◌++◌, Bool, not, ◌∙◌, ap, when, UnusedPort}
 use Rattle.fb_check_names.specs.declared.ports.PortKind.TheVariants as kind
 use Rattle.fb_lint.specs.Charts as spec
 use Rattle.fb_lint.proofs.lemmas.WarningLists.{all_found, next_found}

@@ -1,5 +1,4 @@
-use Rattle.std.proofs.Common.{◌≡◌, ◌++◌, drop}
-use Rattle.fb_lint.specs.Findings.{each_from}
+use Rattle.fb_lint.proofs.lemmas.Common.{◌≡◌, ◌++◌, drop, each_from}
 use Rattle.fb_lint.specs.Charts as spec
 use Rattle.fb_lint.proofs.charts.push_unused_algorithms.Given as goal
 

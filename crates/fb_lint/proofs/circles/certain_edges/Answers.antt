@@ -1,6 +1,5 @@
-use Rattle.std.proofs.Common.{◌++◌, Bool, ◌∙◌, ap}
+use Rattle.fb_lint.proofs.lemmas.Common.{◌++◌, Bool, ◌∙◌, ap, edges_are}
 use Rattle.fb_lint.specs.Circles.{certain_edge, edge_if}
-use Rattle.fb_lint.specs.Reached.{edges_are}
 use Rattle.fb_lint.proofs.lemmas.WarningLists.{all_found, next_found}
 use Rattle.fb_lint.proofs.circles.certain_edges.Goals as goal
 

@@ -1,7 +1,5 @@
-use Rattle.std.proofs.Common.{◌≡◌, ◌++◌, drop}
+use Rattle.fb_lint.proofs.lemmas.Common.{◌≡◌, ◌++◌, drop, each_from, edges_are}
 use Rattle.fb_lint.specs.Circles.{certain_edge, certain_edges}
-use Rattle.fb_lint.specs.Findings.{each_from}
-use Rattle.fb_lint.specs.Reached.{edges_are}
 use Rattle.fb_lint.proofs.circles.certain_edges.Given as goal
 
 -- with the edges of the rest, all are there

@@ -1,7 +1,5 @@
-use Rattle.std.proofs.Common.{◌≡◌, drop}
-use Rattle.std.specs.List.{list_any}
+use Rattle.fb_lint.proofs.lemmas.Common.{◌≡◌, drop, list_any, edges_are}
 use Rattle.fb_lint.specs.Circles.{leads_back}
-use Rattle.fb_lint.specs.Reached.{edges_are}
 use Rattle.fb_lint.proofs.circles.goes_round.Given as goal
 
 abbrev pub invariant-loop-edge : goal.invariant-loop-edge

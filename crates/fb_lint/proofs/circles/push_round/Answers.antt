@@ -1,6 +1,4 @@
-use Rattle.fb_lint.specs.Reached.{edges_are}
-use Rattle.std.proofs.Common.{◌++◌, Bool, ◌∙◌, ap}
-use Rattle.fb_lint.specs.Findings.{when}
+use Rattle.fb_lint.proofs.lemmas.Common.{edges_are, ◌++◌, Bool, ◌∙◌, ap, when}
 use Rattle.fb_lint.specs.declared.warning.Warning.TheVariants.{EndlessState}
 use Rattle.fb_lint.specs.Circles as spec
 use Rattle.fb_lint.proofs.lemmas.WarningLists.{all_found, next_found}

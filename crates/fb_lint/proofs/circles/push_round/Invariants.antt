@@ -1,6 +1,4 @@
-use Rattle.std.proofs.Common.{◌≡◌, ◌++◌, drop}
-use Rattle.fb_lint.specs.Findings.{each_from}
-use Rattle.fb_lint.specs.Reached.{edges_are}
+use Rattle.fb_lint.proofs.lemmas.Common.{◌≡◌, ◌++◌, drop, each_from, edges_are}
 use Rattle.fb_lint.specs.Circles as spec
 use Rattle.fb_lint.proofs.circles.push_round.Given as goal
 

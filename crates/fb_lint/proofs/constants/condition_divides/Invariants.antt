@@ -1,5 +1,4 @@
-use Rattle.std.proofs.Common.{◌≡◌, drop}
-use Rattle.fb_check.specs.types.Trees.{choices_of}
+use Rattle.fb_lint.proofs.lemmas.Common.{◌≡◌, drop, choices_of}
 use Rattle.fb_lint.specs.Constants.{condition_divides}
 use Rattle.fb_lint.proofs.constants.condition_divides.Given as goal
 

@@ -1,7 +1,5 @@
-use Rattle.std.proofs.Common.{◌++◌, List, sym, ◌∙◌, ap}
-use Rattle.fb_check.specs.types.Statements.{standing_of}
+use Rattle.fb_lint.proofs.lemmas.Common.{◌++◌, List, sym, ◌∙◌, ap, standing_of, Warning}
 use Rattle.fb_lint.specs.Constants as spec
-use Rattle.fb_lint.specs.declared.warning.Warning.{Warning}
 use Rattle.fb_lint.proofs.lemmas.WarningLists.{all_found, each_from-map, next_found}
 use Rattle.fb_lint.proofs.constants.push_constants.Goals as goal
 

@@ -1,5 +1,4 @@
-use Rattle.std.proofs.Common.{◌≡◌, ◌++◌, drop}
-use Rattle.fb_lint.specs.Findings.{each_from}
+use Rattle.fb_lint.proofs.lemmas.Common.{◌≡◌, ◌++◌, drop, each_from}
 use Rattle.fb_lint.specs.Constants as spec
 use Rattle.fb_lint.proofs.constants.push_dividing_guards.Given as goal
 

@@ -1,6 +1,4 @@
-use Rattle.std.proofs.Common.{◌≡◌, drop}
-use Rattle.std.specs.List.{list_any}
-use Rattle.fb_check.specs.types.Mentions.{meant_all}
+use Rattle.fb_lint.proofs.lemmas.Common.{◌≡◌, drop, list_any, meant_all}
 use Rattle.fb_lint.specs.Events.{is_own}
 use Rattle.fb_lint.proofs.events.has_own.Given as goal
 

@@ -1,5 +1,4 @@
-use Rattle.std.proofs.Common.{◌≡◌, drop}
-use Rattle.std.specs.List.{list_any}
+use Rattle.fb_types.proofs.Common.{◌≡◌, drop, list_any}
 use Rattle.fb_lint.specs.Interfaces.{is_input_joined}
 use Rattle.fb_lint.proofs.interfaces.has_joined.Given as goal
 

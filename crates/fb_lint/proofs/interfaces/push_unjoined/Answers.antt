@@ -1,8 +1,4 @@
-use Rattle.std.proofs.Common.{◌++◌, Bool, not, ◌∙◌, ap}
-use Rattle.std.specs.List.{list_any}
-use Rattle.fb_types.specs.Names.{Name}
-use Rattle.fb_lint.specs.Findings.{when}
-use Rattle.fb_lint.specs.declared.warning.Warning.TheVariants.{UnusedPort}
+use Rattle.fb_lint.proofs.lemmas.Common.{◌++◌, Bool, not, ◌∙◌, ap, list_any, Name, when, UnusedPort}
 use Rattle.fb_lint.specs.Interfaces as spec
 use Rattle.fb_lint.proofs.lemmas.WarningLists.{all_found, next_found}
 use Rattle.fb_lint.proofs.interfaces.push_unjoined.Goals as goal

@@ -1,5 +1,4 @@
-use Rattle.std.proofs.Common.{◌++◌, Bool, ◌∙◌, ap}
-use Rattle.fb_lint.specs.Findings.{when}
+use Rattle.fb_lint.proofs.lemmas.Common.{◌++◌, Bool, ◌∙◌, ap, when}
 use Rattle.fb_lint.specs.declared.warning.Warning.TheVariants.{UnsampledInput}
 use Rattle.fb_lint.specs.Interfaces as spec
 use Rattle.fb_lint.proofs.lemmas.WarningLists.{all_found, next_found}

@@ -1,6 +1,4 @@
-use Rattle.std.proofs.Common.{◌≡◌, ◌++◌, sym, ◌∙◌, ap}
-use Rattle.fb_types.specs.Flat.{type_name}
-use Rattle.fb_types.specs.Names.{Name}
+use Rattle.fb_types.proofs.Common.{◌≡◌, ◌++◌, sym, ◌∙◌, ap, type_name, Name}
 use Rattle.fb_lint.specs.Warnings as spec
 use Rattle.fb_lint.proofs.lemmas.WarningLists.{two_found}
 use Rattle.fb_lint.proofs.lint.push_of_block.Goals as goal

@@ -1,8 +1,6 @@
-use Rattle.std.proofs.Common.{◌≡◌, ◌++◌, ◌∙◌, ap}
+use Rattle.fb_lint.proofs.lemmas.Common.{◌≡◌, ◌++◌, ◌∙◌, ap, meant_all, names_are}
 use Rattle.fb_check_names.specs.declared.ports.PortKind.TheVariants as kind
-use Rattle.fb_check.specs.types.Mentions.{meant_all}
 use Rattle.fb_lint.specs.Charts.{silent_outputs}
-use Rattle.fb_lint.specs.Findings.{names_are}
 use Rattle.fb_lint.specs.Reads.{assigned, mentions_of, unassigned_events, unmentioned_variables}
 use Rattle.fb_lint.proofs.lemmas.WarningLists.{four_found}
 use Rattle.fb_lint.proofs.lint.push_of_ports.Goals as goal

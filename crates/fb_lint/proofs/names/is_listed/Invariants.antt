@@ -1,6 +1,4 @@
-use Rattle.std.proofs.Common.{◌≡◌, drop}
-use Rattle.fb_types.specs.Blocks.{among}
-use Rattle.fb_lint.specs.Findings.{names_are}
+use Rattle.fb_lint.proofs.lemmas.Common.{◌≡◌, drop, among, names_are}
 use Rattle.fb_lint.proofs.names.is_listed.Given as goal
 
 abbrev pub invariant-loop-listed : goal.invariant-loop-listed

@@ -1,5 +1,4 @@
-use Rattle.std.proofs.Common.{◌≡◌, drop}
-use Rattle.std.specs.List.{list_any}
+use Rattle.fb_types.proofs.Common.{◌≡◌, drop, list_any}
 use Rattle.fb_lint.specs.Networks.{is_of_type}
 use Rattle.fb_lint.proofs.networks.has_instance.Given as goal
 

@@ -1,5 +1,4 @@
-use Rattle.std.proofs.Common.{◌≡◌, drop}
-use Rattle.std.specs.List.{list_any}
+use Rattle.fb_types.proofs.Common.{◌≡◌, drop, list_any}
 use Rattle.fb_lint.specs.Networks.{comes_from}
 use Rattle.fb_lint.proofs.networks.is_read_at.Given as goal
 

@@ -1,5 +1,4 @@
-use Rattle.std.proofs.Common.{◌≡◌, drop}
-use Rattle.std.specs.List.{list_any}
+use Rattle.fb_types.proofs.Common.{◌≡◌, drop, list_any}
 use Rattle.fb_lint.specs.Outputs.{is_instance}
 use Rattle.fb_lint.proofs.outputs.is_instance_of.Given as goal
 

@@ -1,5 +1,4 @@
-use Rattle.std.proofs.Common.{map, ◌∙◌, ap}
-use Rattle.std.proofs.lemmas.List.{take_all}
+use Rattle.fb_types.proofs.Common.{map, ◌∙◌, ap, take_all}
 use Rattle.fb_types.proofs.lemmas.lists.LoopSteps.{mapped_next}
 use Rattle.fb_lint.specs.Positions.{position_of}
 use Rattle.fb_lint.proofs.positions.positions_of.Goals as goal

@@ -1,6 +1,4 @@
-use Rattle.std.proofs.Common.{◌≡◌, ℕ, ◌+◌, ◌<◌, ◌≤◌, Bool, true, false, cond, not, List, [], ◌∷◌, ◌++◌, drop, get_or, length, append_assoc, append-nil, refl, sym, ◌∙◌, ap}
-use Rattle.std.proofs.lemmas.List.{at_drop_all, at_drop_more, map-append}
-use Rattle.fb_types.specs.Names.{Name, same_name}
+use Rattle.fb_types.proofs.Common.{◌≡◌, ℕ, ◌+◌, ◌<◌, ◌≤◌, Bool, true, false, cond, not, List, [], ◌∷◌, ◌++◌, drop, get_or, length, append_assoc, append-nil, refl, sym, ◌∙◌, ap, at_drop_all, at_drop_more, map-append, Name, same_name}
 use Rattle.fb_lint.specs.Findings.{names_are}
 use Rattle.fb_lint.specs.Reached.{Edge, edge_is, edges_are}
 use Rattle.fb_lint.specs.declared.reached.Edge as code

@@ -1,6 +1,4 @@
-use Rattle.std.proofs.Common.{◌≡◌, ◌++◌, drop}
-use Rattle.fb_lint.specs.Findings.{names_are}
-use Rattle.fb_lint.specs.Reached.{edges_are}
+use Rattle.fb_lint.proofs.lemmas.Common.{◌≡◌, ◌++◌, drop, names_are, edges_are}
 use Rattle.fb_lint.proofs.lemmas.ReachedStates.{ends, leaving, staying}
 use Rattle.fb_lint.proofs.reached.follow.Given as goal
 

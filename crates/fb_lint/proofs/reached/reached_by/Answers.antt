@@ -1,7 +1,5 @@
-use Rattle.std.proofs.Common.{◌∷◌, ◌++◌, ◌∙◌, Bor, List, [], ℕ, ap, refl, arith}
-use Rattle.std.proofs.lemmas.List.{map-append}
-use Rattle.fb_lint.specs.Findings.{names_are}
-use Rattle.fb_lint.specs.Reached.{edges_are}
+use Rattle.fb_lint.proofs.lemmas.Common.{◌∷◌, ◌++◌, ◌∙◌, List, [], ℕ, ap, refl, arith, names_are, edges_are}
+use Rattle.fb_types.proofs.Common.{Bor, map-append}
 use Rattle.fb_lint.specs.declared.reached.Edge.{Edge}
 use Rattle.fb_lint.proofs.lemmas.ReachedStates.{ends, fewer, leaving, nothing, reaching_all_at, reaching_first_at, reaching_next_at, staying}
 use Rattle.fb_lint.proofs.reached.reached_by.Goals as goal

@@ -1,6 +1,5 @@
-use Rattle.std.proofs.Common.{◌+◌, ◌*◌, length}
-use Rattle.fb_lint.specs.Findings.{names_are}
-use Rattle.fb_lint.specs.Reached.{edges_are}
+use Rattle.fb_lint.proofs.lemmas.Common.{◌+◌, length, names_are, edges_are}
+use Rattle.std.proofs.Common.{◌*◌}
 use Rattle.fb_lint.proofs.lemmas.ReachedStates.{Reaching}
 use Rattle.fb_lint.proofs.reached.reached_by.Given as goal
 

@@ -1,6 +1,4 @@
-use Rattle.std.proofs.Common.{◌≡◌, drop}
-use Rattle.std.specs.List.{list_any}
-use Rattle.fb_check.specs.types.Mentions.{meant_all}
+use Rattle.fb_lint.proofs.lemmas.Common.{◌≡◌, drop, list_any, meant_all}
 use Rattle.fb_lint.specs.Reads.{is_variable}
 use Rattle.fb_lint.proofs.reads.is_mentioned.Given as goal
 

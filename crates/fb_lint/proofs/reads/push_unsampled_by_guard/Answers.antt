@@ -1,7 +1,5 @@
-use Rattle.std.proofs.Common.{◌++◌, Bool, ◌∙◌, ap}
-use Rattle.fb_lint.specs.Findings.{when}
+use Rattle.fb_lint.proofs.lemmas.Common.{◌++◌, Bool, ◌∙◌, ap, when, meant_all}
 use Rattle.fb_lint.specs.declared.warning.Warning.TheVariants.{UnsampledInGuard}
-use Rattle.fb_check.specs.types.Mentions.{meant_all}
 use Rattle.fb_lint.specs.Reads as spec
 use Rattle.fb_lint.proofs.lemmas.WarningLists.{all_found, next_found}
 use Rattle.fb_lint.proofs.reads.push_unsampled_by_guard.Goals as goal

@@ -1,6 +1,4 @@
-use Rattle.std.proofs.Common.{◌≡◌, ◌++◌, drop}
-use Rattle.fb_check.specs.types.Mentions.{meant_all}
-use Rattle.fb_check.specs.types.Trees.{choices_of}
+use Rattle.fb_lint.proofs.lemmas.Common.{◌≡◌, ◌++◌, drop, meant_all, choices_of}
 use Rattle.fb_lint.specs.Statements.{read_by_conditions}
 use Rattle.fb_lint.proofs.statements.push_conditions.Given as goal
 

@@ -1,7 +1,4 @@
-use Rattle.std.proofs.Common.{List, refl}
-use Rattle.fb_types.specs.declared.library.Algorithm.{Algorithm}
-use Rattle.std.specs.Prelude.{flat_map}
-use Rattle.fb_check.specs.types.Mentions.{meant_all}
+use Rattle.fb_lint.proofs.lemmas.Common.{List, refl, Algorithm, flat_map, meant_all}
 use Rattle.fb_lint.specs.Statements.{read_in}
 use Rattle.fb_check.proofs.lemmas.types.GrowingLists.{list_added, one_added}
 use Rattle.fb_lint.proofs.statements.push_read_algorithms.Goals as goal

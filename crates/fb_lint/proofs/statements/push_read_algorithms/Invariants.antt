@@ -1,6 +1,4 @@
-use Rattle.std.proofs.Common.{◌≡◌, ◌++◌, drop}
-use Rattle.std.specs.Prelude.{flat_map}
-use Rattle.fb_check.specs.types.Mentions.{meant_all}
+use Rattle.fb_lint.proofs.lemmas.Common.{◌≡◌, ◌++◌, drop, flat_map, meant_all}
 use Rattle.fb_lint.specs.Statements.{read_in}
 use Rattle.fb_lint.proofs.statements.push_read_algorithms.Given as goal
 

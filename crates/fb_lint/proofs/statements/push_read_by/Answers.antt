@@ -1,8 +1,5 @@
-use Rattle.std.proofs.Common.{List, refl}
-use Rattle.fb_check.specs.types.Statements.{standing_of, all_standing}
+use Rattle.fb_lint.proofs.lemmas.Common.{List, refl, flat_map, standing_of, all_standing, meant_all}
 use Rattle.fb_check.specs.declared.types.statements.Standing.{Standing}
-use Rattle.std.specs.Prelude.{flat_map}
-use Rattle.fb_check.specs.types.Mentions.{meant_all}
 use Rattle.fb_lint.specs.Statements.{read_standing}
 use Rattle.fb_check.proofs.lemmas.types.GrowingLists.{list_added, one_added}
 use Rattle.fb_lint.proofs.statements.push_read_by.Goals as goal

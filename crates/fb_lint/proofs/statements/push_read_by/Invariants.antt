@@ -1,7 +1,4 @@
-use Rattle.std.proofs.Common.{◌≡◌, ◌++◌, drop}
-use Rattle.std.specs.Prelude.{flat_map}
-use Rattle.fb_check.specs.types.Mentions.{meant_all}
-use Rattle.fb_check.specs.types.Statements.{all_standing}
+use Rattle.fb_lint.proofs.lemmas.Common.{◌≡◌, ◌++◌, drop, flat_map, meant_all, all_standing}
 use Rattle.fb_lint.specs.Statements.{read_standing}
 use Rattle.fb_lint.proofs.statements.push_read_by.Given as goal
 

@@ -1,9 +1,6 @@
-use Rattle.std.proofs.Common.{◌++◌, Bool, List, sym, ◌∙◌, ap}
-use Rattle.fb_lint.specs.Findings.{when}
+use Rattle.fb_lint.proofs.lemmas.Common.{◌++◌, Bool, List, sym, ◌∙◌, ap, when, standing_of, Warning}
 use Rattle.fb_lint.specs.declared.warning.Warning.TheVariants.{RepeatedLabel}
-use Rattle.fb_check.specs.types.Statements.{standing_of}
 use Rattle.fb_lint.specs.Statements as spec
-use Rattle.fb_lint.specs.declared.warning.Warning.{Warning}
 use Rattle.fb_lint.proofs.lemmas.WarningLists.{all_found, each_from-map, next_found}
 use Rattle.fb_lint.proofs.statements.push_repeated.Goals as goal
 

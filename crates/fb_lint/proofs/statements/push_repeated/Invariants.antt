@@ -1,6 +1,4 @@
-use Rattle.std.proofs.Common.{◌≡◌, ◌++◌, drop}
-use Rattle.fb_check.specs.types.Statements.{standing_of}
-use Rattle.fb_lint.specs.Findings.{each_from}
+use Rattle.fb_lint.proofs.lemmas.Common.{◌≡◌, ◌++◌, drop, standing_of, each_from}
 use Rattle.fb_lint.specs.Statements as spec
 use Rattle.fb_lint.proofs.statements.push_repeated.Given as goal
 

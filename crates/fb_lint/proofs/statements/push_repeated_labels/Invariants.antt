@@ -1,5 +1,4 @@
-use Rattle.std.proofs.Common.{◌≡◌, ◌++◌, drop}
-use Rattle.fb_lint.specs.Findings.{each_from}
+use Rattle.fb_lint.proofs.lemmas.Common.{◌≡◌, ◌++◌, drop, each_from}
 use Rattle.fb_lint.specs.Statements as spec
 use Rattle.fb_lint.proofs.statements.push_repeated_labels.Given as goal
 

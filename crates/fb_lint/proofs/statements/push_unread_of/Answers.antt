@@ -1,7 +1,5 @@
-use Rattle.std.proofs.Common.{◌++◌, Bool, not, ◌∙◌, ap}
-use Rattle.fb_lint.specs.Findings.{when}
+use Rattle.fb_lint.proofs.lemmas.Common.{◌++◌, Bool, not, ◌∙◌, ap, when, meant_all}
 use Rattle.fb_lint.specs.declared.warning.Warning.TheVariants.{UnreadInternal}
-use Rattle.fb_check.specs.types.Mentions.{meant_all}
 use Rattle.fb_lint.specs.Statements as spec
 use Rattle.fb_lint.proofs.lemmas.WarningLists.{all_found, next_found}
 use Rattle.fb_lint.proofs.statements.push_unread_of.Goals as goal

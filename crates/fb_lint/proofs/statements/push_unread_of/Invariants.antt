@@ -1,6 +1,4 @@
-use Rattle.std.proofs.Common.{◌≡◌, ◌++◌, drop}
-use Rattle.fb_lint.specs.Findings.{each_from}
-use Rattle.fb_check.specs.types.Mentions.{meant_all}
+use Rattle.fb_lint.proofs.lemmas.Common.{◌≡◌, ◌++◌, drop, each_from, meant_all}
 use Rattle.fb_lint.specs.Statements as spec
 use Rattle.fb_lint.proofs.statements.push_unread_of.Given as goal
 

@@ -1,8 +1,5 @@
-use Rattle.std.proofs.Common.{List, refl}
-use Rattle.std.specs.Prelude.{flat_map}
-use Rattle.fb_types.specs.declared.library.Algorithm.{Algorithm}
+use Rattle.fb_lint.proofs.lemmas.Common.{List, refl, flat_map, Algorithm, names_are}
 use Rattle.fb_check.proofs.lemmas.types.GrowingLists.{list_added, one_added}
-use Rattle.fb_lint.specs.Findings.{names_are}
 use Rattle.fb_lint.specs.Reads as spec
 use Rattle.fb_lint.proofs.uses.assigned.Goals as goal
 

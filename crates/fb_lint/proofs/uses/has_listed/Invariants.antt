@@ -1,7 +1,4 @@
-use Rattle.std.proofs.Common.{◌≡◌, drop}
-use Rattle.std.specs.List.{list_any}
-use Rattle.fb_types.specs.Blocks.{among}
-use Rattle.fb_lint.specs.Findings.{names_are}
+use Rattle.fb_lint.proofs.lemmas.Common.{◌≡◌, drop, list_any, among, names_are}
 use Rattle.fb_lint.proofs.uses.has_listed.Given as goal
 
 abbrev pub invariant-loop-output : goal.invariant-loop-output

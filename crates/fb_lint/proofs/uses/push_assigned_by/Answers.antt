@@ -1,9 +1,6 @@
-use Rattle.std.proofs.Common.{List, refl}
-use Rattle.std.specs.Prelude.{flat_map}
-use Rattle.fb_check.specs.types.Statements.{all_standing, standing_of}
+use Rattle.fb_lint.proofs.lemmas.Common.{List, refl, flat_map, all_standing, standing_of, names_are}
 use Rattle.fb_check.specs.declared.types.statements.Standing.{Standing}
 use Rattle.fb_check.proofs.lemmas.types.GrowingLists.{list_added, one_added}
-use Rattle.fb_lint.specs.Findings.{names_are}
 use Rattle.fb_lint.specs.Reads as spec
 use Rattle.fb_lint.proofs.uses.push_assigned_by.Goals as goal
 

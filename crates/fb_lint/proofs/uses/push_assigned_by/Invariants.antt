@@ -1,7 +1,4 @@
-use Rattle.std.proofs.Common.{◌≡◌, ◌++◌, drop}
-use Rattle.std.specs.Prelude.{flat_map}
-use Rattle.fb_check.specs.types.Statements.{all_standing}
-use Rattle.fb_lint.specs.Findings.{names_are}
+use Rattle.fb_lint.proofs.lemmas.Common.{◌≡◌, ◌++◌, drop, flat_map, all_standing, names_are}
 use Rattle.fb_lint.specs.Reads as spec
 use Rattle.fb_lint.proofs.uses.push_assigned_by.Given as goal
 

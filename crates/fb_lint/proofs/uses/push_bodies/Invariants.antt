@@ -1,6 +1,4 @@
-use Rattle.std.proofs.Common.{◌≡◌, ◌++◌, drop}
-use Rattle.std.specs.Prelude.{flat_map}
-use Rattle.fb_check.specs.types.Mentions.{meant_all}
+use Rattle.fb_lint.proofs.lemmas.Common.{◌≡◌, ◌++◌, drop, flat_map, meant_all}
 use Rattle.fb_lint.specs.Reads as spec
 use Rattle.fb_lint.proofs.uses.push_bodies.Given as goal
 

@@ -1,8 +1,5 @@
-use Rattle.std.proofs.Common.{List, refl}
-use Rattle.std.specs.Prelude.{flat_map}
-use Rattle.fb_types.specs.declared.library.Transition.{Transition}
-use Rattle.fb_check.specs.types.Checks.{guard_mentions}
-use Rattle.fb_check.specs.types.Mentions.{meant_all}
+use Rattle.fb_lint.proofs.lemmas.Common.{List, refl, flat_map, guard_mentions, meant_all}
+use Rattle.fb_types.proofs.Common.{Transition}
 use Rattle.fb_check.proofs.lemmas.types.GrowingLists.{list_added, one_added}
 use Rattle.fb_lint.proofs.uses.push_guards.Goals as goal
 

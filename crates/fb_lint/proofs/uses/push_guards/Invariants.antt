@@ -1,7 +1,4 @@
-use Rattle.std.proofs.Common.{◌≡◌, ◌++◌, drop}
-use Rattle.std.specs.Prelude.{flat_map}
-use Rattle.fb_check.specs.types.Checks.{guard_mentions}
-use Rattle.fb_check.specs.types.Mentions.{meant_all}
+use Rattle.fb_lint.proofs.lemmas.Common.{◌≡◌, ◌++◌, drop, flat_map, guard_mentions, meant_all}
 use Rattle.fb_lint.proofs.uses.push_guards.Given as goal
 
 -- with what the rest adds, all is there

@@ -1,5 +1,4 @@
-use Rattle.std.proofs.Common.{◌++◌, Bool, ◌∙◌, ap}
-use Rattle.fb_lint.specs.Findings.{when, names_are}
+use Rattle.fb_lint.proofs.lemmas.Common.{◌++◌, Bool, ◌∙◌, ap, when, names_are}
 use Rattle.fb_lint.specs.declared.warning.Warning.TheVariants.{UnassignedEvent}
 use Rattle.fb_lint.specs.Reads as spec
 use Rattle.fb_lint.proofs.lemmas.WarningLists.{all_found, next_found}

@@ -1,5 +1,4 @@
-use Rattle.std.proofs.Common.{◌≡◌, ◌++◌, drop}
-use Rattle.fb_lint.specs.Findings.{each_from, names_are}
+use Rattle.fb_lint.proofs.lemmas.Common.{◌≡◌, ◌++◌, drop, each_from, names_are}
 use Rattle.fb_lint.specs.Reads as spec
 use Rattle.fb_lint.proofs.uses.push_unassigned_events.Given as goal
 

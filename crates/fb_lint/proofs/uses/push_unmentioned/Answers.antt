@@ -1,7 +1,4 @@
-use Rattle.std.proofs.Common.{◌++◌, Bool, not, ◌∙◌, ap}
-use Rattle.fb_lint.specs.Findings.{when}
-use Rattle.fb_lint.specs.declared.warning.Warning.TheVariants.{UnusedPort}
-use Rattle.fb_check.specs.types.Mentions.{meant_all}
+use Rattle.fb_lint.proofs.lemmas.Common.{◌++◌, Bool, not, ◌∙◌, ap, when, UnusedPort, meant_all}
 use Rattle.fb_lint.specs.Reads as spec
 use Rattle.fb_lint.proofs.lemmas.WarningLists.{all_found, next_found}
 use Rattle.fb_lint.proofs.uses.push_unmentioned.Goals as goal

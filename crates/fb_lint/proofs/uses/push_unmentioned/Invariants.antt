@@ -1,7 +1,5 @@
-use Rattle.std.proofs.Common.{◌≡◌, ◌++◌, drop}
-use Rattle.fb_lint.specs.Findings.{each_from}
+use Rattle.fb_lint.proofs.lemmas.Common.{◌≡◌, ◌++◌, drop, each_from, meant_all}
 use Rattle.fb_lint.specs.Reads as spec
-use Rattle.fb_check.specs.types.Mentions.{meant_all}
 use Rattle.fb_lint.proofs.uses.push_unmentioned.Given as goal
 
 -- with what is found in the rest, all is there

@@ -1,5 +1,4 @@
-use Rattle.std.proofs.Common.{ap, ◌∙◌}
-use Rattle.fb_net.specs.Worlds.{index_in}
+use Rattle.fb_net.proofs.lemmas.Common.{ap, ◌∙◌, index_in}
 use Rattle.fb_net.proofs.lemmas.values.HeldRows.{room_kept}
 use Rattle.fb_net.proofs.held_copies.make_room.Goals as goal
 

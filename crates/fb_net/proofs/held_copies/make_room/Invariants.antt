@@ -1,5 +1,4 @@
-use Rattle.std.proofs.Common.{◌≡◌, ℕ, ◌+◌, ◌-◌, length}
-use Rattle.fb_net.specs.Worlds.{index_in}
+use Rattle.fb_net.proofs.lemmas.Common.{◌≡◌, ℕ, ◌+◌, ◌-◌, length, index_in}
 use Rattle.fb_net.proofs.held_copies.make_room.Given as goal
 
 abbrev pub invariant-loop-indexes : goal.invariant-loop-indexes

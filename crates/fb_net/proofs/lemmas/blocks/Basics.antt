@@ -1,34 +1,13 @@
 -- What the reaction of a basic block leaves of the blocks of its resource.
-use Rattle.std.proofs.Common.{◌≡◌, ℕ, ◌<◌, List, [], length, Option, Some, None, Result, Ok, Err, refl, sym, ap, subst, ◌∙◌}
-use Rattle.std.proofs.Math.Path.{fun_ext}
-use Rattle.fb_types.specs.Names.{Path}
-use Rattle.fb_types.specs.Values.{Values}
-use Rattle.fb_types.specs.Blocks.{Basic, inputs_with}
-use Rattle.fb_types.specs.Charts.{ChartReacts, Moving, Position}
-use Rattle.fb_types.specs.Headline.{Inputs, system_of}
-use Rattle.fb_types.specs.Numbers.{event_at, pair_up, path_at}
-use Rattle.fb_types.specs.Reactions.{World, state_of, with_values}
+use Rattle.fb_net.proofs.lemmas.Common.{◌≡◌, ℕ, ◌<◌, List, [], length, Option, Some, None, Result, Ok, Err, refl, sym, ap, subst, ◌∙◌, fun_ext, Path, Values, Basic, inputs_with, Inputs, system_of, event_at, pair_up, path_at, World, with_values, System, BasicType, Halt, Target, Value, values_of, BasicState, components_of, own_of, block_in, with_instance, Changed, block_at, put_at, InForest, IsForest, ShellRepresents, Represents, way_in, Block, Forest, Shell}
+use Rattle.fb_types.proofs.Common.{ChartReacts, Moving, Position, state_of, Reason}
 use Rattle.fb_types.specs.States as model
-use Rattle.fb_types.specs.Systems.{System}
-use Rattle.fb_types.specs.declared.library.BasicType.{BasicType}
 use Rattle.fb_types.specs.declared.run.Emission as run
-use Rattle.fb_types.specs.declared.run.Halt.{Halt}
 use Rattle.fb_types.specs.declared.run.Halt.TheVariants as halt
-use Rattle.fb_types.specs.declared.run.Target.{Target}
-use Rattle.fb_types.specs.declared.value.Reason.{Reason}
-use Rattle.fb_types.specs.declared.value.Value.{Value}
-use Rattle.fb_st.specs.Frames.{values_of}
 use Rattle.fb_ecc.specs.Indexes.{Ended, index, sampled}
 use Rattle.fb_ecc.specs.Sound.{IsSound}
-use Rattle.fb_ecc.specs.declared.state.BasicState.{BasicState}
-use Rattle.fb_net.specs.Blocks.{components_of, own_of}
-use Rattle.fb_net.specs.Changes.{block_in, with_instance}
-use Rattle.fb_net.specs.Trees.{Changed, block_at, put_at}
-use Rattle.fb_net.specs.Worlds.{BasicRepresents, InForest, IsForest, ShellRepresents, Represents, way_in}
-use Rattle.fb_net.specs.declared.block.Block.{Block}
+use Rattle.fb_net.specs.Worlds.{BasicRepresents}
 use Rattle.fb_net.specs.declared.block.Block.TheVariants as block
-use Rattle.fb_net.specs.declared.resource.Forest.{Forest}
-use Rattle.fb_net.specs.declared.shell.Shell.{Shell}
 use Rattle.fb_net.proofs.lemmas.opening.Components.{leaf_basic}
 use Rattle.fb_net.proofs.lemmas.blocks.Descents.{stood_at}
 use Rattle.fb_net.proofs.lemmas.values.Writing.{AreNumbered, put_forest}

@@ -1,16 +1,8 @@
 -- That a step leaves each instance of the resource its block, also where memory ran out.
-use Rattle.std.proofs.Common.{◌≡◌, ℕ, ◌<◌, List, length, map, refl, sym, ◌∙◌, arith}
-use Rattle.std.proofs.lemmas.Option.{slice_get_within}
-use Rattle.fb_types.specs.Headline.{Inputs, system_of}
-use Rattle.fb_types.specs.Numbers.{carried_of}
-use Rattle.fb_types.specs.Reactions.{World, hold_all}
+use Rattle.fb_net.proofs.lemmas.Common.{◌≡◌, ℕ, ◌<◌, List, length, map, refl, sym, ◌∙◌, arith, slice_get_within, Inputs, system_of, carried_of, World, Carried, HoldsAll, AreKept, Changes, block_in, with_instance, InForest, IsForest, index_in, Forest}
+use Rattle.fb_types.proofs.Common.{hold_all}
 use Rattle.fb_types.specs.States as model
-use Rattle.fb_types.specs.declared.run.Carried.{Carried}
-use Rattle.fb_net.specs.Samples.{HoldsAll}
-use Rattle.fb_net.specs.Steps.{AreKept}
-use Rattle.fb_net.specs.Changes.{Changes, block_in, with_instance}
-use Rattle.fb_net.specs.Worlds.{InForest, IsForest, Stands, index_in}
-use Rattle.fb_net.specs.declared.resource.Forest.{Forest}
+use Rattle.fb_net.specs.Worlds.{Stands}
 
 -- nothing has changed
 pub kept-same : (i : Inputs) (f : Forest) → AreKept i f f

@@ -1,27 +1,13 @@
 -- Changes of one instance, and held copies, one after another.
-use Rattle.std.proofs.Common.{◌≡◌, ℕ, ◌+◌, ◌<◌, Bool, true, false, cond, List, [], ◌∷◌, ◌++◌, length, get_or, map, take, Bor, refl, sym, ◌∙◌, ap, subst, arith}
+use Rattle.fb_net.proofs.lemmas.Common.{◌≡◌, ℕ, ◌+◌, ◌<◌, Bool, true, false, cond, List, [], ◌∷◌, ◌++◌, length, get_or, map, take, refl, sym, ◌∙◌, ap, subst, arith, fun_ext, take_more, map-append, Bound, Inputs, system_of, Name, Path, Port, same_path, path_at, carried_of, pair_up, World, with_block, with_values, System, Variable, Carried, Value, InputValue, InstanceVariable, AreIndexes, variable_at, Changes, block_in, with_instance, IsForest, Forest, HoldsAll, all_sampled}
+use Rattle.fb_types.proofs.Common.{Bor, hold_all}
 use Rattle.std.specs.List.{zip}
-use Rattle.std.proofs.Math.Path.{fun_ext}
-use Rattle.std.proofs.lemmas.List.{take_more, map-append}
-use Rattle.fb_types.specs.Blocks.{Bound}
-use Rattle.fb_types.specs.Headline.{Inputs, system_of}
-use Rattle.fb_types.specs.Names.{Name, Path, Port, same_path}
-use Rattle.fb_types.specs.Numbers.{path_at, carried_of, pair_up}
-use Rattle.fb_types.specs.Reactions.{World, hold_all, with_block, with_held, with_values}
+use Rattle.fb_types.specs.Reactions.{with_held}
 use Rattle.fb_types.specs.States as model
-use Rattle.fb_types.specs.Systems.{System}
-use Rattle.fb_types.specs.declared.library.Variable.{Variable}
-use Rattle.fb_types.specs.declared.run.Carried.{Carried}
-use Rattle.fb_types.specs.declared.value.Value.{Value}
 use Rattle.fb_types.proofs.lemmas.names.PathLaws.{same_path_is, same_path_itself}
-use Rattle.fb_system.specs.IndexLists.{AreIndexes, variable_at}
 use Rattle.fb_system.specs.Stimuli.{set_of}
-use Rattle.fb_types.specs.declared.run.InputValue.{InputValue}
-use Rattle.fb_types.specs.declared.run.InstanceVariable.{InstanceVariable}
-use Rattle.fb_net.specs.Changes.{Changes, Holds, block_in, input_sampled, slot_set, with_instance}
-use Rattle.fb_net.specs.Worlds.{IsForest}
-use Rattle.fb_net.specs.declared.resource.Forest.{Forest}
-use Rattle.fb_net.specs.Samples.{HoldsAll, all_sampled, slots_set}
+use Rattle.fb_net.specs.Changes.{Holds, input_sampled, slot_set}
+use Rattle.fb_net.specs.Samples.{slots_set}
 
 -- ---- Worlds with another block
 

@@ -1,17 +1,10 @@
 -- The charts that the blocks of a resource share.
-use Rattle.std.proofs.Common.{◌≡◌, ℕ, true, false, cond, nat_eq, [], ◌⊎◌, Some, None, refl, sym, ◌∙◌, ap, subst, inl, inr, arith}
-use Rattle.std.specs.Prelude.{slice_get, IfSome}
+use Rattle.fb_types.proofs.Common.{◌≡◌, ℕ, true, false, cond, nat_eq, [], ◌⊎◌, Some, None, refl, sym, ◌∙◌, ap, subst, inl, inr, arith, slice_get, IfSome, lookup, is_eq, nat_cmp, Inputs, BasicType, nat_tests, same_Some}
 use Rattle.std.specs.BTreeMap.{get, is_at}
-use Rattle.std.specs.Map.{lookup}
-use Rattle.std.specs.Ordering.{is_eq, nat_cmp}
-use Rattle.fb_types.specs.Headline.{Inputs}
-use Rattle.fb_types.specs.declared.library.BasicType.{BasicType}
 use Rattle.fb_types.specs.declared.library.BlockType.TheVariants as block
 use Rattle.fb_ecc.specs.Programs.{IsSharedOf}
 use Rattle.fb_ecc.specs.declared.shared.Shared.{Shared}
 use Rattle.fb_net.specs.Opening.{AreCharts, Charts, ChartsGrow}
-use Rattle.std.proofs.lemmas.Bool.Decides.{nat_tests}
-use Rattle.std.proofs.lemmas.Option.{same_Some}
 
 pub no_charts : (i : Inputs) (charts : Charts) → charts.entries ≡ [] → AreCharts i charts
 no_charts i charts empty index t c here there =

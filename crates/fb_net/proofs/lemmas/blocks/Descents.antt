@@ -1,8 +1,6 @@
 -- One step down the trees, on the way to a block.
-use Rattle.std.proofs.Common.{◌≡◌, ℕ, ◌-◌, ◌<◌, ◌≤◌, List, [], ◌∷◌, length, get_or, take, drop, refl, ap, ◌∙◌, sym, arith, subst}
+use Rattle.fb_types.proofs.Common.{◌≡◌, ℕ, ◌-◌, ◌<◌, ◌≤◌, List, [], ◌∷◌, length, get_or, take, drop, refl, ap, ◌∙◌, sym, arith, subst, none-some, same_Some, Option, Some, None, slice_get, slice_set}
 use Rattle.std.proofs.lemmas.List.{take_rest}
-use Rattle.std.proofs.lemmas.Option.{none-some, same_Some}
-use Rattle.std.specs.Prelude.{Option, Some, None, slice_get, slice_set}
 use Rattle.std.specs.Option.{option_map, option_and_then}
 use Rattle.fb_net.specs.Blocks.{components_of, own_of, with_components}
 use Rattle.fb_net.specs.Trees.{block_at, own_at, put_back, put_at, Changed}

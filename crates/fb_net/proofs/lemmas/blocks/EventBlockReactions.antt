@@ -1,38 +1,18 @@
 -- What the reactions of an event block, to an event and to its timer, leave of the blocks of its resource.
-use Rattle.std.proofs.Common.{◌≡◌, ◌≢◌, ◌<◌, ℕ, List, [], ◌++◌, length, map, Some, None, Result, Ok, Err, refl, sym, ap, subst, ◌∙◌, arith}
-use Rattle.std.specs.Prelude.{All, OnOk, slice_get}
-use Rattle.std.proofs.lemmas.Option.{none-some}
-use Rattle.std.proofs.lemmas.Result.{on_ok_weaker}
-use Rattle.fb_types.specs.Names.{Name, Path}
-use Rattle.fb_types.specs.Blocks.{Basic, Event, ports_of_event_block, variable_names}
-use Rattle.fb_types.specs.EventBlocks.{Memory, Reaction, reaction, expiry}
-use Rattle.fb_types.specs.Headline.{Inputs, system_of}
-use Rattle.fb_types.specs.Numbers.{by_index, event_at, path_at, ports_at}
-use Rattle.fb_types.specs.Reactions.{World, memory_of}
+use Rattle.fb_net.proofs.lemmas.Common.{◌≡◌, ◌≢◌, ◌<◌, ℕ, List, [], ◌++◌, length, map, Some, None, Result, Ok, Err, refl, sym, ap, subst, ◌∙◌, arith, All, slice_get, none-some, on_ok_weaker, Name, Path, Basic, Event, ports_of_event_block, variable_names, Inputs, system_of, event_at, path_at, ports_at, World, memory_of, System, EventKind, BasicType, Halt, Target, TimerAsk, Value, components_of, own_of, block_in, with_instance, Changed, block_at, put_at, InForest, IsForest, ShellRepresents, Represents, index_in, way_in, Block, Forest, Shell, IsEmission, EventCame, taken_reaction}
+use Rattle.fb_types.proofs.Common.{OnOk, Memory, Reaction, reaction, expiry}
+use Rattle.fb_types.specs.Numbers.{by_index}
 use Rattle.fb_types.specs.States as model
-use Rattle.fb_types.specs.Systems.{System}
-use Rattle.fb_types.specs.declared.event_kind.EventKind.{EventKind}
-use Rattle.fb_types.specs.declared.library.BasicType.{BasicType}
 use Rattle.fb_types.specs.declared.run.Emission as run
-use Rattle.fb_types.specs.declared.run.Halt.{Halt}
-use Rattle.fb_types.specs.declared.run.Target.{Target}
-use Rattle.fb_types.specs.declared.run.TimerAsk.{TimerAsk}
-use Rattle.fb_types.specs.declared.value.Value.{Value}
 use Rattle.fb_event.specs.Reactions.{FitInputs, IsWellFormed, emissions_of, expiry_of, meanings, reaction_to}
 use Rattle.fb_event.specs.State.{State}
-use Rattle.fb_net.specs.Blocks.{components_of, own_of}
-use Rattle.fb_net.specs.Changes.{block_in, remembered, with_instance}
-use Rattle.fb_net.specs.Trees.{Changed, block_at, put_at}
-use Rattle.fb_net.specs.Worlds.{EventRepresents, InForest, IsForest, ShellRepresents, Represents, input_names, index_in, way_in}
-use Rattle.fb_net.specs.declared.block.Block.{Block}
+use Rattle.fb_net.specs.Changes.{remembered}
+use Rattle.fb_net.specs.Worlds.{EventRepresents, input_names}
 use Rattle.fb_net.specs.declared.block.Block.TheVariants as block
-use Rattle.fb_net.specs.declared.resource.Forest.{Forest}
-use Rattle.fb_net.specs.declared.shell.Shell.{Shell}
 use Rattle.fb_net.proofs.lemmas.opening.Components.{leaf_event}
 use Rattle.fb_net.proofs.lemmas.blocks.Descents.{stood_at}
 use Rattle.fb_net.proofs.lemmas.values.Writing.{AreNumbered, put_forest}
-use Rattle.fb_system.specs.Lines.{IsEmission}
-use Rattle.fb_net.specs.Leaves.{EventCame, HasAnswered, HasTurned, HasTypedInputs, IsEventAt, IsOne, IsTypedAt, expiry_reaction, taken_reaction}
+use Rattle.fb_net.specs.Leaves.{HasAnswered, HasTurned, HasTypedInputs, IsEventAt, IsOne, IsTypedAt, expiry_reaction}
 use Rattle.fb_net.proofs.lemmas.blocks.Leaves.{event_is, reads_inputs, stands_event, values_by_name}
 
 -- ---- What the shell holds

@@ -1,23 +1,12 @@
 -- What represents a leaf before and after its reaction.
-use Rattle.std.proofs.Common.{◌≡◌, ℕ, suc, List, [], ◌∷◌, length, map, Option, Some, refl, ap, subst, ◌∙◌}
-use Rattle.std.specs.Prelude.{slice_get}
-use Rattle.fb_types.specs.Names.{Name, Path}
-use Rattle.fb_types.specs.Values.{Values}
-use Rattle.fb_types.specs.Blocks.{Kind, Basic, Event, ports_of_event_block, variable_names}
-use Rattle.fb_types.specs.EventBlocks.{Memory, reaction}
+use Rattle.fb_net.proofs.lemmas.Common.{◌≡◌, ℕ, suc, List, [], ◌∷◌, length, map, Option, Some, refl, ap, subst, ◌∙◌, slice_get, Name, Path, Values, Kind, Basic, Event, ports_of_event_block, variable_names, System, EventKind, BasicType, Value, BasicState, own_of, Represents, Block, Block-F}
+use Rattle.fb_types.proofs.Common.{Memory, reaction}
 use Rattle.fb_types.specs.Numbers.{by_index}
 use Rattle.fb_types.specs.States as model
-use Rattle.fb_types.specs.Systems.{System}
-use Rattle.fb_types.specs.declared.event_kind.EventKind.{EventKind}
 use Rattle.fb_types.specs.declared.event_kind.EventKind.TheVariants as kind
-use Rattle.fb_types.specs.declared.library.BasicType.{BasicType}
-use Rattle.fb_types.specs.declared.value.Value.{Value}
-use Rattle.fb_ecc.specs.declared.state.BasicState.{BasicState}
 use Rattle.fb_event.specs.State.{State}
-use Rattle.fb_net.specs.Blocks.{composite_with, own_of}
-use Rattle.fb_net.specs.Worlds.{BasicRepresents, EventRepresents, NodeRepresents, Represents}
-use Rattle.fb_net.specs.declared.block.Block.{Block}
-use Rattle.fb_net.specs.declared.block.Block.TheOpen.{Block-F}
+use Rattle.fb_net.specs.Blocks.{composite_with}
+use Rattle.fb_net.specs.Worlds.{BasicRepresents, EventRepresents, NodeRepresents}
 use Rattle.fb_net.specs.declared.block.Block.TheVariants as block
 use Rattle.fb_net.specs.declared.block.Block.TheViews.{out-Block}
 use Rattle.fb_net.proofs.lemmas.opening.Components.{basic_rolled, event_rolled, out_roll, own_basic, own_event}

@@ -1,7 +1,5 @@
 -- Blocks that a change of another block leaves as they were.
-use Rattle.std.proofs.Common.{◌≡◌, ◌≢◌, ℕ, zero, suc, List, [], ◌∷◌, refl, ap, ◌∙◌, sym, ⊎_elim}
-use Rattle.std.proofs.lemmas.Bool.{cases_eq}
-use Rattle.std.specs.Prelude.{Option, Some, None, slice_get, slice_set}
+use Rattle.fb_types.proofs.Common.{◌≡◌, ◌≢◌, ℕ, zero, suc, List, [], ◌∷◌, refl, ap, ◌∙◌, sym, ⊎_elim, cases_eq, Option, Some, None, slice_get, slice_set}
 use Rattle.std.specs.Option.{option_map, option_and_then}
 use Rattle.fb_net.specs.Blocks.{components_of, with_components, own_of}
 use Rattle.fb_net.specs.Trees.{block_at, own_at, put_back, put_at, PutAlone, OthersStay}

@@ -1,16 +1,8 @@
 -- What was put out still belongs to the system after a step.
-use Rattle.std.proofs.Common.{◌≡◌, ℕ, List, Ok, Err, Result, sym, subst}
-use Rattle.std.specs.Prelude.{All}
-use Rattle.fb_types.specs.Headline.{Inputs, system_of}
-use Rattle.fb_types.specs.declared.run.Halt.{Halt}
+use Rattle.fb_net.proofs.lemmas.Common.{◌≡◌, ℕ, List, Ok, Err, Result, sym, subst, All, Inputs, system_of, Halt, TimerAsk, Remembered, IsOut, StillAreOuts, Out, Effects, Forest}
 use Rattle.fb_types.specs.declared.run.Halt.TheVariants as halt
-use Rattle.fb_types.specs.declared.run.TimerAsk.{TimerAsk}
 use Rattle.fb_system.specs.Lines.{BelongsTo}
-use Rattle.fb_net.specs.Events.{Remembered}
-use Rattle.fb_net.specs.Outs.{AreOuts, IsOut, StillAreOuts}
-use Rattle.fb_net.specs.declared.effects.Out.{Out}
-use Rattle.fb_net.specs.declared.effects.Effects.{Effects}
-use Rattle.fb_net.specs.declared.resource.Forest.{Forest}
+use Rattle.fb_net.specs.Outs.{AreOuts}
 
 -- only lines were put out, and the blocks are of the same resource
 pub lines-put :

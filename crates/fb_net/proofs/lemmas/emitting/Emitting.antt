@@ -1,32 +1,13 @@
 -- What the emission of output events makes of a world, of the lines and of what goes out.
-use Rattle.std.proofs.Common.{◌≡◌, ℕ, ◌<◌, false, List, [], ◌∷◌, ◌++◌, map, length, refl, sym, ap, subst, ◌∙◌, suc, append_assoc, arith}
-use Rattle.std.specs.Prelude.{All, Some, slice_get, slice_index_or}
-use Rattle.std.proofs.lemmas.List.{map-append}
-use Rattle.std.proofs.lemmas.Option.{none-some}
-use Rattle.std.proofs.lemmas.List.Elements.{All-append, All-push}
-use Rattle.fb_system.specs.IndexLists.{AreIndexes, variable_at}
-use Rattle.fb_types.specs.Blocks.{Bound, Emission, outputs_with}
-use Rattle.fb_types.specs.Headline.{Inputs, system_of}
-use Rattle.fb_types.specs.Names.{Name, Path, Port}
-use Rattle.fb_types.specs.Numbers.{carried_of, emission_of, event_at, event_output, line_of, pair_up, path_at, ports_at}
+use Rattle.fb_net.proofs.lemmas.Common.{◌≡◌, ℕ, ◌<◌, false, List, [], ◌∷◌, ◌++◌, map, length, refl, sym, ap, subst, ◌∙◌, suc, append_assoc, arith, All, Some, slice_get, map-append, none-some, Bound, Emission, Inputs, system_of, Name, Path, Port, carried_of, emission_of, event_at, event_output, line_of, pair_up, path_at, ports_at, Outcome, World, emitted_all, spread, with_block, System, Key, Variable, Carried, Line, Value, AreIndexes, variable_at, IsEmission, Changes, IsForest, Forest, carried_by, outputs_at, outputs_shown, IsOut, RepresentsOutcome, out_of, Effects}
+use Rattle.fb_types.proofs.Common.{slice_index_or, All-append, All-push, outputs_with, carried_from, emitted}
 use Rattle.fb_types.specs.Reactions as reactions
-use Rattle.fb_types.specs.Reactions.{Outcome, World, carried_from, emitted, emitted_all, spread, with_block}
 use Rattle.fb_types.specs.States as model
-use Rattle.fb_types.specs.Systems.{System}
-use Rattle.fb_types.specs.declared.key.Key.{Key}
-use Rattle.fb_types.specs.declared.library.Variable.{Variable}
-use Rattle.fb_types.specs.declared.run.Carried.{Carried}
 use Rattle.fb_types.specs.declared.run.Emission as run
-use Rattle.fb_types.specs.declared.run.Line.{Line}
-use Rattle.fb_types.specs.declared.value.Value.{Value}
-use Rattle.fb_system.specs.Lines.{BelongsTo, IsEmission}
+use Rattle.fb_system.specs.Lines.{BelongsTo}
 use Rattle.fb_system.specs.Ports.{IsCarried}
-use Rattle.fb_net.specs.Changes.{Changes}
-use Rattle.fb_net.specs.Worlds.{IsForest}
-use Rattle.fb_net.specs.declared.resource.Forest.{Forest}
-use Rattle.fb_net.specs.Emitting.{HasEmitted, carried_by, outputs_at, outputs_shown}
-use Rattle.fb_net.specs.Outs.{Gathered, IsOut, RepresentsOutcome, out_of}
-use Rattle.fb_net.specs.declared.effects.Effects.{Effects}
+use Rattle.fb_net.specs.Emitting.{HasEmitted}
+use Rattle.fb_net.specs.Outs.{Gathered}
 
 -- ---- What messages carry
 

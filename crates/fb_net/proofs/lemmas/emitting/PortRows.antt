@@ -1,14 +1,6 @@
 -- What the rows of event ports say, where a step of taking an event needs it.
-use Rattle.std.proofs.Common.{◌≡◌, ◌≢◌, ℕ, Bool, true, false, cond, List, refl, sym, subst, ap, ◌∙◌}
-use Rattle.std.specs.Prelude.{◌↔◌, IsTrue, Option, Some}
-use Rattle.fb_types.specs.Blocks.{Basic, Composite, Event}
-use Rattle.fb_types.specs.Numbers.{event_input, event_output, path_at, port_of, ports_at}
-use Rattle.fb_types.specs.Systems.{System}
-use Rattle.fb_types.specs.declared.event_kind.EventKind.{EventKind}
-use Rattle.fb_types.specs.declared.library.BasicType.{BasicType}
-use Rattle.fb_types.specs.declared.library.CompositeType.{CompositeType}
-use Rattle.fb_types.specs.declared.run.InstanceVariable.{InstanceVariable}
-use Rattle.fb_types.specs.declared.run.Target.{Target}
+use Rattle.fb_types.proofs.Common.{◌≡◌, ◌≢◌, ℕ, Bool, true, false, cond, List, refl, sym, subst, ap, ◌∙◌, ◌↔◌, IsTrue, Option, Some, Basic, Composite, Event, event_output, path_at, port_of, ports_at, System, EventKind, BasicType, CompositeType, InstanceVariable, Target}
+use Rattle.fb_types.specs.Numbers.{event_input}
 use Rattle.fb_system.specs.Ends.{IsSourceOf, LeadsTo}
 use Rattle.fb_system.specs.IndexLists.{AreIndexes}
 use Rattle.fb_system.specs.Ports.{AreTogether, IsCompositeAt, IsTarget}

@@ -1,23 +1,10 @@
 -- Values that are published one after another.
-use Rattle.std.proofs.Common.{◌≡◌, ℕ, ◌+◌, ◌<◌, Bool, true, false, cond, List, [], ◌∷◌, ◌++◌, map, take, zero, suc, min, length, get_or, refl, sym, ap, subst, ◌∙◌, arith}
-use Rattle.std.proofs.Math.Path.{fun_ext}
-use Rattle.std.proofs.lemmas.List.{length-map, take_all, take_more, get_or-map}
-use Rattle.fb_system.specs.IndexLists.{variable_at}
-use Rattle.fb_types.specs.Blocks.{Bound}
-use Rattle.fb_types.specs.Headline.{Inputs, system_of}
-use Rattle.fb_types.specs.Names.{Name, Path, same_path, with_value}
-use Rattle.fb_types.specs.Numbers.{pair_up, path_at, ports_at}
-use Rattle.fb_types.specs.Reactions.{World, with_block, with_values}
+use Rattle.fb_net.proofs.lemmas.Common.{◌≡◌, ℕ, ◌+◌, ◌<◌, Bool, true, false, cond, List, [], ◌∷◌, ◌++◌, map, take, zero, suc, length, get_or, refl, sym, ap, subst, ◌∙◌, arith, fun_ext, take_all, take_more, Bound, Inputs, system_of, Name, Path, same_path, with_value, pair_up, path_at, ports_at, World, with_block, with_values, System, Values, Value, variable_at, Changes, block_in, IsForest, Forest, outputs_at, outputs_shown}
+use Rattle.fb_types.proofs.Common.{min, length-map, get_or-map}
 use Rattle.fb_types.specs.States as model
-use Rattle.fb_types.specs.Systems.{System}
-use Rattle.fb_types.specs.Values.{Values}
-use Rattle.fb_types.specs.declared.value.Value.{Value}
 use Rattle.fb_types.proofs.lemmas.names.PathLaws.{same_path_itself}
 use Rattle.fb_types.proofs.lemmas.events.ReactionLaws.{kept_at}
-use Rattle.fb_net.specs.Changes.{Changes, block_in, output_shown}
-use Rattle.fb_net.specs.Worlds.{IsForest}
-use Rattle.fb_net.specs.declared.resource.Forest.{Forest}
-use Rattle.fb_net.specs.Emitting.{outputs_at, outputs_shown}
+use Rattle.fb_net.specs.Changes.{output_shown}
 
 -- ---- Lists
 

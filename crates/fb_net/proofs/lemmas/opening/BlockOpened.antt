@@ -1,31 +1,16 @@
 -- One block before the first event.
-use Rattle.std.proofs.Common.{◌≡◌, ◌≢◌, ℕ, ◌<◌, suc, List, [], ◌∷◌, ◌++◌, map, length, Contains, true, false, Option, Some, None, refl, sym, ◌∙◌, ap, subst}
-use Rattle.std.specs.Prelude.{if◌then◌else◌, option_map, slice_get, unwrap_or}
-use Rattle.std.proofs.lemmas.Option.{slice_get-map, same_Some}
-use Rattle.fb_types.specs.Names.{Name, Path}
-use Rattle.fb_types.specs.Values.{Values}
-use Rattle.fb_types.specs.Blocks.{Kind, Basic, among, ports, ports_of, variable_names, variables_of}
-use Rattle.fb_types.specs.Flat.{kind_of}
-use Rattle.fb_types.specs.Headline.{AreAccepted, Inputs, system_of}
-use Rattle.fb_types.specs.Numbers.{path_at, ports_at}
-use Rattle.fb_types.specs.Simulation.{first_state, opening_block, opening_memory}
+use Rattle.fb_net.proofs.lemmas.Common.{◌≡◌, ◌≢◌, ℕ, ◌<◌, suc, List, [], ◌∷◌, ◌++◌, map, length, Contains, true, false, Option, Some, None, refl, sym, ◌∙◌, ap, subst, if◌then◌else◌, option_map, slice_get, unwrap_or, slice_get-map, same_Some, Name, Path, Values, Kind, Basic, among, ports, ports_of, variable_names, kind_of, AreAccepted, Inputs, system_of, path_at, ports_at, opening_block, System, BasicType, BlockType, Ports, Variable, Value, values_of, BasicState, ShellRepresents, Shell, begun_all}
+use Rattle.fb_types.proofs.Common.{variables_of}
+use Rattle.fb_types.specs.Simulation.{first_state, opening_memory}
 use Rattle.fb_types.specs.States as model
-use Rattle.fb_types.specs.Systems.{System}
-use Rattle.fb_types.specs.declared.library.BasicType.{BasicType}
-use Rattle.fb_types.specs.declared.library.BlockType.{BlockType}
-use Rattle.fb_types.specs.declared.library.Ports.{Ports}
 use Rattle.fb_types.specs.declared.library.State.{State}
-use Rattle.fb_types.specs.declared.library.Variable.{Variable}
-use Rattle.fb_types.specs.declared.value.Value.{Value}
-use Rattle.fb_st.specs.Frames.{Declared, declared_in, is_declared, values_of}
+use Rattle.fb_st.specs.Frames.{Declared, declared_in, is_declared}
 use Rattle.fb_st.specs.declared.frame.Slot.{Slot}
 use Rattle.fb_ecc.specs.Opened.{IsOfDeclaration, IsOpened, slot_of}
 use Rattle.fb_ecc.specs.Indexes.{state_at}
-use Rattle.fb_ecc.specs.declared.state.BasicState.{BasicState}
 use Rattle.fb_system.specs.Stimuli.{initial_inputs, initial_outputs}
-use Rattle.fb_net.specs.Worlds.{BasicRepresents, ShellRepresents, ValuesRepresent, begins}
-use Rattle.fb_net.specs.declared.shell.Shell.{Shell}
-use Rattle.fb_net.specs.Opening.{AreDeclared, begun_all}
+use Rattle.fb_net.specs.Worlds.{BasicRepresents, ValuesRepresent, begins}
+use Rattle.fb_net.specs.Opening.{AreDeclared}
 use Rattle.fb_types.proofs.lemmas.lists.ByIndex.{slice_get-append_left}
 use Rattle.fb_types.proofs.lemmas.lists.Options.{map_parts}
 use Rattle.fb_types.proofs.lemmas.lists.Positions.{slice_get-Contains}

@@ -1,26 +1,11 @@
 -- Each instance of a resource has its block on its way, before the first event.
-use Rattle.std.proofs.Common.{◌≡◌, ℕ, ◌<◌, ◌≤◌, ◌+◌, ◌-◌, zero, suc, List, [], ◌∷◌, ◌++◌, map, length, Option, Some, None, refl, sym, ◌∙◌, ap, subst, arith}
-use Rattle.std.specs.Prelude.{option_map, option_and_then, position, slice_get, unwrap_or}
-use Rattle.fb_types.specs.Names.{Name, Path, same_name}
-use Rattle.fb_types.specs.Flat.{inside, instance_at, instance_in, network_at, resource_of}
-use Rattle.fb_types.specs.Headline.{AreAccepted, Inputs, system_of}
-use Rattle.fb_types.specs.Numbers.{path_at}
-use Rattle.fb_types.specs.Repeated.{instance_names}
-use Rattle.fb_types.specs.Simulation.{opening_block, opening_state}
-use Rattle.fb_types.specs.Takes.{world_of}
-use Rattle.fb_types.specs.declared.library.Instance.{Instance}
-use Rattle.fb_types.specs.declared.library.Library.{Library}
-use Rattle.fb_types.specs.declared.library.Network.{Network}
+use Rattle.fb_net.proofs.lemmas.Common.{◌≡◌, ℕ, ◌<◌, ◌≤◌, ◌+◌, ◌-◌, zero, suc, List, [], ◌∷◌, ◌++◌, map, length, Option, Some, None, refl, sym, ◌∙◌, ap, subst, arith, option_map, option_and_then, position, slice_get, unwrap_or, Name, Path, same_name, inside, instance_at, network_at, AreAccepted, Inputs, system_of, path_at, instance_names, opening_block, Instance, Library, Network, none-some, same_Some, components_of, own_of, block_at, own_at, IsForest, Represents, index_in, Block, Forest, AreGrown}
+use Rattle.fb_types.proofs.Common.{instance_in, resource_of, opening_state, world_of}
 use Rattle.fb_types.proofs.lemmas.lists.Positions.{named-position, position_is}
 use Rattle.fb_types.proofs.lemmas.lists.Options.{and_then_parts}
 use Rattle.fb_system.specs.Layouts.{index_at, route_to}
-use Rattle.fb_net.specs.Blocks.{components_of, own_of}
-use Rattle.fb_net.specs.Trees.{block_at, own_at}
-use Rattle.fb_net.specs.Worlds.{IsForest, RepresentsAt, Represents, rooted, index_in}
-use Rattle.fb_net.specs.declared.block.Block.{Block}
-use Rattle.fb_net.specs.declared.resource.Forest.{Forest}
-use Rattle.fb_net.specs.Opening.{AreDeep, AreGrown, AreRooted, HaveShells, CoversAll, Grown}
-use Rattle.std.proofs.lemmas.Option.{none-some, same_Some}
+use Rattle.fb_net.specs.Worlds.{RepresentsAt, rooted}
+use Rattle.fb_net.specs.Opening.{AreDeep, AreRooted, HaveShells, CoversAll, Grown}
 use Rattle.fb_net.proofs.lemmas.values.Acceptance.{in_network, stood}
 use Rattle.fb_net.proofs.lemmas.opening.Growing.{instance_is, number_is}
 use Rattle.fb_net.proofs.lemmas.blocks.WaysInTrees.{RootsDistinguish, paths_by_ways, they_differ}

@@ -1,11 +1,8 @@
 -- A block with other components, and one that has none.
-use Rattle.std.proofs.Common.{◌≡◌, List, [], ◌∷◌, refl, sym, ap, ◌∙◌, rules}
-use Rattle.fb_net.specs.Blocks.{components_in, components_of, composite_with, with_components, own_of}
-use Rattle.fb_ecc.specs.declared.state.BasicState.{BasicState}
+use Rattle.fb_net.proofs.lemmas.Common.{◌≡◌, List, [], ◌∷◌, refl, sym, ap, ◌∙◌, rules, components_of, own_of, BasicState, Block, Block-F}
+use Rattle.fb_net.specs.Blocks.{components_in, composite_with, with_components}
 use Rattle.fb_event.specs.State.{State}
-use Rattle.fb_net.specs.declared.block.Block.{Block}
 use Rattle.fb_net.specs.declared.block.Block.TheVariants as block
-use Rattle.fb_net.specs.declared.block.Block.TheOpen.{Block-F}
 use Rattle.fb_net.specs.declared.block.Block.TheViews.{out-Block, roll-Block, the_lemmas}
 
 pub out_roll : (x : Block-F Block) → out-Block (roll-Block x) ≡ x

@@ -1,23 +1,9 @@
 -- The blocks of a resource grow, one instance after the other, each with its components.
-use Rattle.std.proofs.Common.{◌≡◌, ℕ, ◌<◌, ◌≤◌, ◌+◌, ◌-◌, zero, suc, List, [], ◌∷◌, ◌++◌, length, take, get_or, Option, Some, None, refl, sym, ◌∙◌, ap, subst, inl, inr, arith}
-use Rattle.std.specs.Prelude.{◌⊎◌, option_map, option_and_then, slice_get}
-use Rattle.std.proofs.lemmas.Option.{slice_get-get_or, slice_get_within, slice_get-map, same_Some, none-some}
-use Rattle.fb_types.specs.Names.{Path}
-use Rattle.fb_types.specs.Blocks.{Kind, Basic, Event, Composite}
-use Rattle.fb_types.specs.Flat.{instance_at, kind_of_instance, inside, network_at, network_of}
-use Rattle.fb_types.specs.Headline.{AreAccepted, Inputs, system_of}
-use Rattle.fb_types.specs.Numbers.{path_at}
-use Rattle.fb_types.specs.Simulation.{opening_block}
-use Rattle.fb_types.specs.declared.library.CompositeType.{CompositeType}
-use Rattle.fb_types.specs.declared.library.Instance.{Instance}
-use Rattle.fb_types.specs.declared.library.Library.{Library}
-use Rattle.fb_types.specs.declared.library.Network.{Network}
+use Rattle.fb_net.proofs.lemmas.Common.{◌≡◌, ℕ, ◌<◌, ◌≤◌, ◌+◌, ◌-◌, zero, suc, List, [], ◌∷◌, ◌++◌, length, take, get_or, Option, Some, None, refl, sym, ◌∙◌, ap, subst, inl, inr, arith, option_map, option_and_then, slice_get, slice_get-get_or, slice_get_within, slice_get-map, same_Some, none-some, Path, Kind, Basic, Event, Composite, instance_at, inside, network_at, AreAccepted, Inputs, system_of, path_at, opening_block, CompositeType, Instance, Library, Network, components_of, own_of, Represents, Block, AreGrown}
+use Rattle.fb_types.proofs.Common.{◌⊎◌, kind_of_instance, network_of}
 use Rattle.fb_system.specs.Layouts.{AreComponents, AreNumbers, path_of}
 use Rattle.fb_types.proofs.lemmas.lists.Options.{and_then_parts}
-use Rattle.fb_net.specs.Blocks.{components_of, own_of}
-use Rattle.fb_net.specs.Worlds.{Represents}
-use Rattle.fb_net.specs.declared.block.Block.{Block}
-use Rattle.fb_net.specs.Opening.{AreDeep, AreGrown, Grown, IsDeep}
+use Rattle.fb_net.specs.Opening.{AreDeep, Grown, IsDeep}
 use Rattle.fb_types.proofs.lemmas.lists.ByIndex.{slice_get-append_left, slice_get-append_here, all_at}
 use Rattle.fb_net.proofs.lemmas.values.Acceptance.{stood}
 

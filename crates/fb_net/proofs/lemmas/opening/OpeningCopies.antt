@@ -1,21 +1,8 @@
 -- Held copies before the first event.
-use Rattle.std.proofs.Common.{◌≡◌, ◌≢◌, ℕ, ◌<◌, ◌+◌, Bool, true, false, List, [], ◌∷◌, ◌++◌, map, length, Option, Some, None, refl, sym, ◌∙◌, ap, subst, inl, inr, arith}
-use Rattle.std.specs.Prelude.{if◌then◌else◌, option_map, position, slice_get, unwrap_or}
-use Rattle.std.proofs.lemmas.Bool.{cases_eq, cases_lt}
-use Rattle.std.proofs.lemmas.Option.{slice_get-map, same_Some}
-use Rattle.fb_types.specs.Names.{Name, Port, same_name}
-use Rattle.fb_types.specs.Blocks.{Kind, ports, ports_of, variable_names}
-use Rattle.fb_types.specs.Headline.{AreAccepted, Inputs, system_of}
-use Rattle.fb_types.specs.Numbers.{path_at, ports_at}
-use Rattle.fb_types.specs.Repeated.{Twice}
-use Rattle.fb_types.specs.declared.library.Ports.{Ports}
-use Rattle.fb_types.specs.declared.library.Variable.{Variable}
-use Rattle.fb_types.specs.declared.value.Value.{Value}
+use Rattle.fb_types.proofs.Common.{◌≡◌, ◌≢◌, ℕ, ◌<◌, ◌+◌, Bool, true, false, List, [], ◌∷◌, ◌++◌, map, length, Option, Some, None, refl, sym, ◌∙◌, ap, subst, inl, inr, arith, if◌then◌else◌, option_map, position, slice_get, unwrap_or, cases_eq, cases_lt, slice_get-map, same_Some, Name, Port, same_name, Kind, ports, ports_of, variable_names, AreAccepted, Inputs, system_of, path_at, ports_at, Twice, Ports, Variable, Value, InstanceVariable, System}
 use Rattle.fb_types.proofs.lemmas.lists.Positions.{position_of_once}
-use Rattle.fb_types.specs.declared.run.InstanceVariable.{InstanceVariable}
 use Rattle.fb_system.specs.Ports.{IsVariable, variable_of, variables_at}
 use Rattle.fb_system.specs.Stimuli.{initial_inputs, initial_outputs}
-use Rattle.fb_types.specs.Systems.{System}
 use Rattle.fb_net.specs.HeldAt.{IsAdded, IsSet, held_at, side_index_of}
 use Rattle.fb_net.specs.Opening.{Covers, CoversIndexes, KeepsCovers, KeepsInitial}
 use Rattle.fb_net.specs.declared.held_copies.HeldCopies.{HeldCopies}

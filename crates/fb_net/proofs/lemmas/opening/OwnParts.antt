@@ -1,13 +1,8 @@
 -- What a block represents does not depend on its components.
-use Rattle.std.proofs.Common.{Option, Some, [], subst}
-use Rattle.fb_types.specs.Blocks.{Kind, Composite}
-use Rattle.fb_types.specs.Names.{Path}
+use Rattle.fb_net.proofs.lemmas.Common.{Option, Some, [], subst, Kind, Composite, Path, System, own_of, Represents, Block, Block-F}
 use Rattle.fb_types.specs.States as model
-use Rattle.fb_types.specs.Systems.{System}
-use Rattle.fb_net.specs.Blocks.{composite_with, own_of}
-use Rattle.fb_net.specs.Worlds.{NodeRepresents, Represents}
-use Rattle.fb_net.specs.declared.block.Block.{Block}
-use Rattle.fb_net.specs.declared.block.Block.TheOpen.{Block-F}
+use Rattle.fb_net.specs.Blocks.{composite_with}
+use Rattle.fb_net.specs.Worlds.{NodeRepresents}
 use Rattle.fb_net.specs.declared.block.Block.TheViews.{out-Block}
 use Rattle.fb_net.proofs.lemmas.opening.Components.{out_roll}
 

@@ -1,10 +1,5 @@
 -- The roots of the trees of a resource, one instance of the application after the other.
-use Rattle.std.proofs.Common.{◌≡◌, ℕ, ◌<◌, ◌≤◌, ◌+◌, zero, suc, List, [], ◌∷◌, ◌++◌, length, take, get_or, Some, refl, sym, ◌∙◌, ap, subst, arith}
-use Rattle.std.specs.Prelude.{slice_get}
-use Rattle.std.proofs.lemmas.Option.{slice_get-get_or, slice_get_within, same_Some, none-some}
-use Rattle.std.proofs.lemmas.List.{length-take-le, take_all}
-use Rattle.fb_types.specs.Headline.{Inputs, system_of}
-use Rattle.fb_types.specs.Numbers.{path_at}
+use Rattle.fb_types.proofs.Common.{◌≡◌, ℕ, ◌<◌, ◌≤◌, ◌+◌, zero, suc, List, [], ◌∷◌, ◌++◌, length, take, get_or, Some, refl, sym, ◌∙◌, ap, subst, arith, slice_get, slice_get-get_or, slice_get_within, same_Some, none-some, length-take-le, take_all, Inputs, system_of, path_at}
 use Rattle.fb_types.proofs.lemmas.lists.ByIndex.{slice_get-append_left, slice_get-append_here}
 use Rattle.fb_system.specs.Layouts.{AreNumbers}
 use Rattle.fb_net.specs.Opening.{AreRooted, AreRoots}

@@ -1,16 +1,9 @@
 -- The shells of a resource get their indexes one after the other, in the order of the numbers of their instances.
-use Rattle.std.proofs.Common.{◌≡◌, ◌≢◌, ℕ, ◌<◌, ◌+◌, List, [], ◌∷◌, ◌++◌, length, refl, sym, ◌∙◌, ap, subst, inl, inr, arith, length-append}
-use Rattle.std.specs.Prelude.{◌⊎◌, slice_get, unwrap_or}
-use Rattle.std.proofs.lemmas.Bool.{cases_eq}
-use Rattle.std.proofs.lemmas.Option.{slice_get_within}
-use Rattle.fb_types.specs.Headline.{Inputs, system_of}
-use Rattle.fb_types.specs.Numbers.{path_at}
-use Rattle.fb_types.specs.Simulation.{opening_block}
+use Rattle.fb_net.proofs.lemmas.Common.{◌≡◌, ◌≢◌, ℕ, ◌<◌, ◌+◌, List, [], ◌∷◌, ◌++◌, length, refl, sym, ◌∙◌, ap, subst, inl, inr, arith, length-append, slice_get, unwrap_or, cases_eq, slice_get_within, Inputs, system_of, path_at, opening_block, ShellRepresents, index_in, Forest, Shell}
+use Rattle.fb_types.proofs.Common.{◌⊎◌}
 use Rattle.fb_types.proofs.lemmas.lists.ByIndex.{element_at, slice_get-append_here, slice_get-append_left}
 use Rattle.fb_net.specs.Opening.{HaveShells}
-use Rattle.fb_net.specs.Worlds.{AreApart, ShellAt, ShellRepresents, index_in}
-use Rattle.fb_net.specs.declared.resource.Forest.{Forest}
-use Rattle.fb_net.specs.declared.shell.Shell.{Shell}
+use Rattle.fb_net.specs.Worlds.{AreApart, ShellAt}
 
 pub shell_indexes_differ : (i : Inputs) (r n : ℕ) (shell_indexes : List ℕ) → AreApart i r n shell_indexes → (j k : ℕ) → j < n → k < n → (system_of i).resource (path_at (system_of i) j) ≡ r
     → (system_of i).resource (path_at (system_of i) k) ≡ r → index_in shell_indexes j ≡ index_in shell_indexes k → j ≡ k

@@ -1,39 +1,19 @@
 -- The arrival of an event at an event block or a composite is what the model makes of it.
-use Rattle.std.proofs.Common.{◌≡◌, ◌≤◌, ℕ, true, false, List, [], ◌∷◌, ◌++◌, length, map, refl, sym, ap, subst, ◌∙◌, arith}
-use Rattle.std.specs.Prelude.{All, Some}
-use Rattle.std.proofs.lemmas.List.{append-nil}
-use Rattle.fb_types.specs.Blocks.{Event, Bound, Emission, bound, outputs_with, ports_of, ports_of_event_block, variable_names}
+use Rattle.fb_net.proofs.lemmas.Common.{◌≡◌, ◌≤◌, ℕ, true, false, List, [], ◌∷◌, ◌++◌, length, map, refl, sym, ap, subst, ◌∙◌, arith, All, Some, append-nil, Event, Bound, Emission, ports_of, ports_of_event_block, variable_names, Inputs, system_of, Name, Path, Port, carried_of, emission_of, event_at, line_of, pair_up, path_at, port_of, ports_at, Outcome, World, emissions, emitted_all, memory_of, spread, taking, System, Values, EventKind, Key, Ports, Variable, Target, TimerAsk, Value, IsEmission, RepresentsOutcome, asked, gathered, out_of, Out, Effects, EventCame, taken_reaction, InForest, IsForest, Forest, ComesTo, IsReady, entering, leaving, sampling}
+use Rattle.fb_types.proofs.Common.{bound, outputs_with, answered, crossing_out, emitted, from_inside, remembered, silent}
 use Rattle.fb_types.specs.EventBlocks as blocks
-use Rattle.fb_types.specs.Headline.{Inputs, system_of}
-use Rattle.fb_types.specs.Names.{Name, Path, Port}
-use Rattle.fb_types.specs.Numbers.{carried_of, emission_of, event_at, line_of, pair_up, path_at, port_of, ports_at}
 use Rattle.fb_types.specs.Reactions as reactions
-use Rattle.fb_types.specs.Reactions.{Outcome, World, answered, crossing_out, emissions, emitted, emitted_all, from_inside, memory_of, remembered, silent, spread, taking}
 use Rattle.fb_types.specs.States.{Line}
-use Rattle.fb_types.specs.Systems.{System}
-use Rattle.fb_types.specs.Values.{Values}
-use Rattle.fb_types.specs.declared.event_kind.EventKind.{EventKind}
-use Rattle.fb_types.specs.declared.key.Key.{Key}
-use Rattle.fb_types.specs.declared.library.Ports.{Ports}
-use Rattle.fb_types.specs.declared.library.Variable.{Variable}
 use Rattle.fb_types.specs.declared.run.Emission as run
-use Rattle.fb_types.specs.declared.run.Target.{Target}
-use Rattle.fb_types.specs.declared.run.TimerAsk.{TimerAsk}
-use Rattle.fb_types.specs.declared.value.Value.{Value}
 use Rattle.fb_types.proofs.lemmas.names.NameLaws.{same_name-itself}
 use Rattle.fb_types.proofs.lemmas.events.EventCounts.{one_input}
-use Rattle.fb_system.specs.Lines.{IsEmission}
-use Rattle.fb_net.specs.Outs.{Gathered, RepresentsOutcome, asked, gathered, out_of}
-use Rattle.fb_net.specs.declared.effects.Out.{Out}
-use Rattle.fb_net.specs.declared.effects.Effects.{Effects}
+use Rattle.fb_net.specs.Outs.{Gathered}
 use Rattle.fb_event.specs.Reactions.{FitTheirTypes}
-use Rattle.fb_net.specs.Leaves.{EventCame, HasTypedInputs, taken_reaction}
+use Rattle.fb_net.specs.Leaves.{HasTypedInputs}
 use Rattle.fb_net.specs.Samples.{AreShown}
-use Rattle.fb_net.specs.Worlds.{InForest, IsForest}
-use Rattle.fb_net.specs.declared.resource.Forest.{Forest}
 use Rattle.fb_laws.specs.Typed.{AllFit, AreTyped, IsTypedSystem, variable_named}
 use Rattle.fb_laws.proofs.lemmas.typing.ReactionTypes.{taking_typed}
-use Rattle.fb_net.specs.Arrivals.{ComesTo, IsReady, AreTypedAt, WritesAndEmits, entering, leaving, reacting, sampling}
+use Rattle.fb_net.specs.Arrivals.{AreTypedAt, WritesAndEmits, reacting}
 use Rattle.fb_net.proofs.lemmas.values.Sampling.{bound-paired, input_port, output_port, port_named, ports-of_kind}
 
 -- ---- Values of their types

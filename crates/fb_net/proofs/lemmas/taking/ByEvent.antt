@@ -1,48 +1,23 @@
 -- Taking an event is what the model makes of it, by what the event is.
-use Rattle.std.proofs.Common.{◌≡◌, ℕ, List, map, refl, sym, ap, subst, ◌∙◌}
-use Rattle.std.specs.Prelude.{None, Option, Some, Result, Ok, Err}
+use Rattle.fb_net.proofs.lemmas.Common.{◌≡◌, ℕ, List, map, refl, sym, ap, subst, ◌∙◌, None, Option, Some, Result, Ok, Err, append-nil, Bound, Emission, Event, ports_of, kind_of, Inputs, system_of, Path, Port, carried_of, emission_of, line_of, path_at, port_of, ports_at, Outcome, World, emissions, emitted_all, System, EventKind, Key, BlockType, Ports, Halt, Target, TimerAsk, Value, InputValue, RepresentsOutcome, asked, gathered, out_of, Effects, EventCame, HoldsAll, Changes, InForest, IsForest, Forest, Arrives, ComesTo, HasReacted, AreKept}
+use Rattle.fb_types.proofs.Common.{Reacts, ReactsAt, expires, hold_all, remembered, silent, with_slots, Stimulated, path_of, Message, Reason}
 use Rattle.std.specs.Option.{option_map}
-use Rattle.std.proofs.lemmas.List.{append-nil}
-use Rattle.fb_types.specs.Blocks.{Bound, Emission, Event, ports_of}
 use Rattle.fb_types.specs.EventBlocks as blocks
-use Rattle.fb_types.specs.Flat.{kind_of}
-use Rattle.fb_types.specs.Headline.{Inputs, system_of}
-use Rattle.fb_types.specs.Names.{Path, Port}
-use Rattle.fb_types.specs.Numbers.{carried_of, emission_of, line_of, path_at, port_of, ports_at}
-use Rattle.fb_types.specs.Reactions.{Outcome, Reacts, ReactsAt, World, emissions, emitted_all, expires, hold_all, remembered, silent, with_slots}
-use Rattle.fb_types.specs.States.{Stimulated, path_of}
 use Rattle.fb_types.specs.States as model
-use Rattle.fb_types.specs.Systems.{System}
-use Rattle.fb_types.specs.declared.event_kind.EventKind.{EventKind}
-use Rattle.fb_types.specs.declared.key.Key.{Key}
-use Rattle.fb_types.specs.declared.library.BlockType.{BlockType}
 use Rattle.fb_types.specs.declared.library.BlockType.TheVariants as block
-use Rattle.fb_types.specs.declared.library.Ports.{Ports}
 use Rattle.fb_types.specs.declared.run.Emission as run
-use Rattle.fb_types.specs.declared.run.Halt.{Halt}
 use Rattle.fb_types.specs.declared.run.Halt.TheVariants as halt
-use Rattle.fb_types.specs.declared.run.Message.{Message}
-use Rattle.fb_types.specs.declared.run.Target.{Target}
-use Rattle.fb_types.specs.declared.run.TimerAsk.{TimerAsk}
-use Rattle.fb_types.specs.declared.value.Reason.{Reason}
-use Rattle.fb_types.specs.declared.value.Value.{Value}
 use Rattle.fb_types.specs.declared.run.Event.{Event as Waiting}
 use Rattle.fb_types.specs.declared.run.Event.TheVariants as waits
-use Rattle.fb_net.specs.Outs.{Gathered, RepresentsOutcome, asked, gathered, out_of}
-use Rattle.fb_net.specs.declared.effects.Effects.{Effects}
-use Rattle.fb_net.specs.Leaves.{EventCame, expiry_reaction}
-use Rattle.fb_net.specs.Samples.{HoldsAll, slots_set}
+use Rattle.fb_net.specs.Outs.{Gathered}
+use Rattle.fb_net.specs.Leaves.{expiry_reaction}
+use Rattle.fb_net.specs.Samples.{slots_set}
 use Rattle.fb_system.specs.Stimuli.{IsStimulusAt, set_of}
 use Rattle.fb_system.specs.declared.stimulus.StimulusAt.{StimulusAt}
-use Rattle.fb_types.specs.declared.run.InputValue.{InputValue}
-use Rattle.fb_net.specs.Changes.{Changes}
-use Rattle.fb_net.specs.Worlds.{InForest, IsForest}
-use Rattle.fb_net.specs.declared.resource.Forest.{Forest}
 use Rattle.fb_laws.specs.Typed.{AreTyped, IsTypedEvent}
 use Rattle.fb_laws.proofs.lemmas.typing.ReactionTypes.{held_typed, slots_typed}
-use Rattle.fb_net.specs.Arrivals.{Arrives, ComesTo, HasReacted, ReactedIn, AreTypedAt, expiring}
+use Rattle.fb_net.specs.Arrivals.{ReactedIn, AreTypedAt, expiring}
 use Rattle.fb_net.specs.Events.{Came, HasTaken, event_of, stimulated}
-use Rattle.fb_net.specs.Steps.{AreKept}
 use Rattle.fb_net.proofs.lemmas.taking.Crossing.{answered-left, answered-stop}
 use Rattle.fb_net.proofs.lemmas.emitting.PortRows.{path-of_port}
 use Rattle.fb_net.proofs.lemmas.values.Sampling.{ports-of_kind}

@@ -1,33 +1,13 @@
 -- The arrival of an event at a basic block is what the model makes of it, also where a reason stops it.
-use Rattle.std.proofs.Common.{◌≡◌, ℕ, Bool, true, false, cond, List, [], ◌∷◌, map, refl, sym, ap, subst, ◌∙◌}
-use Rattle.std.specs.Prelude.{None, Option, Some, Result, Ok, Err}
-use Rattle.std.proofs.Math.Path.{fun_ext}
-use Rattle.fb_types.specs.Blocks.{Kind, Basic, Emission, inputs_with}
-use Rattle.fb_types.specs.Charts.{ChartReacts, Position}
-use Rattle.fb_types.specs.Headline.{Inputs, system_of}
-use Rattle.fb_types.specs.Names.{Path, Port, same_path}
-use Rattle.fb_types.specs.Numbers.{emission_of, event_at, line_of, path_at, ports_at}
-use Rattle.fb_types.specs.Reactions.{Outcome, ReactsAt, World, charted, emitted, emitted_all, sampled, settled, start_of, state_of, taking, with_block}
+use Rattle.fb_net.proofs.lemmas.Common.{◌≡◌, ℕ, Bool, true, false, cond, List, [], ◌∷◌, map, refl, sym, ap, subst, ◌∙◌, None, Option, Some, Result, Ok, Err, fun_ext, Kind, Basic, Emission, inputs_with, Inputs, system_of, Path, Port, same_path, emission_of, event_at, line_of, path_at, ports_at, Outcome, World, emitted_all, taking, with_block, System, Values, Key, BasicType, Ports, Halt, Target, Value, gathered, RepresentsOutcome, Effects, InForest, IsForest, Forest, Arrives, HasReacted, IsReady}
+use Rattle.fb_types.proofs.Common.{ChartReacts, Position, ReactsAt, charted, emitted, sampled, settled, start_of, state_of, Reason}
 use Rattle.fb_types.specs.States as model
-use Rattle.fb_types.specs.Systems.{System}
-use Rattle.fb_types.specs.Values.{Values}
-use Rattle.fb_types.specs.declared.key.Key.{Key}
-use Rattle.fb_types.specs.declared.library.BasicType.{BasicType}
-use Rattle.fb_types.specs.declared.library.Ports.{Ports}
 use Rattle.fb_types.specs.declared.run.Emission as run
-use Rattle.fb_types.specs.declared.run.Halt.{Halt}
 use Rattle.fb_types.specs.declared.run.Halt.TheVariants as halt
-use Rattle.fb_types.specs.declared.run.Target.{Target}
-use Rattle.fb_types.specs.declared.value.Reason.{Reason}
-use Rattle.fb_types.specs.declared.value.Value.{Value}
 use Rattle.fb_types.proofs.lemmas.names.PathLaws.{same_path_itself}
-use Rattle.fb_net.specs.Outs.{gathered, RepresentsOutcome}
-use Rattle.fb_net.specs.declared.effects.Effects.{Effects}
 use Rattle.fb_net.specs.Leaves.{ChartCame, ChartEnded, EachWorld, chart_start, charted_block}
 use Rattle.fb_net.specs.Samples.{AreSampled}
-use Rattle.fb_net.specs.Worlds.{InForest, IsForest}
-use Rattle.fb_net.specs.declared.resource.Forest.{Forest}
-use Rattle.fb_net.specs.Arrivals.{Arrives, HasReacted, IsReady, IsBegun, ReactedIn, WritesAndEmits}
+use Rattle.fb_net.specs.Arrivals.{IsBegun, ReactedIn, WritesAndEmits}
 use Rattle.fb_net.proofs.lemmas.values.Sampling.{line-sampled, port-here, port_named, ports-of_kind, taken_line, variables-sampled}
 
 -- ---- Emissions

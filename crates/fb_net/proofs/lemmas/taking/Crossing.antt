@@ -1,37 +1,15 @@
 -- What arrives at an instance is taken as its kind says.
-use Rattle.std.proofs.Common.{◌≡◌, ◌<◌, inl, inr, ⊎_elim, ℕ, Bool, true, false, cond, List, [], ◌∷◌, ◌++◌, length, Contains, refl, sym, ap, subst, ◌∙◌}
-use Rattle.std.specs.Prelude.{None, Option, Some, Result, Ok, Err, IfErr, OnOk, slice_get}
-use Rattle.std.proofs.lemmas.Bool.{false_from_ne_true}
-use Rattle.std.proofs.lemmas.List.{length-map}
-use Rattle.std.proofs.lemmas.List.Elements.{Contains-append_right, Contains-get_or}
-use Rattle.std.proofs.lemmas.Option.{get_or_from_slice_get, slice_get_within, unwrap_or-slice_get}
-use Rattle.fb_types.specs.Blocks.{Kind, Composite, Event, event_names, is_event_input, ports_of, variable_names}
+use Rattle.fb_net.proofs.lemmas.Common.{◌≡◌, ◌<◌, inl, inr, ℕ, Bool, true, false, cond, List, [], ◌∷◌, ◌++◌, length, Contains, refl, sym, ap, subst, ◌∙◌, None, Option, Some, Result, Ok, Err, slice_get, slice_get_within, Kind, Composite, Event, ports_of, variable_names, AreAccepted, Inputs, system_of, Name, Path, Port, event_at, path_at, port_of, ports_at, Outcome, World, emissions, memory_of, taking, Twice, System, EventKind, Key, BlockType, CompositeType, Ports, Halt, Target, Effects, Forest, Arrives, ComesTo, HasReacted, entering, leaving, Remembered}
+use Rattle.fb_types.proofs.Common.{⊎_elim, IfErr, OnOk, false_from_ne_true, length-map, Contains-append_right, Contains-get_or, get_or_from_slice_get, unwrap_or-slice_get, event_names, is_event_input, ReactsAt, answered, crossing_in, crossing_out, remembered, EventPort}
 use Rattle.fb_types.specs.EventBlocks as blocks
-use Rattle.fb_types.specs.Headline.{AreAccepted, Inputs, system_of}
-use Rattle.fb_types.specs.Names.{Name, Path, Port}
-use Rattle.fb_types.specs.Numbers.{event_at, path_at, port_of, ports_at}
-use Rattle.fb_types.specs.Reactions.{Outcome, ReactsAt, World, answered, crossing_in, crossing_out, emissions, memory_of, remembered, taking}
-use Rattle.fb_types.specs.Repeated.{Twice}
-use Rattle.fb_types.specs.Systems.{System}
-use Rattle.fb_types.specs.declared.event_kind.EventKind.{EventKind}
-use Rattle.fb_types.specs.declared.key.Key.{Key}
-use Rattle.fb_types.specs.declared.library.BlockType.{BlockType}
 use Rattle.fb_types.specs.declared.library.BlockType.TheVariants as block
-use Rattle.fb_types.specs.declared.library.CompositeType.{CompositeType}
-use Rattle.fb_types.specs.declared.library.EventPort.{EventPort}
-use Rattle.fb_types.specs.declared.library.Ports.{Ports}
-use Rattle.fb_types.specs.declared.run.Halt.{Halt}
 use Rattle.fb_types.specs.declared.run.Halt.TheVariants as halt
-use Rattle.fb_types.specs.declared.run.Target.{Target}
-use Rattle.fb_net.specs.declared.effects.Effects.{Effects}
 use Rattle.fb_types.proofs.lemmas.names.NameLaws.{any_from_contains, contains_from_any}
 use Rattle.fb_types.proofs.lemmas.lists.TwiceLaws.{Twice-append_left}
 use Rattle.fb_types.proofs.lemmas.lists.Elements.{Contains-cons_cases, Contains-nil}
 use Rattle.fb_check_names.proofs.lemmas.twice.NameTwice.{block_twice}
 use Rattle.fb_system.specs.Ports.{IsPort}
-use Rattle.fb_net.specs.declared.resource.Forest.{Forest}
-use Rattle.fb_net.specs.Arrivals.{Arrives, ComesTo, HasReacted, ReactedIn, entering, leaving, reacting}
-use Rattle.fb_net.specs.Events.{Remembered}
+use Rattle.fb_net.specs.Arrivals.{ReactedIn, reacting}
 use Rattle.fb_net.proofs.lemmas.taking.Charting.{emitted_all-left, emitted_all-stop}
 use Rattle.fb_net.proofs.lemmas.values.Sampling.{input_port, output_port, ports-of_kind}
 

@@ -1,30 +1,14 @@
 -- Event blocks that only pass events on.
-use Rattle.std.proofs.Common.{◌≡◌, ◌<◌, ℕ, List, [], ◌∷◌, length, map, Some, sym, ap, subst, ◌∙◌}
-use Rattle.fb_types.specs.Names.{Name}
-use Rattle.fb_types.specs.Blocks.{Emission, Event, bound, inputs_with, ports_of_event_block}
-use Rattle.fb_types.specs.EventBlocks.{Reaction, output_of}
-use Rattle.fb_types.specs.Headline.{Inputs, system_of}
-use Rattle.fb_types.specs.Numbers.{emission_of, event_at, pair_up, path_at, ports_at}
-use Rattle.fb_types.specs.Reactions.{World, emissions, memory_of, sampled_from}
+use Rattle.fb_net.proofs.lemmas.Common.{◌≡◌, ◌<◌, ℕ, List, [], ◌∷◌, length, map, Some, sym, ap, subst, ◌∙◌, Name, Emission, Event, inputs_with, ports_of_event_block, Inputs, system_of, emission_of, event_at, pair_up, path_at, ports_at, World, emissions, memory_of, sampled_from, System, Values, EventKind, Ports, Target, Value, block_in, with_instance, EventCame, taken_reaction, names_in, InForest, IsForest, Forest, IsEmission}
+use Rattle.fb_types.proofs.Common.{bound, Reaction, Keep}
+use Rattle.fb_types.specs.EventBlocks.{output_of}
 use Rattle.fb_types.specs.States as model
-use Rattle.fb_types.specs.Systems.{System}
-use Rattle.fb_types.specs.Values.{Values}
-use Rattle.fb_types.specs.declared.event_kind.EventKind.{EventKind}
-use Rattle.fb_types.specs.declared.library.Ports.{Ports}
-use Rattle.fb_types.specs.declared.run.Target.{Target}
-use Rattle.fb_types.specs.declared.run.TimerAsk.TheVariants.{Keep}
-use Rattle.fb_types.specs.declared.value.Value.{Value}
 use Rattle.fb_event.specs.Reactions.{PassesTo}
-use Rattle.fb_net.specs.Changes.{block_in, with_instance}
 use Rattle.fb_net.specs.Emitting.{bare}
-use Rattle.fb_net.specs.Leaves.{EventCame, taken_reaction}
-use Rattle.fb_net.specs.Samples.{AreSampled, names_in}
-use Rattle.fb_net.specs.Worlds.{InForest, IsForest}
-use Rattle.fb_net.specs.declared.resource.Forest.{Forest}
+use Rattle.fb_net.specs.Samples.{AreSampled}
 use Rattle.fb_net.proofs.lemmas.blocks.Changing.{changes_none}
 use Rattle.fb_net.proofs.lemmas.blocks.EventBlockReactions.{there}
 use Rattle.fb_net.proofs.lemmas.values.Sampling.{ports-of_kind}
-use Rattle.fb_system.specs.Lines.{IsEmission}
 
 -- the emission has no values
 emitted_bare : (k : EventKind) (out : ℕ) → PassesTo k out → (vars : Values)

@@ -1,16 +1,10 @@
 -- A taking goes on after a step of it, of the same system and under the same key.
-use Rattle.std.proofs.Common.{◌≡◌, ◌<◌, ◌++◌, ℕ, List, Result, Ok, Err, length, refl, sym, ap, subst, ◌∙◌}
-use Rattle.std.specs.Prelude.{OnOk}
-use Rattle.fb_types.specs.Headline.{Inputs, system_of}
-use Rattle.fb_types.specs.Reactions.{Outcome, World}
-use Rattle.fb_types.specs.declared.key.Key.{Key}
+use Rattle.fb_net.proofs.lemmas.Common.{◌≡◌, ◌<◌, ◌++◌, ℕ, List, Result, Ok, Err, length, refl, sym, ap, subst, ◌∙◌, Inputs, system_of, Outcome, World, Key, ComesTo, IsReady, StillAreOuts, AreKept, Effects, Forest}
+use Rattle.fb_types.proofs.Common.{OnOk}
 use Rattle.fb_types.specs.declared.run.Emission.{Emission}
-use Rattle.fb_net.specs.Arrivals.{ComesTo, IsReady}
 use Rattle.fb_net.specs.Emitting.{HasEmitted}
-use Rattle.fb_net.specs.Outs.{AreOuts, StillAreOuts}
-use Rattle.fb_net.specs.Steps.{AreKept, ArePutOut, EmitsWell, HasDone, IsKept, IsSame, MayBegin, MayEmit, StaysWhole}
-use Rattle.fb_net.specs.declared.effects.Effects.{Effects}
-use Rattle.fb_net.specs.declared.resource.Forest.{Forest}
+use Rattle.fb_net.specs.Outs.{AreOuts}
+use Rattle.fb_net.specs.Steps.{ArePutOut, EmitsWell, HasDone, IsKept, IsSame, MayBegin, MayEmit, StaysWhole}
 use Rattle.fb_net.specs.declared.taking.Taking.{Taking}
 use Rattle.fb_net.proofs.lemmas.emitting.Emitting.{more_emitted}
 use Rattle.fb_net.proofs.lemmas.blocks.BlocksKept.{kept-same, kept-then, stands-kept}

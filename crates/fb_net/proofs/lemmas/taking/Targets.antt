@@ -1,24 +1,10 @@
 -- Where an event goes from a port, target after target.
-use Rattle.std.proofs.Common.{◌≡◌, ℕ, ◌+◌, ◌<◌, ◌≤◌, ◌≢◌, ◌==◌, Bool, true, false, List, [], ◌∷◌, ◌++◌, map, take, length, get_or, Option, Some, None, refl, sym, ap, subst, ◌∙◌, inl, inr, append_assoc, arith}
-use mathlib.Core.Bool.{false≢true, not}
-use Rattle.std.specs.Prelude.{◌↔◌, All, IsTrue, if◌then◌else◌, option_map, slice_get}
-use Rattle.std.proofs.lemmas.Bool.{cases_lt}
-use Rattle.std.proofs.lemmas.Bool.Decides.{nat_tests}
-use Rattle.std.proofs.lemmas.List.{append-nil, length-append, map-append, take_all, take_more}
-use Rattle.std.proofs.lemmas.List.Elements.{All-push}
-use Rattle.std.proofs.lemmas.Option.{get_or_from_slice_get, slice_get-get_or, slice_get_within}
-use Rattle.fb_types.specs.Names.{Port}
-use Rattle.fb_types.specs.Numbers.{carried_of, path_at, port_of}
+use Rattle.fb_net.proofs.lemmas.Common.{◌≡◌, ℕ, ◌+◌, ◌<◌, ◌≤◌, ◌≢◌, ◌==◌, Bool, true, false, List, [], ◌∷◌, ◌++◌, map, take, length, get_or, Option, Some, None, refl, sym, ap, subst, ◌∙◌, inl, inr, append_assoc, arith, All, if◌then◌else◌, option_map, slice_get, nat_tests, append-nil, length-append, map-append, take_all, take_more, slice_get-get_or, slice_get_within, Port, carried_of, path_at, port_of, spread, System, Carried, Value, IsOut, out_of, Out}
+use Rattle.fb_types.proofs.Common.{false≢true, not, ◌↔◌, IsTrue, cases_lt, All-push, get_or_from_slice_get}
 use Rattle.fb_types.specs.Reactions as reactions
-use Rattle.fb_types.specs.Reactions.{spread}
-use Rattle.fb_types.specs.Systems.{System}
 use Rattle.fb_system.specs.declared.next_target.NextTarget.{NextTarget}
-use Rattle.fb_types.specs.declared.run.Carried.{Carried}
-use Rattle.fb_types.specs.declared.value.Value.{Value}
 use Rattle.fb_system.specs.Ports.{AreTogether, IsCarried, IsTarget, link_of}
 use Rattle.fb_net.specs.Emitting.{GoesTo, PutsOut, message_to, out_at, out_to}
-use Rattle.fb_net.specs.Outs.{IsOut, out_of}
-use Rattle.fb_net.specs.declared.effects.Out.{Out}
 use Rattle.fb_net.specs.declared.effects.Out.TheVariants.{Local}
 use Rattle.fb_net.proofs.lemmas.emitting.PortRows.{path-of_port}
 

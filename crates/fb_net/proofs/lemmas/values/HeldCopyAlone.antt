@@ -1,24 +1,11 @@
 -- A held copy changes alone: different variables of an accepted system have different numbers.
-use Rattle.std.proofs.Common.{◌≡◌, ℕ, ◌<◌, [], length, Bool, true, false, ◌&&◌, Contains, refl, ap, sym, ◌∙◌, inl}
-use Rattle.std.proofs.lemmas.Bool.{true≢false}
-use Rattle.std.specs.Prelude.{Some, None, slice_get, if◌then◌else◌}
-use Rattle.fb_types.specs.Names.{Name, Path, Port, same_name, same_path, same_port}
-use Rattle.fb_types.specs.Blocks.{ports, ports_of, variable_names}
-use Rattle.fb_types.specs.Headline.{AreAccepted, Inputs, system_of}
-use Rattle.fb_types.specs.Numbers.{path_at}
-use Rattle.fb_types.specs.Reactions.{World}
-use Rattle.fb_types.specs.declared.library.Ports.{Ports}
-use Rattle.fb_types.specs.declared.value.Value.{Value}
+use Rattle.fb_net.proofs.lemmas.Common.{◌≡◌, ℕ, ◌<◌, [], length, Bool, true, false, Contains, refl, ap, sym, ◌∙◌, inl, true≢false, Some, None, slice_get, if◌then◌else◌, Name, Path, Port, same_name, same_path, ports, ports_of, variable_names, AreAccepted, Inputs, system_of, path_at, World, Ports, Value, InstanceVariable, IsVariable, variable_of, IsSet, held_at, HeldCopies, Forest}
+use Rattle.fb_types.proofs.Common.{◌&&◌, same_port}
 use Rattle.fb_types.proofs.lemmas.names.PathLaws.{same_path_is, same_path_itself}
 use Rattle.fb_types.proofs.lemmas.names.NameLaws.{any_from_contains, same_from_same_name, same_name-itself}
 use Rattle.fb_types.proofs.lemmas.lists.Elements.{Contains-nil}
-use Rattle.fb_types.specs.declared.run.InstanceVariable.{InstanceVariable}
-use Rattle.fb_system.specs.Ports.{IsVariable, variable_of}
 use Rattle.fb_net.specs.Changes.{Holds}
-use Rattle.fb_net.specs.HeldAt.{IsSet, held_at}
 use Rattle.fb_net.specs.Worlds.{input_names, output_names}
-use Rattle.fb_net.specs.declared.held_copies.HeldCopies.{HeldCopies}
-use Rattle.fb_net.specs.declared.resource.Forest.{Forest}
 use Rattle.fb_types.proofs.lemmas.lists.ByIndex.{element_of_index}
 use Rattle.fb_net.proofs.lemmas.values.NamesDiffer.{kind_apart}
 use Rattle.fb_net.proofs.lemmas.values.ShownValues.{at_is}

@@ -1,15 +1,8 @@
 -- The copies of the variables of other resources are found by sides and rows.
-use Rattle.std.proofs.Common.{◌≡◌, ◌≢◌, ℕ, ◌<◌, ◌+◌, ◌*◌, ◌==◌, Bool, true, false, List, [], ◌∷◌, ◌++◌, length, refl, sym, ◌∙◌, ap, inl, inr, arith}
-use Rattle.std.specs.Prelude.{zero, suc, Option, Some, None, if◌then◌else◌, slice_get, slice_set, unwrap_or}
-use Rattle.std.proofs.lemmas.Bool.{cases_eq}
-use Rattle.std.proofs.lemmas.Bool.Decides.{nat_tests}
-use Rattle.fb_types.specs.declared.run.InstanceVariable.{InstanceVariable}
-use Rattle.fb_types.specs.declared.value.Value.{Value}
+use Rattle.fb_net.proofs.lemmas.Common.{◌≡◌, ◌≢◌, ℕ, ◌<◌, ◌+◌, ◌==◌, Bool, true, false, List, [], ◌∷◌, ◌++◌, length, refl, sym, ◌∙◌, ap, inl, inr, arith, zero, suc, Option, Some, None, if◌then◌else◌, slice_get, slice_set, unwrap_or, cases_eq, nat_tests, InstanceVariable, Value, IsSet, held_at, side_index_of, index_in, HeldCopies, HeldRow}
+use Rattle.fb_types.proofs.Common.{◌*◌}
 use Rattle.fb_types.proofs.lemmas.lists.ByIndex.{element_at, slice_get-append_here, slice_get-append_left}
-use Rattle.fb_net.specs.HeldAt.{IsAdded, IsSet, copy_in, held_at, side_index_of}
-use Rattle.fb_net.specs.Worlds.{index_in}
-use Rattle.fb_net.specs.declared.held_copies.HeldCopies.{HeldCopies}
-use Rattle.fb_net.specs.declared.held_copies.HeldRow.{HeldRow}
+use Rattle.fb_net.specs.HeldAt.{IsAdded, copy_in}
 use Rattle.fb_net.proofs.lemmas.blocks.OtherBlocks.{get_set_other, get_set_same}
 
 -- ---- Places

@@ -1,17 +1,7 @@
 -- Values that are read at indexes, one after another.
-use Rattle.std.proofs.Common.{◌≡◌, ℕ, ◌+◌, ◌<◌, ◌≤◌, List, [], ◌∷◌, ◌++◌, length, get_or, map, take, refl, sym, ◌∙◌, ap, length-append}
-use Rattle.std.proofs.lemmas.List.{map-append, take_all, take_more}
-use Rattle.fb_types.specs.Headline.{Inputs, system_of}
-use Rattle.fb_types.specs.Names.{Name}
-use Rattle.fb_types.specs.Reactions.{World, from_inside, sampled_from}
-use Rattle.fb_types.specs.Numbers.{path_at, ports_at}
-use Rattle.fb_types.specs.declared.library.Variable.{Variable}
-use Rattle.fb_types.specs.declared.run.Target.{Target}
-use Rattle.fb_types.specs.declared.value.Value.{Value}
-use Rattle.fb_system.specs.IndexLists.{AreIndexes, variable_at}
+use Rattle.fb_net.proofs.lemmas.Common.{◌≡◌, ℕ, ◌+◌, ◌<◌, ◌≤◌, List, [], ◌∷◌, ◌++◌, length, get_or, map, take, refl, sym, ◌∙◌, ap, length-append, map-append, take_all, take_more, Inputs, system_of, Name, World, sampled_from, path_at, ports_at, Variable, Target, Value, AreIndexes, variable_at, InForest, IsForest, Forest}
+use Rattle.fb_types.proofs.Common.{from_inside}
 use Rattle.fb_system.specs.Ports.{data_input, data_output}
-use Rattle.fb_net.specs.Worlds.{InForest, IsForest}
-use Rattle.fb_net.specs.declared.resource.Forest.{Forest}
 use Rattle.fb_net.specs.Samples.{AreShown, names_out}
 
 -- The values are what is read at the first of some indexes, in each world that a forest represents.

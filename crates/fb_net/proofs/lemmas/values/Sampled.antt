@@ -1,21 +1,11 @@
 -- What a source shows is what the model says of its port.
-use Rattle.std.proofs.Common.{◌≡◌, ◌≢◌, ◌==◌, [], true, false, Contains, refl, ap, sym, ◌∙◌, subst, inl, arith}
-use Rattle.std.proofs.lemmas.Bool.Decides.{nat_tests}
-use Rattle.std.specs.Prelude.{Option, Some, None, if◌then◌else◌, unwrap_or}
-use Rattle.fb_types.specs.Blocks.{Kind, ports, ports_of, variable_names}
-use Rattle.fb_types.specs.Headline.{AreAccepted, Inputs, system_of}
-use Rattle.fb_types.specs.Numbers.{path_at}
-use Rattle.fb_types.specs.Reactions.{World, is_input_of, seen, shown}
-use Rattle.fb_types.specs.declared.library.Ports.{Ports}
-use Rattle.fb_types.specs.declared.value.Value.{Value}
-use Rattle.fb_types.specs.declared.run.InstanceVariable.{InstanceVariable}
+use Rattle.fb_net.proofs.lemmas.Common.{◌≡◌, ◌≢◌, ◌==◌, [], true, false, Contains, refl, ap, sym, ◌∙◌, subst, inl, arith, nat_tests, Option, Some, None, if◌then◌else◌, unwrap_or, Kind, ports, ports_of, variable_names, AreAccepted, Inputs, system_of, path_at, World, Ports, Value, InstanceVariable, IsVariable, variable_of, held_at, InForest, Forest}
+use Rattle.fb_types.proofs.Common.{shown, zero_value}
+use Rattle.fb_types.specs.Reactions.{is_input_of, seen}
 use Rattle.fb_types.proofs.lemmas.names.NameLaws.{any_from_contains}
-use Rattle.fb_system.specs.Ports.{IsSource, IsVariable, variable_of, variables_at}
+use Rattle.fb_system.specs.Ports.{IsSource, variables_at}
 use Rattle.fb_net.specs.Changes.{ShowsInside}
-use Rattle.fb_types.specs.Flat.{zero_value}
-use Rattle.fb_net.specs.HeldAt.{held_at}
-use Rattle.fb_net.specs.Worlds.{InForest, IsComposite, Reads, Samples, Sees, Shows}
-use Rattle.fb_net.specs.declared.resource.Forest.{Forest}
+use Rattle.fb_net.specs.Worlds.{IsComposite, Reads, Samples, Sees, Shows}
 use Rattle.fb_net.proofs.lemmas.values.NamesDiffer.{kind_apart}
 use Rattle.fb_types.proofs.lemmas.lists.ByIndex.{element_of_index}
 use Rattle.fb_net.proofs.lemmas.values.ShownValues.{at_is, name_there}

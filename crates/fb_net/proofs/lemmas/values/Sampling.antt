@@ -1,32 +1,12 @@
 -- Values that are sampled one by one are what the model's variables hold then.
-use Rattle.std.proofs.Common.{◌≡◌, ℕ, Bool, true, false, cond, List, [], ◌∷◌, ◌++◌, map, refl, sym, ap, subst, ◌∙◌}
-use Rattle.std.specs.Prelude.{◌||◌, Option, None, Some}
-use Rattle.std.proofs.Math.Path.{fun_ext}
-use Rattle.std.proofs.lemmas.Bool.{or_left, or_right}
-use Rattle.std.proofs.lemmas.List.{append-nil}
-use Rattle.fb_types.specs.Blocks.{Kind, among, Bound, bound, inputs_with, ports, ports_of}
-use Rattle.fb_types.specs.Headline.{Inputs, system_of}
-use Rattle.fb_types.specs.Names.{Name, Path, Port, same_name, with_value}
-use Rattle.fb_types.specs.Numbers.{event_at, event_input, event_output, line_of, pair_up, path_at, port_of, ports_at}
-use Rattle.fb_types.specs.Reactions.{Outcome, World, sampled, sampled_from, taking, with_block, with_values}
+use Rattle.fb_net.proofs.lemmas.Common.{◌≡◌, ℕ, Bool, true, false, cond, List, [], ◌∷◌, ◌++◌, map, refl, sym, ap, subst, ◌∙◌, Option, None, Some, fun_ext, append-nil, Kind, among, Bound, inputs_with, ports, ports_of, Inputs, system_of, Name, Path, Port, same_name, with_value, event_at, event_output, line_of, pair_up, path_at, port_of, ports_at, Outcome, World, sampled_from, taking, with_block, with_values, System, Values, Key, Ports, Target, Value, AreIndexes, RepresentsOutcome, gathered, out_of, Effects, all_sampled, names_in, Changes, InForest, IsForest, Forest, ComesTo, IsReady, sampling}
+use Rattle.fb_types.proofs.Common.{◌||◌, or_left, or_right, bound, sampled}
+use Rattle.fb_types.specs.Numbers.{event_input}
 use Rattle.fb_types.specs.States.{Line}
-use Rattle.fb_types.specs.Systems.{System}
-use Rattle.fb_types.specs.Values.{Values}
-use Rattle.fb_types.specs.declared.key.Key.{Key}
-use Rattle.fb_types.specs.declared.library.Ports.{Ports}
 use Rattle.fb_types.specs.declared.run.Line as run_line
-use Rattle.fb_types.specs.declared.run.Target.{Target}
-use Rattle.fb_types.specs.declared.value.Value.{Value}
 use Rattle.fb_types.proofs.lemmas.names.NameLaws.{same_from_same_name, same_name-itself}
 use Rattle.fb_system.specs.Ports.{data_input}
-use Rattle.fb_system.specs.IndexLists.{AreIndexes}
-use Rattle.fb_net.specs.Outs.{RepresentsOutcome, gathered, out_of}
-use Rattle.fb_net.specs.declared.effects.Effects.{Effects}
-use Rattle.fb_net.specs.Samples.{AreSampled, all_sampled, names_in}
-use Rattle.fb_net.specs.Changes.{Changes}
-use Rattle.fb_net.specs.Worlds.{InForest, IsForest}
-use Rattle.fb_net.specs.declared.resource.Forest.{Forest}
-use Rattle.fb_net.specs.Arrivals.{ComesTo, IsReady, sampling}
+use Rattle.fb_net.specs.Samples.{AreSampled}
 
 -- ---- Values with their names
 

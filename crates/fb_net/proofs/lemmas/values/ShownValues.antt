@@ -1,23 +1,9 @@
 -- What is read at an index of a shell is what the model's block holds for the name there.
-use Rattle.std.proofs.Common.{◌≡◌, ◌≢◌, ℕ, ◌<◌, suc, List, [], ◌∷◌, length, true, false, get_or, refl, ap, sym, ◌∙◌, subst}
-use Rattle.std.specs.Prelude.{Option, Some, unwrap_or, slice_get, if◌then◌else◌}
-use Rattle.std.proofs.lemmas.Option.{slice_get_read}
-use Rattle.fb_types.specs.Names.{Path}
-use Rattle.fb_types.specs.Values.{Values}
-use Rattle.fb_types.specs.Blocks.{Basic, Composite, variable_names}
-use Rattle.fb_types.specs.Flat.{zero_value}
-use Rattle.fb_types.specs.Headline.{Inputs, system_of}
-use Rattle.fb_types.specs.Numbers.{path_at, ports_at}
+use Rattle.fb_net.proofs.lemmas.Common.{◌≡◌, ◌≢◌, ℕ, ◌<◌, suc, List, [], ◌∷◌, length, true, false, get_or, refl, ap, sym, ◌∙◌, subst, Option, Some, unwrap_or, slice_get, if◌then◌else◌, Path, Values, Basic, Composite, variable_names, Inputs, system_of, path_at, ports_at, System, BasicType, Variable, Value, InstanceVariable, IsVariable, variable_of, ShellRepresents, index_in, value_in, Forest, Shell}
+use Rattle.fb_types.proofs.Common.{slice_get_read, zero_value}
 use Rattle.fb_types.specs.States as model
-use Rattle.fb_types.specs.Systems.{System}
-use Rattle.fb_types.specs.declared.library.BasicType.{BasicType}
-use Rattle.fb_types.specs.declared.library.Variable.{Variable}
-use Rattle.fb_types.specs.declared.value.Value.{Value}
-use Rattle.fb_types.specs.declared.run.InstanceVariable.{InstanceVariable}
-use Rattle.fb_system.specs.Ports.{IsVariable, data_input, data_output, variable_of, variables_at}
-use Rattle.fb_net.specs.Worlds.{IsComposite, Reads, ShellRepresents, ValuesRepresent, index_in, value_in}
-use Rattle.fb_net.specs.declared.resource.Forest.{Forest}
-use Rattle.fb_net.specs.declared.shell.Shell.{Shell}
+use Rattle.fb_system.specs.Ports.{data_input, data_output, variables_at}
+use Rattle.fb_net.specs.Worlds.{IsComposite, Reads, ValuesRepresent}
 use Rattle.fb_types.proofs.lemmas.lists.ByIndex.{element_at}
 
 -- ---- Values

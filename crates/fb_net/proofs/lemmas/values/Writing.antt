@@ -1,33 +1,14 @@
 -- A value that is put at the index of a name is put at the name, where each name is once.
-use Rattle.std.proofs.Common.{◌≡◌, ◌≢◌, ℕ, ◌<◌, zero, suc, List, [], ◌∷◌, length, Bool, true, false, Contains, refl, ap, sym, ◌∙◌, subst, inl, inr, ⊎_elim}
-use Rattle.std.proofs.lemmas.Bool.{cases_eq, true≢false}
-use Rattle.std.specs.Prelude.{Option, Some, None, slice_get, slice_set, if◌then◌else◌}
-use Rattle.fb_types.specs.Names.{Name, Path, same_name, same_path, with_value}
-use Rattle.fb_types.specs.Values.{Values}
-use Rattle.fb_types.specs.Blocks.{Kind, Basic, Event, Composite, ports, ports_of, variable_names}
-use Rattle.fb_types.specs.Headline.{AreAccepted, Inputs, system_of}
-use Rattle.fb_types.specs.Numbers.{path_at}
+use Rattle.fb_net.proofs.lemmas.Common.{◌≡◌, ◌≢◌, ℕ, ◌<◌, zero, suc, List, [], ◌∷◌, length, Bool, true, false, Contains, refl, ap, sym, ◌∙◌, subst, inl, inr, cases_eq, true≢false, Option, Some, None, slice_get, slice_set, if◌then◌else◌, Name, Path, same_name, same_path, with_value, Values, Kind, Basic, Event, Composite, ports, ports_of, variable_names, AreAccepted, Inputs, system_of, path_at, World, with_block, Twice, System, BasicType, Ports, Value, InstanceVariable, IsVariable, variable_of, components_of, own_of, Changes, block_at, put_at, InForest, IsForest, ShellRepresents, Represents, index_in, way_in, Block, Block-F, Forest, Shell}
+use Rattle.fb_types.proofs.Common.{⊎_elim}
 use Rattle.fb_types.specs.States as model
 use Rattle.fb_types.proofs.lemmas.names.PathLaws.{same_path_is, same_path_itself}
-use Rattle.fb_types.specs.Reactions.{World, with_block}
-use Rattle.fb_types.specs.Repeated.{Twice}
-use Rattle.fb_types.specs.Systems.{System}
-use Rattle.fb_types.specs.declared.library.BasicType.{BasicType}
-use Rattle.fb_types.specs.declared.library.Ports.{Ports}
-use Rattle.fb_types.specs.declared.value.Value.{Value}
-use Rattle.fb_types.specs.declared.run.InstanceVariable.{InstanceVariable}
-use Rattle.fb_system.specs.Ports.{IsVariable, variable_of}
 use Rattle.fb_types.proofs.lemmas.names.NameLaws.{any_from_contains, same_name-itself, same_name-apart}
-use Rattle.fb_net.specs.Blocks.{components_of, own_of, with_input, with_published, with_slot}
-use Rattle.fb_net.specs.Changes.{Changes}
+use Rattle.fb_net.specs.Blocks.{with_input, with_published, with_slot}
 use Rattle.fb_net.specs.Changes as specs
-use Rattle.fb_net.specs.Trees.{PutAlone, block_at, put_at}
-use Rattle.fb_net.specs.Worlds.{InForest, IsForest, NodeRepresents, ShellAt, ShellRepresents, RepresentsAt, Represents, TakesSamples, ValuesRepresent, input_names, output_names, index_in, way_in, with_shell_at}
-use Rattle.fb_net.specs.declared.block.Block.{Block}
-use Rattle.fb_net.specs.declared.block.Block.TheOpen.{Block-F}
+use Rattle.fb_net.specs.Trees.{PutAlone}
+use Rattle.fb_net.specs.Worlds.{NodeRepresents, ShellAt, RepresentsAt, TakesSamples, ValuesRepresent, input_names, output_names, with_shell_at}
 use Rattle.fb_net.specs.declared.block.Block.TheViews.{out-Block}
-use Rattle.fb_net.specs.declared.resource.Forest.{Forest}
-use Rattle.fb_net.specs.declared.shell.Shell.{Shell}
 use Rattle.fb_net.proofs.lemmas.values.NamesDiffer.{kind_apart}
 use Rattle.fb_types.proofs.lemmas.lists.ByIndex.{element_of_index}
 use Rattle.fb_net.proofs.lemmas.blocks.OtherBlocks.{get_set_other, get_set_same, others_stay}

@@ -1,5 +1,4 @@
-use Rattle.std.proofs.Common.{◌≡◌, ◌+◌, Some, None, drop, get_or, refl, sym, ap, ◌∙◌, rules}
-use Rattle.fb_read.specs.Blank.{at, skip, step, stepped}
+use Rattle.fb_read.proofs.lemmas.Common.{◌≡◌, ◌+◌, Some, None, drop, get_or, refl, sym, ap, ◌∙◌, rules, at, skip, step, stepped}
 use Rattle.fb_read.proofs.lemmas.tokens.Comments.{begins-comment, in-comment, may-not-end, none-within, since-begun}
 use Rattle.fb_read.proofs.lemmas.tokens.Skips.{skip_turn, skip_end}
 use Rattle.fb_read.proofs.blank.open_comment.Goals as goal

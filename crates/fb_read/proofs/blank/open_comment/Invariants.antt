@@ -1,5 +1,4 @@
-use Rattle.std.proofs.Common.{◌≡◌, drop}
-use Rattle.fb_read.specs.Blank.{at, skip, start}
+use Rattle.fb_read.proofs.lemmas.Common.{◌≡◌, drop, at, skip, start}
 use Rattle.fb_read.proofs.lemmas.tokens.Comments.{InComment}
 use Rattle.fb_read.proofs.blank.open_comment.Given as goal
 

@@ -1,6 +1,5 @@
-use Rattle.std.proofs.Common.{◌≡◌, ◌+◌, Some, None, drop, get_or, sym, ap, ◌∙◌, rules, true, false}
+use Rattle.fb_read.proofs.lemmas.Common.{◌≡◌, ◌+◌, Some, None, drop, get_or, sym, ap, ◌∙◌, rules, true, false, at, skip, step, stepped, may_end}
 use Rattle.std.proofs.lemmas.List.{take_rest}
-use Rattle.fb_read.specs.Blank.{at, skip, step, stepped, may_end}
 use Rattle.fb_read.proofs.lemmas.tokens.Skips.{skip_turn, skip_end}
 use Rattle.fb_read.proofs.blank.skip.Goals as goal
 

@@ -1,5 +1,4 @@
-use Rattle.std.proofs.Common.{◌≡◌, drop}
-use Rattle.fb_read.specs.Blank.{skip, start}
+use Rattle.fb_read.proofs.lemmas.Common.{◌≡◌, drop, skip, start}
 use Rattle.fb_read.proofs.blank.skip.Given as goal
 
 abbrev pub invariant-loop-i : goal.invariant-loop-i

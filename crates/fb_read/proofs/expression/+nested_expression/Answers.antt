@@ -1,5 +1,4 @@
-use Rattle.std.proofs.Common.{◌≡◌, ap, arith}
-use Rattle.fb_read.specs.Expressions.{nested_expression}
+use Rattle.fb_read.proofs.lemmas.Common.{◌≡◌, ap, arith, nested_expression}
 use Rattle.fb_read.proofs.lemmas.rules.CountedLoops.{deeper}
 use Rattle.fb_read.proofs.expression.+nested_expression.Goals as goal
 

@@ -1,7 +1,5 @@
 use native.Mathlib.Numerals.{unary_clauses}
-use Rattle.std.proofs.Common.{refl}
-use Rattle.std.proofs.lemmas.Bool.{le-leb}
-use Rattle.fb_read.specs.Expressions.{around}
+use Rattle.fb_read.proofs.lemmas.Common.{refl, le-leb, around}
 use Rattle.fb_read.proofs.expression.around.Goals as goal
 
 pub returns-then-depth-below : goal.returns-then-depth-below

@@ -1,5 +1,4 @@
-use Rattle.std.proofs.Common.{arith}
-use Rattle.std.proofs.lemmas.Grind.{common_steps}
+use Rattle.fb_types.proofs.Common.{arith, common_steps}
 use Rattle.fb_read.proofs.front.front.Goals as goal
 
 pub returns-in-Some-clause-within : goal.returns-in-Some-clause-within

@@ -1,5 +1,4 @@
-use Rattle.std.proofs.Common.{arith, rules}
-use Rattle.std.proofs.lemmas.Grind.{common_steps}
+use Rattle.fb_types.proofs.Common.{arith, rules, common_steps}
 use Rattle.fb_read.specs.Front.{literal}
 use Rattle.fb_read.proofs.lemmas.tokens.FrontLaws.{len-within}
 use Rattle.fb_read.proofs.front.literal.Goals as goal

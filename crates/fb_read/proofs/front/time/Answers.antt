@@ -1,6 +1,4 @@
-use Rattle.std.proofs.Common.{arith, rules}
-use Rattle.std.proofs.lemmas.Grind.{common_steps}
-use Rattle.fb_read.specs.Front.{time}
+use Rattle.fb_read.proofs.lemmas.Common.{arith, rules, common_steps, time}
 use Rattle.fb_read.proofs.front.time.Goals as goal
 
 pub returns-in-Some-clause-within : goal.returns-in-Some-clause-within

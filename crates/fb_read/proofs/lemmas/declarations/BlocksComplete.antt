@@ -1,24 +1,14 @@
 -- What the grammar of block types and of libraries derives is read.
-use Rattle.std.proofs.Common.{◌≡◌, ◌<◌, true, false, List, ◌∷◌, [], ◌++◌, length, refl, ◌∙◌, arith}
-use Rattle.std.proofs.lemmas.List.Folds.{list_all-append}
-use Rattle.fb_types.specs.Names.{Name}
-use Rattle.fb_types.specs.declared.library.Ports.{Ports}
-use Rattle.fb_types.specs.declared.library.Network.{Network}
-use Rattle.fb_types.specs.declared.library.BasicType.{BasicType}
-use Rattle.fb_types.specs.declared.library.BlockType.{BlockType}
+use Rattle.fb_read.proofs.lemmas.Common.{◌≡◌, ◌<◌, true, false, List, ◌∷◌, [], ◌++◌, length, refl, ◌∙◌, arith, Name, Ports, Library, Mark, Tokens, same_mark, sees, name, expect, run_after, basic, block, library, is_mark, is_name, AreAll, IsLibrary}
+use Rattle.fb_types.proofs.Common.{list_all-append, Network, BasicType, BlockType}
 use Rattle.fb_types.specs.declared.library.BlockType.TheVariants as block_type
-use Rattle.fb_types.specs.declared.library.Library.{Library}
-use Rattle.fb_read.specs.declared.token.Mark.{Mark}
 use Rattle.fb_read.specs.declared.token.Mark.TheVariants as mark
 use Rattle.fb_read.specs.declared.token.Token.TheVariants as token
 use Rattle.fb_read.specs.Nodes.{basic_of, composite_of, library_of}
-use Rattle.fb_read.specs.Tokens.{Tokens}
-use Rattle.fb_read.specs.Parser.{same_mark, sees, name, expect, run_after}
-use Rattle.fb_read.specs.Blocks.{basic, composite, body, inside, block, library}
+use Rattle.fb_read.specs.Blocks.{composite, body, inside}
 use Rattle.fb_read.specs.Fits.{fits_transition, fits_algorithm, fits_block, fits_library}
-use Rattle.fb_read.specs.Grammar.{is_mark, is_name, AreAll}
 use Rattle.fb_read.specs.NetworkGrammar.{IsNetwork}
-use Rattle.fb_read.specs.BlocksGrammar.{IsBasic, is_basic, IsBody, of_basic, of_composite, IsBlock, is_block, IsLibrary, is_library}
+use Rattle.fb_read.specs.BlocksGrammar.{IsBasic, is_basic, IsBody, of_basic, of_composite, IsBlock, is_block, is_library}
 use Rattle.fb_read.proofs.lemmas.rules.Steps.{done, mark-shorter, name-shorter}
 use Rattle.fb_read.proofs.lemmas.rules.Lists.{IsComplete, IsShorter, Anything, all_fit, picked, bind-picked, pass-picked, run-complete}
 use Rattle.fb_read.proofs.lemmas.declarations.NetworkComplete.{network-complete, network-starts, network-shorter, application-complete, application-starts}

@@ -1,18 +1,11 @@
 -- What the parser of block types and of libraries reads is in the grammar.
-use Rattle.std.proofs.Common.{List, [], ◌++◌, Ok, sym, subst, inl, inr}
-use Rattle.fb_types.specs.Names.{Name}
-use Rattle.fb_types.specs.declared.library.Ports.{Ports}
-use Rattle.fb_types.specs.declared.library.BlockType.{BlockType}
+use Rattle.fb_read.proofs.lemmas.Common.{List, [], ◌++◌, Ok, sym, subst, inl, inr, Name, Ports, sees, name, expect, run_after, network, application, variables, ports, states, transitions, algorithms, basic, block, library, AreAll, IsLibrary}
+use Rattle.fb_types.proofs.Common.{BlockType}
 use Rattle.fb_types.specs.declared.library.BlockType.TheVariants as block_type
 use Rattle.fb_read.specs.declared.token.Mark.TheVariants as mark
 use Rattle.fb_read.specs.Nodes.{basic_of, composite_of, library_of}
-use Rattle.fb_read.specs.Parser.{sees, name, expect, run_after}
-use Rattle.fb_read.specs.Network.{network, application}
-use Rattle.fb_read.specs.Ports.{variables, ports}
-use Rattle.fb_read.specs.Charts.{states, transitions, algorithms}
-use Rattle.fb_read.specs.Blocks.{basic, composite, body, inside, block, library}
-use Rattle.fb_read.specs.Grammar.{AreAll}
-use Rattle.fb_read.specs.BlocksGrammar.{is_basic, IsBody, of_basic, of_composite, IsBlock, is_block, IsLibrary, is_library}
+use Rattle.fb_read.specs.Blocks.{composite, body, inside}
+use Rattle.fb_read.specs.BlocksGrammar.{is_basic, IsBody, of_basic, of_composite, IsBlock, is_block, is_library}
 use Rattle.fb_read.proofs.lemmas.rules.Steps.{both_ok, chosen, made, expected, named}
 use Rattle.fb_read.proofs.lemmas.rules.Lists.{IsSound, run-sound, adds-all}
 use Rattle.fb_read.proofs.lemmas.declarations.NetworkSound.{network-sound, application-sound}

@@ -1,22 +1,15 @@
 -- What the grammar of execution control charts derives is read.
-use Rattle.std.proofs.Common.{◌≡◌, ◌<◌, ◌≤◌, Bool, true, false, List, ◌∷◌, [], length, Option, Some, None, refl, ap, ◌∙◌, arith}
-use Rattle.fb_types.specs.declared.text.Expr.{Expr}
-use Rattle.fb_types.specs.declared.library.Action.{Action}
+use Rattle.fb_read.proofs.lemmas.Common.{◌≡◌, ◌<◌, ◌≤◌, Bool, true, false, List, ◌∷◌, [], length, Option, Some, None, refl, ap, ◌∙◌, arith, Expr, Action, Mark, transition_of, Tokens, same_mark, sees, after, name, name_if, one, word, expect, Stops, loosest, action, actions, state, states, condition, transition, transitions, structured_text, algorithm, algorithms, IsMark, is_mark, is_name, is_whole, AreAll}
+use Rattle.fb_types.proofs.Common.{Transition, Algorithm}
 use Rattle.fb_types.specs.declared.library.State.{State}
 use Rattle.fb_types.specs.declared.library.Condition.{Condition}
-use Rattle.fb_types.specs.declared.library.Transition.{Transition}
-use Rattle.fb_types.specs.declared.library.Algorithm.{Algorithm}
-use Rattle.fb_read.specs.declared.token.Mark.{Mark}
 use Rattle.fb_read.specs.declared.token.Mark.TheVariants as mark
 use Rattle.fb_read.specs.declared.token.Token.TheVariants as token
-use Rattle.fb_read.specs.Nodes.{condition_of, transition_of, algorithm_of}
-use Rattle.fb_read.specs.Tokens.{Tokens}
-use Rattle.fb_read.specs.Parser.{same_mark, sees, after, name, name_if, one, word, expect}
-use Rattle.fb_read.specs.Operators.{Stops, loosest}
-use Rattle.fb_read.specs.Charts.{action, actions, state, states, guard, condition, transition, transitions, structured_text, algorithm, algorithms}
+use Rattle.fb_read.specs.Nodes.{condition_of, algorithm_of}
+use Rattle.fb_read.specs.Charts.{guard}
 use Rattle.fb_read.specs.Nesting.{fits_expression, fits_body}
 use Rattle.fb_read.specs.Fits.{fits_guard, fits_transition, fits_algorithm}
-use Rattle.fb_read.specs.Grammar.{IsMark, is_mark, is_name, is_whole, AreAll, none, and_more}
+use Rattle.fb_read.specs.Grammar.{none, and_more}
 use Rattle.fb_read.specs.ChartsGrammar.{IsAction, of_algorithm, of_both, of_event, AreActions, no_actions, some_actions, IsState, is_state, AreStates, are_states, IsGuard, no_guard, some_guard, IsCondition, is_one, is_event, is_guarded, IsTransition, is_transition, AreTransitions, IsAlgorithm, is_algorithm}
 use Rattle.fb_read.proofs.lemmas.rules.Steps.{done, mark-shorter, name-shorter, whole-shorter}
 use Rattle.fb_read.proofs.lemmas.rules.Lists.{IsComplete, IsShorter, Anything, always, all-always, all_fit, picked, pass-picked, many-complete, many_after-complete, many-shorter, separated-complete, separated-shorter, section-complete, section-shorter, run-complete}

@@ -1,20 +1,13 @@
 -- What the parser of execution control charts reads is in the grammar.
-use Rattle.std.proofs.Common.{◌≡◌, cond, List, [], ◌∷◌, Option, Some, None, Ok, codes, sym, subst, inl, inr}
-use Rattle.std.specs.Prelude.{◌&&◌}
+use Rattle.fb_read.proofs.lemmas.Common.{◌≡◌, cond, List, [], ◌∷◌, Option, Some, None, Ok, codes, sym, subst, inl, inr, ◌&&◌, Name, Expr, Action, transition_of, Tokens, pure, refuse, name, name_if, one, word, expect, after, expression, action, actions, state, states, condition, transition, transitions, structured_text, algorithm, algorithms, IsMark, IsName, is_name, AreAll}
 use Rattle.std.specs.Option.{is_none}
-use Rattle.fb_types.specs.Names.{Name}
-use Rattle.fb_types.specs.declared.text.Expr.{Expr}
 use Rattle.fb_types.specs.declared.library.State.{State}
-use Rattle.fb_types.specs.declared.library.Action.{Action}
 use Rattle.fb_types.specs.declared.library.Condition.{Condition}
 use Rattle.fb_read.specs.declared.token.Mark.TheVariants as mark
 use Rattle.fb_read.specs.declared.token.Token.TheVariants as token
-use Rattle.fb_read.specs.Nodes.{action_of, state_of, condition_of, transition_of, algorithm_of}
-use Rattle.fb_read.specs.Tokens.{Tokens}
-use Rattle.fb_read.specs.Parser.{◌>>◌, pure, refuse, name, name_if, one, word, expect, after}
-use Rattle.fb_read.specs.Expressions.{expression}
-use Rattle.fb_read.specs.Charts.{action, actions, state, states, guard, condition, transition, transitions, structured_text, algorithm, algorithms}
-use Rattle.fb_read.specs.Grammar.{IsMark, IsName, is_name, AreAll}
+use Rattle.fb_read.specs.Nodes.{action_of, state_of, condition_of, algorithm_of}
+use Rattle.fb_read.specs.Parser.{◌>>◌}
+use Rattle.fb_read.specs.Charts.{guard}
 use Rattle.fb_read.specs.ChartsGrammar.{IsAction, of_algorithm, of_both, of_event, AreActions, no_actions, some_actions, IsState, is_state, AreStates, are_states, IsGuard, no_guard, some_guard, IsCondition, is_one, is_event, is_guarded, IsTransition, is_transition, AreTransitions, IsAlgorithm, is_algorithm}
 use Rattle.fb_read.proofs.lemmas.rules.Steps.{both_ok, made, eaten, expected, named, spelled, alone}
 use Rattle.fb_read.proofs.lemmas.rules.Lists.{IsSound, separated-sound, many_after-sound, section-sound, run-sound, adds-all}

@@ -1,19 +1,10 @@
 -- What the grammar of networks derives is read.
-use Rattle.std.proofs.Common.{◌≡◌, ◌<◌, ◌≤◌, Bool, false, List, ◌∷◌, length, refl, ap, ◌∙◌, arith}
-use Rattle.fb_types.specs.declared.value.Value.{Value}
-use Rattle.fb_types.specs.declared.library.PortName.{PortName}
-use Rattle.fb_types.specs.declared.library.Connection.{Connection}
-use Rattle.fb_types.specs.declared.library.Parameter.{Parameter}
-use Rattle.fb_types.specs.declared.library.Instance.{Instance}
-use Rattle.fb_types.specs.declared.library.Network.{Network}
+use Rattle.fb_read.proofs.lemmas.Common.{◌≡◌, ◌<◌, ◌≤◌, Bool, false, List, ◌∷◌, length, refl, ap, ◌∙◌, arith, Mark, Tokens, same_mark, sees, after, name, whole, literal, expect, many, section, port, connection, constant, parameter, parameters, instance, network, application, is_mark, is_name, is_whole, is_time, IsSection}
+use Rattle.fb_types.proofs.Common.{Value, PortName, Connection, Parameter, Instance, Network}
 use Rattle.fb_types.specs.declared.library.Application.{Application}
-use Rattle.fb_read.specs.declared.token.Mark.{Mark}
 use Rattle.fb_read.specs.declared.token.Mark.TheVariants as mark
 use Rattle.fb_read.specs.declared.token.Token.TheVariants as token
-use Rattle.fb_read.specs.Tokens.{Tokens}
-use Rattle.fb_read.specs.Parser.{same_mark, sees, after, name, whole, literal, expect, many, section}
-use Rattle.fb_read.specs.Network.{port, connection, constant, parameter, parameters, instance, network, application}
-use Rattle.fb_read.specs.Grammar.{is_mark, is_name, is_whole, is_time, AreMany, IsSection}
+use Rattle.fb_read.specs.Grammar.{AreMany}
 use Rattle.fb_read.specs.NetworkGrammar.{IsConstant, is_true, is_false, is_number, is_negative, is_duration, IsParameter, is_parameter, AreParameters, no_parameters, some_parameters, IsInstance, is_instance, IsPort, of_boundary, of_component, IsConnection, is_connection, IsNetwork, is_network, IsApplication, is_application}
 use Rattle.fb_read.proofs.lemmas.rules.Steps.{done, mark-shorter, name-shorter, whole-shorter, time-shorter}
 use Rattle.fb_read.proofs.lemmas.rules.Lists.{IsComplete, IsShorter, Anything, always, all-always, picked, many-complete, separated-complete, separated-shorter, many-shorter, section-complete, section-starts, section-shorter}

@@ -1,14 +1,10 @@
 -- What the parser of networks reads is in the grammar.
-use Rattle.std.proofs.Common.{ℤ, pos, true, false, [], Some, None, inl, inr}
+use Rattle.fb_read.proofs.lemmas.Common.{ℤ, pos, true, false, [], Some, None, inl, inr, Tokens, name, whole, literal, expect, after, many, section, separated, port, connection, constant, parameter, parameters, instance, network, application, IsSection}
 use Rattle.std.proofs.Math.IntN.{neg_ℤ}
 use Rattle.fb_types.specs.declared.value.Value.TheVariants as value
 use Rattle.fb_read.specs.declared.token.Mark.TheVariants as mark
 use Rattle.fb_read.specs.Nodes.{port_of, connection_of, parameter_of, instance_of, network_of, application_of}
-use Rattle.fb_read.specs.Tokens.{Tokens}
-use Rattle.fb_read.specs.Parser.{name, whole, literal, expect, after, many, section, separated}
-use Rattle.fb_read.specs.Network.{port, connection, constant, parameter, parameters, instance, network, application}
 use Rattle.fb_read.specs.NetworkGrammar.{IsConstant, is_true, is_false, is_number, is_negative, is_duration, IsParameter, is_parameter, AreParameters, no_parameters, some_parameters, IsInstance, is_instance, IsPort, of_boundary, of_component, IsConnection, is_connection, IsNetwork, is_network, IsApplication, is_application}
-use Rattle.fb_read.specs.Grammar.{IsSection}
 use Rattle.fb_read.proofs.lemmas.rules.Steps.{both_ok, made, eaten, expected, named, counted, written, IsLiteral, of_whole, of_time}
 use Rattle.fb_read.proofs.lemmas.rules.Lists.{IsSound, many-sound, separated-sound, section-sound}
 

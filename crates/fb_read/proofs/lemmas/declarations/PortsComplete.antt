@@ -1,18 +1,9 @@
 -- What the grammar of interfaces derives is read.
-use Rattle.std.proofs.Common.{◌≡◌, ◌≤◌, Bool, false, List, ◌∷◌, length, Option, refl, ap, ◌∙◌, arith}
-use Rattle.fb_types.specs.Names.{Name}
-use Rattle.fb_types.specs.declared.value.Value.{Value}
-use Rattle.fb_types.specs.declared.library.EventPort.{EventPort}
-use Rattle.fb_types.specs.declared.library.Variable.{Variable}
-use Rattle.fb_types.specs.declared.library.Ports.{Ports}
+use Rattle.fb_read.proofs.lemmas.Common.{◌≡◌, ◌≤◌, Bool, false, List, ◌∷◌, length, Option, refl, ap, ◌∙◌, arith, Name, Ports, Mark, Tokens, same_mark, sees, after, name, expect, separated, section, with_names, event, initial, declaration, variables, ports, is_mark, IsName, is_name, AreSeparated, last, and_next, IsSection}
+use Rattle.fb_types.proofs.Common.{Value, EventPort, Variable}
 use Rattle.fb_read.specs.declared.ports.Declaration.{Declaration}
-use Rattle.fb_read.specs.declared.token.Mark.{Mark}
 use Rattle.fb_read.specs.declared.token.Mark.TheVariants as mark
 use Rattle.fb_read.specs.declared.token.Token.TheVariants as token
-use Rattle.fb_read.specs.Tokens.{Tokens}
-use Rattle.fb_read.specs.Parser.{same_mark, sees, after, name, expect, separated, section}
-use Rattle.fb_read.specs.Ports.{with_names, event, initial, declaration, variables, ports}
-use Rattle.fb_read.specs.Grammar.{is_mark, IsName, is_name, AreSeparated, last, and_next, IsSection}
 use Rattle.fb_read.specs.PortsGrammar.{AreWith, no_with, some_with, IsEvent, is_event, IsInitial, no_initial, some_initial, IsDeclaration, is_declaration, AreVariables, are_variables, ArePorts, are_ports}
 use Rattle.fb_read.proofs.lemmas.rules.Steps.{done, type-complete, type-shorter, mark-shorter, name-shorter}
 use Rattle.fb_read.proofs.lemmas.rules.Lists.{IsComplete, IsShorter, Anything, always, all-always, picked, many-complete, separated-complete, separated-shorter, section-complete, section-starts, section-shorter}

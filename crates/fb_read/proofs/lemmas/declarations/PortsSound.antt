@@ -1,13 +1,8 @@
 -- What the parser of interfaces reads is in the grammar.
-use Rattle.std.proofs.Common.{[], Some, None, inl, inr}
-use Rattle.std.specs.List.{flat_map}
-use Rattle.fb_read.specs.declared.token.Mark.{Mark}
+use Rattle.fb_read.proofs.lemmas.Common.{[], Some, None, inl, inr, flat_map, Mark, name, ty_name, expect, after, separated, section, constant, with_names, event, initial, declaration, variables, ports, IsName, AreSeparated, IsSection}
 use Rattle.fb_read.specs.declared.token.Mark.TheVariants as mark
 use Rattle.fb_read.specs.Nodes.{event_of, declaration_of, ports_of}
-use Rattle.fb_read.specs.Parser.{name, ty_name, expect, after, separated, section}
-use Rattle.fb_read.specs.Network.{constant}
-use Rattle.fb_read.specs.Ports.{with_names, event, initial, declaration, variables_of, variables, ports}
-use Rattle.fb_read.specs.Grammar.{IsName, AreSeparated, IsSection}
+use Rattle.fb_read.specs.Ports.{variables_of}
 use Rattle.fb_read.specs.PortsGrammar.{AreWith, no_with, some_with, IsEvent, is_event, IsInitial, no_initial, some_initial, IsDeclaration, is_declaration, AreVariables, are_variables, ArePorts, are_ports}
 use Rattle.fb_read.proofs.lemmas.rules.Steps.{both_ok, made, eaten, expected, named, typed_by}
 use Rattle.fb_read.proofs.lemmas.rules.Lists.{IsSound, separated-sound, section-sound}

@@ -1,23 +1,14 @@
 -- Expressions that the grammar derives are read if they keep the limit of nesting, and are refused for their nesting if
 -- they do not.
-use Rattle.std.proofs.Common.{◌≡◌, ℕ, zero, suc, ℤ, pos, ◌<◌, ◌≤◌, max, Bool, true, false, cond, leb, List, [], ◌∷◌, ◌++◌, length, map, Ok, Err, Some, None, refl, sym, ◌∙◌, append_assoc, arith}
-use Rattle.std.proofs.lemmas.Bool.{leb-true, leb-false, le-leb, lt-leb}
-use Rattle.fb_types.specs.Names.{Name}
-use Rattle.fb_types.specs.declared.text.BinaryOperator.{BinaryOperator}
+use Rattle.fb_read.proofs.lemmas.Common.{◌≡◌, ℕ, zero, suc, ℤ, pos, ◌<◌, ◌≤◌, max, Bool, true, false, cond, leb, List, [], ◌∷◌, ◌++◌, length, map, Ok, Err, Some, None, refl, sym, ◌∙◌, append_assoc, arith, leb-true, le-leb, lt-leb, Name, BinaryOperator, Expr, Mark, Nested, Tokens, Parser, Outcome, too_deep, and_then, same_mark, sees, rest_of, after, expect, name, literal, nesting, deepest, most_nesting, operator_of, next_operator, begins_expression, Stops, loosest, is_mark, is_name, is_whole, is_time, IsLevel, is_unary, is_chain, IsChain, ends, goes_on, IsUnary, negated, inverted, is_primary, IsPrimary, is_number, is_duration, is_true, is_false, is_variable, is_group, is_bare_call, is_call, AreArguments, another, IsExpression, expression, nested_expression, level_at, climb, unary, primary, arguments, arguments_from, around}
+use Rattle.fb_types.proofs.Common.{leb-false}
 use Rattle.fb_types.specs.declared.text.UnaryOperator.TheVariants as sign
-use Rattle.fb_types.specs.declared.text.Expr.{Expr}
 use Rattle.fb_types.specs.declared.text.Expr.TheVariants as e
-use Rattle.fb_read.specs.declared.token.Mark.{Mark}
 use Rattle.fb_read.specs.declared.token.Mark.TheVariants as mark
 use Rattle.fb_read.specs.declared.token.Token.TheVariants as token
-use Rattle.fb_read.specs.declared.expression.Nested.{Nested}
-use Rattle.fb_read.specs.Tokens.{Tokens}
-use Rattle.fb_read.specs.Parser.{Parser, Outcome, too_deep, and_then, same_mark, sees, rest_of, after, expect, name, literal}
-use Rattle.fb_read.specs.Nesting.{nesting, deepest, most_nesting, fits_expression}
-use Rattle.fb_read.specs.Operators.{operator_of, next_operator, begins_expression, Stops, loosest}
-use Rattle.fb_read.specs.Grammar.{is_mark, is_name, is_whole, is_time}
-use Rattle.fb_read.specs.ExpressionGrammar.{IsLevel, is_unary, is_chain, IsChain, ends, goes_on, IsUnary, negated, inverted, is_primary, IsPrimary, is_number, is_duration, is_true, is_false, is_variable, is_group, is_bare_call, is_call, AreArguments, one, another, IsExpression}
-use Rattle.fb_read.specs.Expressions.{expression, nested_expression, level_at, climb, unary, primary, prefixed, named, call, group, arguments, arguments_from, around}
+use Rattle.fb_read.specs.Nesting.{fits_expression}
+use Rattle.fb_read.specs.ExpressionGrammar.{one}
+use Rattle.fb_read.specs.Expressions.{prefixed, named, call, group}
 use Rattle.fb_read.proofs.lemmas.rules.Steps.{after-unseen, mark-shorter}
 use Rattle.fb_read.proofs.lemmas.expressions.NestingLaws.{nesting-Group, nesting-Unary, nesting-Binary, nesting-Variable, nesting-Call, nesting-Whole, nesting-Truth}
 use Rattle.fb_read.proofs.lemmas.rules.Lengths.{level-shorter}

@@ -1,23 +1,14 @@
 -- Expressions that are read are derived by the grammar, with their nesting counted.
-use Rattle.std.proofs.Common.{◌≡◌, ℕ, zero, suc, ℤ, ◌≤◌, max, Bool, true, false, cond, eqb, leb, List, [], ◌∷◌, ◌++◌, length, map, Ok, Err, Option, Some, None, refl, sym, ap, subst, ◌∙◌, append_assoc, inl, inr, arith}
-use Rattle.std.proofs.lemmas.Bool.{leb-true, eqb-true}
-use Rattle.fb_types.specs.Names.{Name}
-use Rattle.fb_types.specs.declared.text.BinaryOperator.{BinaryOperator}
-use Rattle.fb_types.specs.declared.text.UnaryOperator.{UnaryOperator}
+use Rattle.fb_read.proofs.lemmas.Common.{◌≡◌, ℕ, zero, suc, ℤ, ◌≤◌, max, Bool, true, false, cond, eqb, leb, List, [], ◌∷◌, ◌++◌, length, map, Ok, Err, Option, Some, None, refl, sym, ap, subst, ◌∙◌, append_assoc, inl, inr, arith, leb-true, eqb-true, Name, BinaryOperator, Expr, Mark, Nested, Tokens, Parser, Outcome, syntax, too_deep, and_then, sees, rest_of, after, expect, name, literal, nesting, deepest, most_nesting, operator_of, next_operator, begins_expression, loosest, IsMark, is_mark, IsName, IsLevel, is_unary, is_chain, IsChain, ends, goes_on, IsUnary, negated, inverted, is_primary, IsPrimary, is_number, is_duration, is_true, is_false, is_variable, is_group, is_bare_call, is_call, AreArguments, another, IsExpression, expression, nested_expression, level_at, climb, unary, primary, arguments, arguments_from, around}
+use Rattle.fb_types.proofs.Common.{UnaryOperator}
 use Rattle.fb_types.specs.declared.text.UnaryOperator.TheVariants as sign
-use Rattle.fb_types.specs.declared.text.Expr.{Expr}
 use Rattle.fb_types.specs.declared.text.Expr.TheVariants as e
-use Rattle.fb_read.specs.declared.token.Mark.{Mark}
 use Rattle.fb_read.specs.declared.token.Mark.TheVariants as mark
 use Rattle.fb_read.specs.declared.token.Token.TheVariants as token
-use Rattle.fb_read.specs.declared.expression.Nested.{Nested}
-use Rattle.fb_read.specs.Tokens.{Tokens}
-use Rattle.fb_read.specs.Parser.{Parser, Outcome, syntax, too_deep, and_then, sees, rest_of, after, expect, name, literal, sees_name}
-use Rattle.fb_read.specs.Nesting.{nesting, deepest, most_nesting}
-use Rattle.fb_read.specs.Operators.{operator_of, next_operator, at_level, begins_expression, loosest}
-use Rattle.fb_read.specs.Grammar.{IsMark, is_mark, IsName}
-use Rattle.fb_read.specs.ExpressionGrammar.{IsLevel, is_unary, is_chain, IsChain, ends, goes_on, IsUnary, negated, inverted, is_primary, IsPrimary, is_number, is_duration, is_true, is_false, is_variable, is_group, is_bare_call, is_call, AreArguments, one, another, IsExpression}
-use Rattle.fb_read.specs.Expressions.{expression, nested_expression, level_at, climb, operated, unary, primary, prefixed, named, call, group, arguments, arguments_from, around, leaf}
+use Rattle.fb_read.specs.Parser.{sees_name}
+use Rattle.fb_read.specs.Operators.{at_level}
+use Rattle.fb_read.specs.ExpressionGrammar.{one}
+use Rattle.fb_read.specs.Expressions.{operated, prefixed, named, call, group, leaf}
 use Rattle.fb_read.proofs.lemmas.rules.Steps as steps
 use Rattle.fb_read.proofs.lemmas.rules.Steps.{chosen, both_ok, pair_is, made, seen, expected, after-seen, after-unseen, eaten, written, IsLiteral, of_whole, of_time}
 use Rattle.fb_read.proofs.lemmas.rules.Chained.{both_done}

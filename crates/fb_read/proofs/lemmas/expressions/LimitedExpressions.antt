@@ -1,12 +1,7 @@
 -- An expression that is read if it keeps the limit of nesting, and refused if it does not.
-use Rattle.std.proofs.Common.{◌≡◌, ℕ, suc, ◌<◌, ◌≤◌, Bool, true, false, cond, leb, Ok, Err, refl, sym, ap, ◌∙◌, arith}
-use Rattle.std.proofs.lemmas.Bool.{leb-true, leb-false, le-leb, lt-leb}
-use Rattle.fb_types.specs.declared.text.Expr.{Expr}
-use Rattle.fb_read.specs.declared.expression.Nested.{Nested}
-use Rattle.fb_read.specs.Tokens.{Tokens}
-use Rattle.fb_read.specs.Parser.{Parser, Outcome, too_deep, and_then}
-use Rattle.fb_read.specs.Nesting.{nesting}
-use Rattle.fb_read.specs.Expressions.{around, leaf}
+use Rattle.fb_read.proofs.lemmas.Common.{◌≡◌, ℕ, suc, ◌<◌, ◌≤◌, Bool, true, false, cond, leb, Ok, Err, refl, sym, ap, ◌∙◌, arith, leb-true, le-leb, lt-leb, Expr, Nested, Tokens, Parser, Outcome, too_deep, and_then, nesting, around}
+use Rattle.fb_types.proofs.Common.{leb-false}
+use Rattle.fb_read.specs.Expressions.{leaf}
 use Rattle.fb_read.proofs.lemmas.expressions.NestingLaws.{nesting-positive}
 
 abbrev pub found : Nested → Tokens → Outcome Nested

@@ -1,9 +1,6 @@
 -- How deep each kind of expression nests.
-use Rattle.std.proofs.Common.{◌≡◌, ℕ, ℤ, suc, ◌≤◌, max, Bool, List, map, arith, rules}
-use Rattle.fb_types.specs.Names.{Name}
-use Rattle.fb_types.specs.declared.text.BinaryOperator.{BinaryOperator}
-use Rattle.fb_types.specs.declared.text.UnaryOperator.{UnaryOperator}
-use Rattle.fb_types.specs.declared.text.Expr.{Expr, the_lemmas, fold_out-Expr}
+use Rattle.fb_types.proofs.Common.{◌≡◌, ℕ, ℤ, suc, ◌≤◌, max, Bool, List, map, arith, rules, Name, BinaryOperator, UnaryOperator, Expr}
+use Rattle.fb_types.specs.declared.text.Expr.{the_lemmas, fold_out-Expr}
 use Rattle.fb_types.specs.declared.text.Expr.TheOpen.{Expr-F}
 use Rattle.fb_types.specs.declared.text.Expr.TheVariants as e
 use Rattle.fb_read.specs.Nesting.{nesting, deepest, nesting_step}

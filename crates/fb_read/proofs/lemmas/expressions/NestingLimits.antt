@@ -1,14 +1,5 @@
 -- What is read if nothing nests over the limit, and refused for its nesting if something does.
-use Rattle.std.proofs.Common.{◌≡◌, ℕ, zero, suc, ◌-◌, max, Bool, leb, refl, sym, ap, ◌∙◌, inl, inr, arith}
-use Rattle.std.specs.Prelude.{◌&&◌}
-use Rattle.std.proofs.lemmas.Bool.{cases_lt, le-leb, lt-leb}
-use Rattle.fb_types.specs.declared.text.Expr.{Expr}
-use Rattle.fb_read.specs.Tokens.{Tokens}
-use Rattle.fb_read.specs.Parser.{Parser, Outcome, and_then}
-use Rattle.fb_read.specs.Nesting.{nesting, most_nesting}
-use Rattle.fb_read.specs.Operators.{Stops, loosest}
-use Rattle.fb_read.specs.ExpressionGrammar.{IsExpression}
-use Rattle.fb_read.specs.Expressions.{expression}
+use Rattle.fb_read.proofs.lemmas.Common.{◌≡◌, ℕ, zero, suc, ◌-◌, max, Bool, leb, refl, sym, ap, ◌∙◌, inl, inr, arith, ◌&&◌, cases_lt, le-leb, lt-leb, Expr, Tokens, Parser, Outcome, and_then, nesting, most_nesting, Stops, loosest, IsExpression, expression}
 use Rattle.fb_read.proofs.lemmas.rules.Steps.{done}
 use Rattle.fb_read.proofs.lemmas.rules.Lists.{picked}
 use Rattle.fb_read.proofs.lemmas.expressions.ExpressionComplete.{expression-complete}

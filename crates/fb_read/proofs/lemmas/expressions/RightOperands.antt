@@ -1,12 +1,7 @@
 -- An operator and its right operand, after a left one.
-use Rattle.std.proofs.Common.{◌≡◌, ◌<◌, ℕ, suc, ◌+◌, ◌-◌, max, leb, Bool, true, false, if◌then◌else◌, Some, None, Ok, Err, refl, ap, ◌∙◌}
-use Rattle.fb_types.specs.declared.text.BinaryOperator.{BinaryOperator}
+use Rattle.fb_read.proofs.lemmas.Common.{◌≡◌, ◌<◌, ℕ, suc, ◌+◌, ◌-◌, max, leb, Bool, true, false, if◌then◌else◌, Some, None, Ok, Err, refl, ap, ◌∙◌, BinaryOperator, Tokens, Parser, Outcome, RuleFault, too_deep, and_then, rest_of, Nested, next_operator, climb, around}
 use Rattle.fb_types.specs.declared.text.Expr.TheVariants as e
-use Rattle.fb_read.specs.Tokens.{Tokens}
-use Rattle.fb_read.specs.Parser.{Parser, Outcome, RuleFault, too_deep, and_then, rest_of}
-use Rattle.fb_read.specs.declared.expression.Nested.{Nested}
-use Rattle.fb_read.specs.Operators.{next_operator}
-use Rattle.fb_read.specs.Expressions.{climb, joined, operated, around}
+use Rattle.fb_read.specs.Expressions.{joined, operated}
 use Rattle.fb_read.proofs.lemmas.rules.CountedLoops.{one_more}
 
 grouped : {A B C : Type 0} (r : Outcome A) (f : A → Parser B) (g : B → Parser C) → and_then r (λ a ts. and_then (f a ts) g) ≡ and_then (and_then r f) g

@@ -1,25 +1,15 @@
 -- The rules of expressions look one token ahead.
-use Rattle.std.proofs.Common.{◌≡◌, ℕ, zero, suc, ◌<◌, ◌≤◌, Bool, true, false, cond, List, [], ◌∷◌, ◌++◌, length, Option, Some, None, Ok, Err, refl, sym, ap, ◌∙◌, leb, arith}
-use Rattle.std.specs.Prelude.{max}
-use Rattle.fb_types.specs.Names.{Name}
-use Rattle.fb_types.specs.declared.text.Expr.{Expr}
+use Rattle.fb_read.proofs.lemmas.Common.{◌≡◌, ℕ, zero, suc, ◌<◌, ◌≤◌, Bool, true, false, cond, List, [], ◌∷◌, ◌++◌, length, Option, Some, None, Ok, Err, refl, sym, ap, ◌∙◌, leb, arith, max, Name, Expr, BinaryOperator, le-leb, leb-true, Mark, Nested, Tokens, Outcome, Parser, too_deep, and_then, ◌>>=◌, pure, refuse, eat, expect, name, literal, rest_of, after, sees, next_operator, begins_expression, loosest, around, arguments_from, arguments, primary, unary, climb, level_at, nested_expression, expression, most_nesting}
+use Rattle.fb_types.proofs.Common.{UnaryOperator}
 use Rattle.fb_types.specs.declared.text.Expr.TheVariants as e
-use Rattle.fb_types.specs.declared.text.BinaryOperator.{BinaryOperator}
-use Rattle.fb_types.specs.declared.text.UnaryOperator.{UnaryOperator}
 use Rattle.fb_types.specs.declared.text.UnaryOperator.TheVariants as sign
 use Rattle.fb_read.specs.declared.token.Token.TheVariants as token
-use Rattle.fb_read.specs.declared.token.Mark.{Mark}
 use Rattle.fb_read.specs.declared.token.Mark.TheVariants as mark
-use Rattle.fb_read.specs.declared.expression.Nested.{Nested}
-use Rattle.fb_read.specs.Tokens.{Tokens}
-use Rattle.fb_read.specs.Parser.{Outcome, Parser, too_deep, and_then, ◌>>=◌, pure, refuse, eat, expect, name, literal, sees_name, rest_of, after, sees}
-use Rattle.fb_read.specs.Operators.{next_operator, begins_expression, loosest}
-use Rattle.fb_read.specs.Expressions.{leaf, around, group, prefixed, arguments_from, arguments, call, named, primary, unary, operated, climb, level_at, nested_expression, expression}
-use Rattle.fb_read.specs.Nesting.{most_nesting}
+use Rattle.fb_read.specs.Parser.{sees_name}
+use Rattle.fb_read.specs.Expressions.{leaf, group, prefixed, call, named, operated}
 use Rattle.fb_read.proofs.lemmas.rules.Steps.{after-seen, mark-shorter, seen}
 use Rattle.fb_read.proofs.lemmas.rules.Lengths.{level-shorter}
 use Rattle.fb_read.proofs.lemmas.expressions.ExpressionSound.{nested-right}
-use Rattle.std.proofs.lemmas.Bool.{le-leb, leb-true}
 use Rattle.fb_read.proofs.lemmas.lookahead.OneTokenAhead.{left-length, IsFlat, Local, Nests, nests-of, local-bind, looks-bind, flat-bind, nests-bind, taken, kept, stepped, local-step, looks-as, local-pure, local-refuse, nests-deep, HeadOnly, local-by, local-cond, local-if, local-if-nests}
 use Rattle.fb_read.proofs.lemmas.lookahead.LocalSteps.{Advances, local-eat, local-eat-then, local-expect-then, local-name, local-literal, local-turns}
 use Rattle.fb_read.proofs.lemmas.lookahead.LocalLoops.{bind-same}

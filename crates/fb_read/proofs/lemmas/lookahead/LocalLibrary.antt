@@ -1,20 +1,11 @@
 -- The rules of charts, of block types and of a whole library look one token ahead.
-use Rattle.std.proofs.Common.{◌<◌, [], ◌∷◌, length, Some, None, codes, refl, arith}
-use Rattle.std.specs.Prelude.{◌&&◌}
+use Rattle.fb_read.proofs.lemmas.Common.{◌<◌, [], ◌∷◌, length, Some, None, codes, refl, arith, ◌&&◌, Name, Action, Ports, transition_of, Tokens, ◌>>=◌, pure, eat, expect, name, name_if, word, one, after, sees, network, application, ports, expression, action, actions, state, states, condition, transition, transitions, structured_text, algorithm, algorithms, basic, block, library}
 use Rattle.std.specs.Option.{is_none}
-use Rattle.fb_types.specs.Names.{Name}
-use Rattle.fb_types.specs.declared.library.Action.{Action}
-use Rattle.fb_types.specs.declared.library.Ports.{Ports}
 use Rattle.fb_read.specs.declared.token.Mark.TheVariants as mark
 use Rattle.fb_types.specs.declared.library.BlockType.TheVariants as block_type
-use Rattle.fb_read.specs.Nodes.{action_of, state_of, condition_of, transition_of, algorithm_of, basic_of, composite_of, library_of}
-use Rattle.fb_read.specs.Tokens.{Tokens}
-use Rattle.fb_read.specs.Parser.{◌>>=◌, pure, eat, expect, name, name_if, word, one, after, sees}
-use Rattle.fb_read.specs.Network.{network, application}
-use Rattle.fb_read.specs.Ports.{ports}
-use Rattle.fb_read.specs.Expressions.{expression}
-use Rattle.fb_read.specs.Charts.{action, actions, state, states, guard, condition, transition, transitions, structured_text, algorithm, algorithms}
-use Rattle.fb_read.specs.Blocks.{basic, composite, body, inside, block, library}
+use Rattle.fb_read.specs.Nodes.{action_of, state_of, condition_of, algorithm_of, basic_of, composite_of, library_of}
+use Rattle.fb_read.specs.Charts.{guard}
+use Rattle.fb_read.specs.Blocks.{composite, body, inside}
 use Rattle.fb_read.specs.ChartsGrammar.{IsAction, of_algorithm, of_both, of_event}
 use Rattle.fb_read.proofs.lemmas.rules.Steps.{mark-shorter, name-shorter}
 use Rattle.fb_read.proofs.lemmas.declarations.ChartsSound.{action-sound}

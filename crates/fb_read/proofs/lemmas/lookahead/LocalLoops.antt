@@ -1,10 +1,6 @@
 -- The loops of rules look one token ahead.
-use Rattle.std.proofs.Common.{◌≡◌, ℕ, zero, suc, ◌≤◌, Bool, true, false, cond, List, [], ◌∷◌, ◌++◌, length, Ok, Err, refl, arith}
-use Rattle.fb_read.specs.declared.token.Mark.{Mark}
+use Rattle.fb_read.proofs.lemmas.Common.{◌≡◌, ℕ, zero, suc, ◌≤◌, Bool, true, false, cond, List, [], ◌∷◌, ◌++◌, length, Ok, Err, refl, arith, Mark, Tokens, Outcome, Parser, syntax, and_then, pure, eat, sees, after, many_from, many_after, many, section, run_from, run_after, separated_from, separated, several_from, several}
 use Rattle.fb_read.specs.declared.token.Mark.TheVariants as mark
-use Rattle.fb_read.specs.Tokens.{Tokens}
-use Rattle.fb_read.specs.Parser.{Outcome, Parser, syntax, and_then, pure, eat, sees, after, many_from, many_after, many, section, run_from, run_after, separated_from, separated}
-use Rattle.fb_read.specs.Statements.{several_from, several}
 use Rattle.fb_read.proofs.lemmas.lookahead.OneTokenAhead.{left-length, Local, Nests, nests-of, local-bind, nests-bind, local-as, local-pure, local-refuse, HeadOnly, local-cond, local-if-nests}
 use Rattle.fb_read.proofs.lemmas.lookahead.LocalSteps.{local-eat, Advances, local-turns}
 

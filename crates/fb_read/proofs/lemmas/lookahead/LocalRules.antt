@@ -1,14 +1,10 @@
 -- The rules of networks, interfaces and charts look one token ahead.
-use Rattle.std.proofs.Common.{ℕ, true, false, cond, List, [], ◌∷◌, ◌++◌, length, Some, None, pos, neg_ℤ, refl, ap, arith}
-use Rattle.std.specs.List.{flat_map}
-use Rattle.fb_types.specs.Names.{Name}
+use Rattle.fb_read.proofs.lemmas.Common.{ℕ, true, false, cond, List, [], ◌∷◌, ◌++◌, length, Some, None, pos, refl, ap, arith, Name, flat_map, Mark, separated_from, Parser, and_then, ◌>>=◌, pure, eat, expect, name, ty_name, whole, literal, separated, port, connection, constant, parameter, parameters, instance, network, application, with_names, event, initial, declaration, variables, ports}
+use Rattle.fb_types.proofs.Common.{neg_ℤ}
 use Rattle.fb_types.specs.declared.value.Value.TheVariants as value
-use Rattle.fb_read.specs.declared.token.Mark.{Mark}
 use Rattle.fb_read.specs.declared.token.Mark.TheVariants as mark
 use Rattle.fb_read.specs.Nodes.{port_of, connection_of, parameter_of, instance_of, network_of, application_of, event_of, declaration_of, ports_of}
-use Rattle.fb_read.specs.Parser.{separated_from, Parser, and_then, ◌>>=◌, pure, eat, expect, name, ty_name, whole, literal, separated}
-use Rattle.fb_read.specs.Network.{port, connection, constant, parameter, parameters, instance, network, application}
-use Rattle.fb_read.specs.Ports.{with_names, event, initial, declaration, variables_of, variables, ports}
+use Rattle.fb_read.specs.Ports.{variables_of}
 use Rattle.fb_read.proofs.lemmas.rules.Steps.{both_ok, expected, named, mark-shorter, name-shorter}
 use Rattle.fb_read.proofs.lemmas.lookahead.OneTokenAhead.{left-length, Local, local-bind, local-pure, local-cond}
 use Rattle.fb_read.proofs.lemmas.lookahead.LocalSteps.{Advances, local-eat, local-expect, local-name, local-ty_name, local-whole, local-literal}

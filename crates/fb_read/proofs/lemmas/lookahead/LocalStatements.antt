@@ -1,18 +1,11 @@
 -- The rules of statements look one token ahead.
-use Rattle.std.proofs.Common.{ℕ, zero, suc, List, [], ◌∷◌, Some, None, pos, neg_ℤ, refl}
-use Rattle.fb_types.specs.Names.{Name}
-use Rattle.fb_types.specs.declared.text.Expr.{Expr}
-use Rattle.fb_types.specs.declared.text.Stmt.{Stmt}
-use Rattle.fb_types.specs.declared.text.Label.{Label}
-use Rattle.fb_read.specs.StatementNodes.{label_of, choice_of, branch_of, body_of}
+use Rattle.fb_read.proofs.lemmas.Common.{ℕ, zero, suc, List, [], ◌∷◌, Some, None, pos, refl, Name, Expr, Label, Stmt, choice_of, branch_of, Mark, Parser, ◌>>=◌, pure, eat, expect, name, whole, sees, after, separated, most_nesting, expression, begins_statement, begins_label, assignment, simple, for_end, choice, elsif, choices, branch, branches, others, if_statement, case_body, case_statement, loop_body, for_to, for_statement, while_statement, repeat_statement, statement, nested_statement, body}
+use Rattle.fb_types.proofs.Common.{neg_ℤ}
+use Rattle.fb_read.specs.StatementNodes.{label_of, body_of}
 use Rattle.fb_types.specs.declared.text.Stmt.TheVariants as s
 use Rattle.fb_read.specs.declared.token.Token.TheVariants as token
-use Rattle.fb_read.specs.declared.token.Mark.{Mark}
 use Rattle.fb_read.specs.declared.token.Mark.TheVariants as mark
-use Rattle.fb_read.specs.Parser.{Parser, ◌>>=◌, pure, eat, expect, name, whole, sees, after, separated}
-use Rattle.fb_read.specs.Nesting.{most_nesting}
-use Rattle.fb_read.specs.Expressions.{expression}
-use Rattle.fb_read.specs.Statements.{begins_statement, begins_label, bound, label, assignment, step, bounds, simple, for_end, cases, block, choice, elsif, choices, branch, branches, others, if_statement, case_body, case_statement, loop_body, for_to, for_statement, while_statement, repeat_statement, statement, nested_statement, body}
+use Rattle.fb_read.specs.Statements.{bound, label, step, bounds, cases, block}
 use Rattle.fb_read.proofs.lemmas.statements.StatementLengths.{label-shorter, statement-shorter}
 use Rattle.fb_read.proofs.lemmas.statements.StatementSound.{label-sound, nested-right}
 use Rattle.fb_read.proofs.lemmas.lookahead.OneTokenAhead.{Local, Nests, nests-of, local-bind, local-pure, nests-deep, HeadOnly, local-cond}

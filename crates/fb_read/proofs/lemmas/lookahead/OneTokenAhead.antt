@@ -1,9 +1,6 @@
 -- A rule looks one token ahead: what it does up to a token does not depend on what follows that token.
-use Rattle.std.proofs.Common.{◌≡◌, ◌≤◌, Bool, true, false, cond, [], ◌∷◌, ◌++◌, length, Ok, Err, refl, sym, ap, subst, ◌∙◌, append_assoc, arith}
-use Rattle.std.proofs.lemmas.List.{append_cancel_right, length-append, nil_from_length}
-use Rattle.fb_read.specs.declared.token.Token.{Token}
-use Rattle.fb_read.specs.Tokens.{Tokens}
-use Rattle.fb_read.specs.Parser.{Outcome, Parser, RuleFault, syntax, too_deep, and_then, ◌>>=◌, pure, refuse}
+use Rattle.fb_read.proofs.lemmas.Common.{◌≡◌, ◌≤◌, Bool, true, false, cond, [], ◌∷◌, ◌++◌, length, Ok, Err, refl, sym, ap, subst, ◌∙◌, append_assoc, arith, length-append, Token, Tokens, Outcome, Parser, RuleFault, syntax, too_deep, and_then, ◌>>=◌, pure, refuse}
+use Rattle.std.proofs.lemmas.List.{append_cancel_right, nil_from_length}
 use Rattle.fb_read.proofs.lemmas.rules.Steps.{pair_is}
 
 -- the second list is an end of the first

@@ -1,9 +1,6 @@
 -- What was read after what was found.
-use Rattle.std.proofs.Common.{◌≡◌, [], ◌∷◌, ◌++◌, List, Result, Ok, Err, refl, subst}
-use Rattle.fb_read.specs.declared.fault.ParseFault.{ParseFault}
+use Rattle.fb_read.proofs.lemmas.Common.{◌≡◌, [], ◌∷◌, ◌++◌, List, Result, Ok, Err, refl, subst, ParseFault, Tokens, Parser, Outcome, Reads, and_then}
 use Rattle.fb_read.specs.declared.fault.ParseFault.TheVariants as fault
-use Rattle.fb_read.specs.Tokens.{Tokens}
-use Rattle.fb_read.specs.Parser.{Parser, Outcome, Reads, and_then}
 use Rattle.fb_read.specs.Added.{Adds}
 
 -- the item that was added is the one that was read

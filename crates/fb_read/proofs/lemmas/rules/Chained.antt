@@ -1,7 +1,5 @@
 -- Steps of a parser that did not fail, one after another.
-use Rattle.std.proofs.Common.{◌≡◌, Ok, Err, refl}
-use Rattle.fb_read.specs.Tokens.{Tokens}
-use Rattle.fb_read.specs.Parser.{Parser, Outcome, and_then}
+use Rattle.fb_read.proofs.lemmas.Common.{◌≡◌, Ok, Err, refl, Tokens, Parser, Outcome, and_then}
 
 -- What follows from two steps that did not fail. The variables of `k` are short; the parts of a pair would be written out
 -- wherever they are used, and so would those that they are made of.

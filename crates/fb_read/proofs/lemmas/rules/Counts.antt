@@ -1,19 +1,11 @@
 -- What a section lists takes a token for each item.
-use Rattle.std.proofs.Common.{◌≡◌, ◌+◌, ◌<◌, ◌≤◌, List, length, Ok, arith, length-append}
-use Rattle.std.specs.List.{flat_map}
-use Rattle.std.proofs.lemmas.List.{length-map}
-use Rattle.fb_types.specs.declared.library.EventPort.{EventPort}
-use Rattle.fb_types.specs.declared.library.Instance.{Instance}
-use Rattle.fb_types.specs.declared.library.Variable.{Variable}
+use Rattle.fb_read.proofs.lemmas.Common.{◌≡◌, ◌+◌, ◌<◌, ◌≤◌, List, length, Ok, arith, length-append, flat_map, Mark, Tokens, many, section, instance, event, variables, AreSeparated, last, and_next, IsSection}
+use Rattle.fb_types.proofs.Common.{length-map, EventPort, Instance, Variable}
 use Rattle.fb_read.specs.declared.ports.Declaration.{Declaration}
-use Rattle.fb_read.specs.declared.token.Mark.{Mark}
 use Rattle.fb_read.specs.declared.token.Mark.TheVariants as mark
-use Rattle.fb_read.specs.Tokens.{Tokens}
-use Rattle.fb_read.specs.Parser.{many, section}
-use Rattle.fb_read.specs.Network.{instance}
 use Rattle.fb_read.specs.Nodes.{variable_of}
-use Rattle.fb_read.specs.Ports.{event, variables, variables_of}
-use Rattle.fb_read.specs.Grammar.{AreMany, no_more, one_more, AreSeparated, last, and_next, IsSection, no_section, is_section}
+use Rattle.fb_read.specs.Ports.{variables_of}
+use Rattle.fb_read.specs.Grammar.{AreMany, no_more, one_more, no_section, is_section}
 use Rattle.fb_read.specs.NetworkGrammar.{IsInstance}
 use Rattle.fb_read.specs.PortsGrammar.{IsEvent, IsDeclaration, is_declaration, AreVariables, are_variables}
 use Rattle.fb_read.proofs.lemmas.rules.Steps.{mark-shorter, type-shorter}

@@ -1,14 +1,7 @@
 -- One iteration of a loop that reads items, and adds what was read to what was found.
-use Rattle.std.proofs.Common.{◌≡◌, ℕ, suc, Bool, true, false, if◌then◌else◌, List, [], ◌∷◌, ◌++◌, Result, Ok, Err, refl, subst, ◌∙◌}
-use Rattle.fb_read.specs.declared.token.Mark.{Mark}
-use Rattle.fb_read.specs.declared.fault.ParseFault.{ParseFault}
-use Rattle.fb_read.specs.Tokens.{Tokens}
+use Rattle.fb_read.proofs.lemmas.Common.{◌≡◌, ℕ, suc, Bool, true, false, if◌then◌else◌, List, [], ◌∷◌, ◌++◌, Result, Ok, Err, refl, subst, ◌∙◌, Choice, Mark, ParseFault, Tokens, Stmt, Parser, Reads, and_then, sees, after, expect, rest_of, run_from, many_from, separated_from, several_from, choice, elsif}
 use Rattle.fb_read.specs.declared.token.Mark.TheVariants as mark
-use Rattle.fb_types.specs.declared.text.Stmt.{Stmt}
-use Rattle.fb_types.specs.declared.text.Choice.{Choice}
-use Rattle.fb_read.specs.Parser.{Parser, Reads, and_then, sees, after, expect, rest_of, run_from, many_from, separated_from}
 use Rattle.fb_read.specs.Added.{Adds}
-use Rattle.fb_read.specs.Statements.{several_from, choice, elsif}
 use Rattle.fb_read.proofs.lemmas.rules.AddedItems.{added_on, fault_of}
 use Rattle.fb_read.proofs.lemmas.rules.Reading.{stops, stops_as}
 

@@ -1,8 +1,6 @@
 -- What is read takes tokens.
-use Rattle.std.proofs.Common.{ℕ, ◌<◌, ◌≤◌, List, length, arith}
-use Rattle.fb_types.specs.declared.text.Expr.{Expr}
-use Rattle.fb_read.specs.Tokens.{Tokens}
-use Rattle.fb_read.specs.ExpressionGrammar.{IsLevel, is_unary, is_chain, IsChain, ends, goes_on, IsUnary, negated, inverted, is_primary, IsPrimary, is_number, is_duration, is_true, is_false, is_variable, is_group, is_bare_call, is_call, AreArguments, one, another}
+use Rattle.fb_read.proofs.lemmas.Common.{ℕ, ◌<◌, ◌≤◌, List, length, arith, Expr, Tokens, IsLevel, is_unary, is_chain, IsChain, ends, goes_on, IsUnary, negated, inverted, is_primary, IsPrimary, is_number, is_duration, is_true, is_false, is_variable, is_group, is_bare_call, is_call, AreArguments, another}
+use Rattle.fb_read.specs.ExpressionGrammar.{one}
 use Rattle.fb_read.proofs.lemmas.rules.Steps.{mark-shorter, name-shorter, whole-shorter, time-shorter}
 
 mutual

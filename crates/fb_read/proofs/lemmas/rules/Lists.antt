@@ -1,12 +1,8 @@
 -- Lists of items, both ways.
-use Rattle.std.proofs.Common.{◌≡◌, ℕ, zero, suc, ◌<◌, ◌≤◌, Bool, true, false, cond, List, [], ◌∷◌, ◌++◌, length, Ok, Err, refl, sym, ap, subst, ◌∙◌, append_assoc, append-nil, inl, inr, arith}
-use Rattle.std.specs.Prelude.{◌&&◌}
-use Rattle.std.specs.List.{list_all}
-use Rattle.fb_read.specs.declared.token.Mark.{Mark}
+use Rattle.fb_read.proofs.lemmas.Common.{◌≡◌, ℕ, zero, suc, ◌<◌, ◌≤◌, Bool, true, false, cond, List, [], ◌∷◌, ◌++◌, length, Ok, Err, refl, sym, ap, subst, ◌∙◌, append_assoc, append-nil, inl, inr, arith, ◌&&◌, Mark, Tokens, Parser, Outcome, too_deep, and_then, same_mark, sees, after, many, many_from, many_after, section, run_after, run_from, separated, separated_from, IsMark, is_mark, AreSeparated, last, and_next, AreAll, IsSection}
+use Rattle.fb_types.proofs.Common.{list_all}
 use Rattle.fb_read.specs.declared.token.Mark.TheVariants as mark
-use Rattle.fb_read.specs.Tokens.{Tokens}
-use Rattle.fb_read.specs.Parser.{Parser, Outcome, too_deep, and_then, same_mark, sees, after, many, many_from, many_after, section, run_after, run_from, separated, separated_from}
-use Rattle.fb_read.specs.Grammar.{IsMark, is_mark, AreMany, no_more, one_more, AreSeparated, last, and_next, AreAll, none, and_more, IsSection, no_section, is_section}
+use Rattle.fb_read.specs.Grammar.{AreMany, no_more, one_more, none, and_more, no_section, is_section}
 use Rattle.fb_read.proofs.lemmas.rules.Steps.{both_ok, pair_is, eaten, chosen, made, done, sees-mark, after-mark, after-unseen, mark-shorter}
 
 -- what a parser reads is in the grammar

@@ -1,13 +1,8 @@
 -- The first of the tokens that are left, and the refusal at it.
-use Rattle.std.proofs.Common.{◌≡◌, ℕ, zero, suc, ◌+◌, ◌-◌, ◌<◌, ◌≤◌, List, [], ◌∷◌, length, get_or, drop, take, IfOk, Result, Ok, Err, refl, sym, ap, subst, ◌∙◌, inl, inr, arith}
-use Rattle.std.proofs.lemmas.List.{drop_all, length-drop, take_all}
-use Rattle.std.proofs.lemmas.Bool.{cases_lt}
-use Rattle.fb_read.specs.declared.token.Located.{Located}
+use Rattle.fb_read.proofs.lemmas.Common.{◌≡◌, ℕ, zero, suc, ◌+◌, ◌-◌, ◌<◌, ◌≤◌, List, [], ◌∷◌, length, get_or, drop, take, Result, Ok, Err, refl, sym, ap, subst, ◌∙◌, inl, inr, arith, drop_all, length-drop, take_all, cases_lt, Located, Token, Text, Found, bad_byte, front, AreLocated}
+use Rattle.fb_types.proofs.Common.{IfOk}
 use Rattle.fb_read.specs.declared.token.Span.{Span}
-use Rattle.fb_read.specs.declared.token.Token.{Token}
-use Rattle.fb_read.specs.Blank.{Text}
-use Rattle.fb_read.specs.Front.{Found, bad_byte, front}
-use Rattle.fb_read.specs.Located.{AreLocated, then_token, IsLocatedEnd}
+use Rattle.fb_read.specs.Located.{then_token, IsLocatedEnd}
 use Rattle.fb_read.specs.Refusals.{IsNext}
 use Rattle.fb_read.proofs.lemmas.tokens.TokenLaws.{front_empty}
 

@@ -1,20 +1,10 @@
 -- Rules with a mark between two parts.
-use Rattle.std.proofs.Common.{◌≡◌, false, List, Option, Ok, Err, refl, ◌∙◌}
-use Rattle.fb_types.specs.Names.{Name}
-use Rattle.fb_types.specs.declared.text.Branch.{Branch}
-use Rattle.fb_types.specs.declared.text.Expr.{Expr}
-use Rattle.fb_types.specs.declared.text.Stmt.{Stmt}
+use Rattle.fb_read.proofs.lemmas.Common.{◌≡◌, false, List, Option, Ok, Err, refl, ◌∙◌, Name, Branch, Expr, Stmt, Mark, Tokens, transition_of, Parser, Outcome, and_then, ◌>>=◌, pure, expect, name, ty_name, separated, sees, after, port, connection, constant, parameter, parameters, instance, declaration, initial, condition, transition, expression, assignment, branches, case_body, case_statement, for_end, for_to, for_statement, loop_body, others, simple}
 use Rattle.fb_types.specs.declared.text.Stmt.TheVariants as s
-use Rattle.fb_read.specs.declared.token.Mark.{Mark}
 use Rattle.fb_read.specs.declared.token.Mark.TheVariants as mark
-use Rattle.fb_read.specs.Tokens.{Tokens}
-use Rattle.fb_read.specs.Nodes.{connection_of, parameter_of, instance_of, transition_of, declaration_of}
-use Rattle.fb_read.specs.Parser.{Parser, Outcome, and_then, ◌>>=◌, ◌>>◌, pure, expect, name, ty_name, separated, optional, then_read, pair, ended, finished, sees, after}
-use Rattle.fb_read.specs.Network.{port, connection, constant, parameter, parameters, instance}
-use Rattle.fb_read.specs.Ports.{declaration, initial}
-use Rattle.fb_read.specs.Charts.{condition, transition}
-use Rattle.fb_read.specs.Expressions.{expression}
-use Rattle.fb_read.specs.Statements.{assignment, bounds, branches, case_body, case_statement, cases, for_end, for_to, for_statement, loop_body, others, simple, step}
+use Rattle.fb_read.specs.Nodes.{connection_of, parameter_of, instance_of, declaration_of}
+use Rattle.fb_read.specs.Parser.{◌>>◌, optional, then_read, pair, ended, finished}
+use Rattle.fb_read.specs.Statements.{bounds, cases, step}
 
 -- a mark and a rule after what was found, and what continues with both
 after_then : {A B C : Type 0} (x : A) (k : Mark) (q : Parser B) (go : A → B → Parser C) (ts : Tokens)

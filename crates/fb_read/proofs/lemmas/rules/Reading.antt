@@ -1,10 +1,6 @@
 -- What a rule reads, by what its parts read.
-use Rattle.std.proofs.Common.{◌≡◌, Bool, true, false, if◌then◌else◌, Result, Ok, Err, ap, sym, subst, ◌∙◌}
-use Rattle.fb_read.specs.declared.token.Mark.{Mark}
-use Rattle.fb_read.specs.declared.fault.ParseFault.{ParseFault}
+use Rattle.fb_read.proofs.lemmas.Common.{◌≡◌, Bool, true, false, if◌then◌else◌, Result, Ok, Err, ap, sym, subst, ◌∙◌, Mark, ParseFault, Tokens, Parser, Outcome, Reads, and_then, sees, after}
 use Rattle.fb_read.specs.declared.fault.ParseFault.TheVariants as fault
-use Rattle.fb_read.specs.Tokens.{Tokens}
-use Rattle.fb_read.specs.Parser.{Parser, Outcome, Reads, and_then, sees, after}
 
 -- what its first part refuses, a rule refuses
 pub stops : {A B : Type 0} (o : Outcome A) (f : A → Parser B) (e : ParseFault) (new : Tokens) → Reads o (Err e) new → Reads (and_then o f) (Err e) new

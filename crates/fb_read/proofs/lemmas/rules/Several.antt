@@ -1,9 +1,5 @@
 -- Items while one begins, both ways.
-use Rattle.std.proofs.Common.{◌≡◌, ℕ, zero, suc, ◌-◌, ◌≤◌, max, Bool, true, false, List, [], ◌∷◌, ◌++◌, length, map, Ok, refl, sym, ap, subst, ◌∙◌, append_assoc, append-nil, inl, inr, arith}
-use Rattle.fb_read.specs.Tokens.{Tokens}
-use Rattle.fb_read.specs.Parser.{Parser, and_then}
-use Rattle.fb_read.specs.Nesting.{deepest, most_nesting}
-use Rattle.fb_read.specs.Statements.{several, several_from}
+use Rattle.fb_read.proofs.lemmas.Common.{◌≡◌, ℕ, zero, suc, ◌-◌, ◌≤◌, max, Bool, true, false, List, [], ◌∷◌, ◌++◌, length, map, Ok, refl, sym, ap, subst, ◌∙◌, append_assoc, append-nil, inl, inr, arith, Tokens, Parser, and_then, deepest, most_nesting, several, several_from}
 use Rattle.fb_read.proofs.lemmas.rules.Steps.{chosen, both_ok, pair_is, done}
 use Rattle.fb_read.proofs.lemmas.rules.Lists.{IsSound, IsShorter, Adds}
 use Rattle.fb_read.proofs.lemmas.expressions.NestingLimits.{room, bind-room}

@@ -1,16 +1,8 @@
 -- Which token a rule begins with, and which may follow an expression.
-use Rattle.std.proofs.Common.{◌≡◌, ℕ, suc, true, false, List, [], ◌∷◌, Some, Err, refl, arith}
-use Rattle.fb_read.specs.declared.token.Mark.{Mark}
+use Rattle.fb_read.proofs.lemmas.Common.{◌≡◌, ℕ, suc, true, false, List, [], ◌∷◌, Some, Err, refl, arith, BinaryOperator, Expr, eq-eqb, Mark, Tokens, arguments, arguments_from, nested_expression, same_mark, sees, rest_of, too_deep, IsMark, is_mark, is_name, is_whole, is_time, operator_of, next_operator, begins_expression, Stops, IsLevel, is_unary, is_chain, IsChain, ends, goes_on, IsUnary, negated, inverted, is_primary, IsPrimary, is_number, is_duration, is_true, is_false, is_variable, is_group, is_bare_call, is_call, AreArguments, another}
+use Rattle.fb_types.proofs.Common.{ne_eqb}
 use Rattle.fb_read.specs.declared.token.Mark.TheVariants as mark
-use Rattle.fb_types.specs.declared.text.BinaryOperator.{BinaryOperator}
-use Rattle.fb_types.specs.declared.text.Expr.{Expr}
-use Rattle.fb_read.specs.Tokens.{Tokens}
-use Rattle.fb_read.specs.Expressions.{arguments, arguments_from, nested_expression}
-use Rattle.fb_read.specs.Parser.{same_mark, sees, rest_of, too_deep}
-use Rattle.fb_read.specs.Grammar.{IsMark, is_mark, is_name, is_whole, is_time}
-use Rattle.fb_read.specs.Operators.{operator_of, next_operator, begins_expression, Stops}
-use Rattle.fb_read.specs.ExpressionGrammar.{IsLevel, is_unary, is_chain, IsChain, ends, goes_on, IsUnary, negated, inverted, is_primary, IsPrimary, is_number, is_duration, is_true, is_false, is_variable, is_group, is_bare_call, is_call, AreArguments, one, another}
-use Rattle.std.proofs.lemmas.Bool.{ne_eqb, eq-eqb}
+use Rattle.fb_read.specs.ExpressionGrammar.{one}
 
 pub stops-weaker : (n : ℕ) (ts : Tokens) → Stops (suc n) ts → Stops n ts
 stops-weaker n ts h = record { no_call = h.no_call; no_operator = λ m le. h.no_operator m (omega arith) }

@@ -1,17 +1,11 @@
 -- The steps of a parser: what was read is what the grammar says.
-use Rattle.std.proofs.Common.{◌≡◌, ℕ, ℤ, pos, ◌<◌, Bool, true, false, cond, eqb, [], ◌∷◌, length, Option, Some, None, Ok, Err, refl, ap, subst, inl, inr, ◌⊎◌, arith, rules}
-use Rattle.std.specs.Str.{bytes_eq}
-use Rattle.std.proofs.lemmas.Bool.{eq-eqb, eqb-true}
-use Rattle.std.proofs.lemmas.Slice.Eq.{bytes_eq-Decides}
+use Rattle.fb_read.proofs.lemmas.Common.{◌≡◌, ℕ, ℤ, pos, ◌<◌, Bool, true, false, cond, eqb, [], ◌∷◌, length, Option, Some, None, Ok, Err, refl, ap, subst, inl, inr, arith, rules, bytes_eq, eq-eqb, eqb-true, Name, Mark, Tokens, Parser, Outcome, syntax, and_then, same_mark, sees, rest_of, after, expect, name, ty_name, word, whole, one, literal, IsMark, is_mark, IsName, is_name, is_whole, is_time}
+use Rattle.fb_types.proofs.Common.{◌⊎◌, bytes_eq-Decides, Ty}
 use denote.Enum.Bare.{same_true}
-use Rattle.fb_types.specs.Names.{Name}
-use Rattle.fb_types.specs.declared.value.Ty.{Ty}
 use Rattle.fb_read.specs.contracts.token.Mark.{the_type}
-use Rattle.fb_read.specs.declared.token.Mark.{Mark}
 use Rattle.fb_read.specs.declared.token.Token.TheVariants as token
-use Rattle.fb_read.specs.Tokens.{Tokens}
-use Rattle.fb_read.specs.Parser.{Parser, Outcome, syntax, and_then, same_mark, sees, rest_of, after, expect, name, ty_of, typed, ty_name, word, whole, one, literal}
-use Rattle.fb_read.specs.Grammar.{IsMark, is_mark, IsName, is_name, IsWhole, is_whole, IsTime, is_time, IsType, is_type}
+use Rattle.fb_read.specs.Parser.{ty_of, typed}
+use Rattle.fb_read.specs.Grammar.{IsWhole, IsTime, IsType, is_type}
 
 -- which way a test went
 pub chosen : {A : Type 0} (b : Bool) (x y z : A) → cond b x y ≡ z → ((b ≡ true) × (x ≡ z)) ⊎ ((b ≡ false) × (y ≡ z))

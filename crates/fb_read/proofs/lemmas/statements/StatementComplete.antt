@@ -1,28 +1,14 @@
 -- Statements that the grammar derives are read if they keep the limits of nesting, and are refused for their nesting if
 -- they do not. By induction only on the depth: the lemma on each rule takes as a premise that the parser of inner
 -- statements is complete.
-use Rattle.std.proofs.Common.{◌≡◌, ℕ, zero, suc, ◌-◌, ℤ, max, Bool, false, leb, List, [], ◌∷◌, map, Option, Some, None, refl, sym, ap, ◌∙◌, arith}
-use Rattle.std.specs.Prelude.{◌&&◌}
-use Rattle.std.proofs.lemmas.Bool.{lt-leb}
-use Rattle.fb_types.specs.Names.{Name}
-use Rattle.fb_types.specs.declared.text.Expr.{Expr}
-use Rattle.fb_types.specs.declared.text.Stmt.{Stmt}
+use Rattle.fb_read.proofs.lemmas.Common.{◌≡◌, ℕ, zero, suc, ◌-◌, ℤ, max, Bool, false, leb, List, [], ◌∷◌, map, Option, Some, None, refl, sym, ap, ◌∙◌, arith, ◌&&◌, lt-leb, Name, Expr, Choice, Branch, Label, Stmt, Tokens, Parser, same_mark, sees, after, expect, name, whole, separated, Stops, loosest, nesting, deepest, most_nesting, IsMark, is_mark, is_name, is_whole, AreSeparated, last, and_next, IsExpression, choice_of, branch_of, IsBody, expression, assignment, simple, begins_statement, begins_label, choice, elsif, choices, branch, branches, others, if_statement, case_statement, loop_body, case_body, for_end, for_to, for_statement, while_statement, repeat_statement, statement, nested_statement, body}
 use Rattle.fb_types.specs.declared.text.Stmt.TheVariants as s
-use Rattle.fb_types.specs.declared.text.Choice.{Choice}
-use Rattle.fb_types.specs.declared.text.Branch.{Branch}
-use Rattle.fb_types.specs.declared.text.Label.{Label}
 use Rattle.fb_read.specs.declared.token.Mark.TheVariants as mark
 use Rattle.fb_read.specs.declared.token.Token.TheVariants as token
-use Rattle.fb_read.specs.Tokens.{Tokens}
-use Rattle.fb_read.specs.Parser.{Parser, same_mark, sees, after, expect, name, whole, separated}
-use Rattle.fb_read.specs.Operators.{Stops, loosest}
-use Rattle.fb_read.specs.Nesting.{nesting, by_nesting, deepest, most_nesting, statement_nesting, branch_nesting, choice_nesting, expression_nesting, branch_expression_nesting, choice_expression_nesting, fits_body}
-use Rattle.fb_read.specs.Grammar.{IsMark, is_mark, is_name, is_whole, AreSeparated, last, and_next}
-use Rattle.fb_read.specs.ExpressionGrammar.{IsExpression}
-use Rattle.fb_read.specs.StatementNodes.{label_of, choice_of, branch_of, body_of}
-use Rattle.fb_read.specs.StatementGrammar.{IsBound, is_bound, is_negative, IsLabel, is_single, is_range, IsStep, no_step, is_step, IsStatement, is_empty, is_exit, is_return, is_assignment, is_if, is_case, is_for, is_while, is_repeat, AreStatements, no_statement, then_statements, IsChoice, is_choice, IsElsif, is_elsif, AreElsifs, no_elsif, then_elsifs, IsBranch, is_branch, AreBranches, no_branch, then_branches, AreOthers, no_others, are_others, IsBody, is_body}
-use Rattle.fb_read.specs.Expressions.{expression}
-use Rattle.fb_read.specs.Statements.{bound, label, assignment, step, simple, begins_statement, begins_label, block, choice, elsif, choices, branch, branches, others, if_statement, case_statement, loop_body, case_body, cases, for_end, bounds, for_to, for_statement, while_statement, repeat_statement, statement, nested_statement, body}
+use Rattle.fb_read.specs.Nesting.{by_nesting, statement_nesting, branch_nesting, choice_nesting, expression_nesting, branch_expression_nesting, choice_expression_nesting, fits_body}
+use Rattle.fb_read.specs.StatementNodes.{label_of, body_of}
+use Rattle.fb_read.specs.StatementGrammar.{IsBound, is_bound, is_negative, IsLabel, is_single, is_range, IsStep, no_step, is_step, IsStatement, is_empty, is_exit, is_return, is_assignment, is_if, is_case, is_for, is_while, is_repeat, AreStatements, no_statement, then_statements, IsChoice, is_choice, IsElsif, is_elsif, AreElsifs, no_elsif, then_elsifs, IsBranch, is_branch, AreBranches, no_branch, then_branches, AreOthers, no_others, are_others, is_body}
+use Rattle.fb_read.specs.Statements.{bound, label, step, block, cases, bounds}
 use Rattle.fb_read.proofs.lemmas.rules.Steps.{done, after-unseen}
 use Rattle.fb_read.proofs.lemmas.rules.Lists.{IsComplete, Anything, always, all-always, picked, separated-complete}
 use Rattle.fb_read.proofs.lemmas.expressions.NestingLimits.{room, bind-is, map-room, same-room, leb-over, both-over, expression-room, over-both, over-expression, over-node}

@@ -1,11 +1,6 @@
 -- Statements that are read take tokens.
-use Rattle.std.proofs.Common.{ℤ, ◌<◌, ◌≤◌, List, Option, length, arith}
-use Rattle.fb_types.specs.declared.text.Expr.{Expr}
-use Rattle.fb_types.specs.declared.text.Stmt.{Stmt}
-use Rattle.fb_types.specs.declared.text.Choice.{Choice}
-use Rattle.fb_types.specs.declared.text.Branch.{Branch}
-use Rattle.fb_read.specs.Tokens.{Tokens}
-use Rattle.fb_read.specs.StatementGrammar.{IsBound, is_bound, is_negative, IsLabel, is_single, is_range, IsStep, no_step, is_step, IsStatement, is_empty, is_exit, is_return, is_assignment, is_if, is_case, is_for, is_while, is_repeat, AreStatements, no_statement, then_statements, IsChoice, is_choice, IsElsif, is_elsif, AreElsifs, no_elsif, then_elsifs, IsBranch, is_branch, AreBranches, no_branch, then_branches, AreOthers, no_others, are_others, IsBody, is_body}
+use Rattle.fb_read.proofs.lemmas.Common.{ℤ, ◌<◌, ◌≤◌, List, Option, length, arith, Expr, Choice, Branch, Stmt, Tokens, IsBody}
+use Rattle.fb_read.specs.StatementGrammar.{IsBound, is_bound, is_negative, IsLabel, is_single, is_range, IsStep, no_step, is_step, IsStatement, is_empty, is_exit, is_return, is_assignment, is_if, is_case, is_for, is_while, is_repeat, AreStatements, no_statement, then_statements, IsChoice, is_choice, IsElsif, is_elsif, AreElsifs, no_elsif, then_elsifs, IsBranch, is_branch, AreBranches, no_branch, then_branches, AreOthers, no_others, are_others, is_body}
 use Rattle.fb_read.proofs.lemmas.rules.Steps.{mark-shorter, name-shorter, whole-shorter}
 use Rattle.fb_read.proofs.lemmas.rules.Lists.{IsShorter, separated-shorter}
 use Rattle.fb_read.proofs.lemmas.rules.Lengths.{level-shorter}

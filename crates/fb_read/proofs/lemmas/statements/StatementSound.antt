@@ -1,23 +1,13 @@
 -- Statements that are read are derived by the grammar, and keep the limits of nesting.
-use Rattle.std.proofs.Common.{◌≡◌, ℕ, zero, suc, pos, ◌≤◌, List, [], ◌∷◌, map, Ok, Option, Some, None, sym, ap, ◌∙◌, subst, inl, inr, arith}
+use Rattle.fb_read.proofs.lemmas.Common.{◌≡◌, ℕ, zero, suc, pos, ◌≤◌, List, [], ◌∷◌, map, Ok, Option, Some, None, sym, ap, ◌∙◌, subst, inl, inr, arith, Name, Expr, Choice, Branch, Label, Stmt, Tokens, Parser, Outcome, and_then, pure, sees, after, expect, name, whole, separated, nesting, deepest, most_nesting, IsMark, choice_of, branch_of, IsBody, expression, assignment, simple, begins_statement, begins_label, choice, elsif, choices, branch, branches, others, if_statement, case_statement, loop_body, case_body, for_end, for_to, for_statement, while_statement, repeat_statement, statement, nested_statement, body}
 use Rattle.std.proofs.Math.IntN.{neg_ℤ}
-use Rattle.fb_types.specs.Names.{Name}
-use Rattle.fb_types.specs.declared.text.Expr.{Expr}
-use Rattle.fb_types.specs.declared.text.Stmt.{Stmt}
 use Rattle.fb_types.specs.declared.text.Stmt.TheVariants as s
-use Rattle.fb_types.specs.declared.text.Choice.{Choice}
-use Rattle.fb_types.specs.declared.text.Branch.{Branch}
 use Rattle.fb_types.specs.declared.text.Body.{Body}
-use Rattle.fb_types.specs.declared.text.Label.{Label}
 use Rattle.fb_read.specs.declared.token.Mark.TheVariants as mark
-use Rattle.fb_read.specs.Tokens.{Tokens}
-use Rattle.fb_read.specs.Parser.{Parser, Outcome, and_then, pure, sees, after, expect, name, whole, separated}
-use Rattle.fb_read.specs.Nesting.{nesting, deepest, by_nesting, most_nesting, statement_nesting, branch_nesting, choice_nesting, expression_nesting, branch_expression_nesting, choice_expression_nesting, BodyFits}
-use Rattle.fb_read.specs.Grammar.{IsMark}
-use Rattle.fb_read.specs.StatementNodes.{label_of, choice_of, branch_of, body_of}
-use Rattle.fb_read.specs.StatementGrammar.{IsBound, is_bound, is_negative, IsLabel, is_single, is_range, IsStep, no_step, is_step, IsStatement, is_empty, is_exit, is_return, is_assignment, is_if, is_case, is_for, is_while, is_repeat, AreStatements, no_statement, then_statements, IsChoice, is_choice, IsElsif, is_elsif, AreElsifs, no_elsif, then_elsifs, IsBranch, is_branch, AreBranches, no_branch, then_branches, AreOthers, no_others, are_others, IsBody, is_body}
-use Rattle.fb_read.specs.Expressions.{expression}
-use Rattle.fb_read.specs.Statements.{bound, label, assignment, step, simple, begins_statement, begins_label, block, choice, elsif, choices, branch, branches, others, if_statement, case_statement, loop_body, case_body, for_end, for_to, for_statement, while_statement, repeat_statement, statement, nested_statement, body}
+use Rattle.fb_read.specs.Nesting.{by_nesting, statement_nesting, branch_nesting, choice_nesting, expression_nesting, branch_expression_nesting, choice_expression_nesting, BodyFits}
+use Rattle.fb_read.specs.StatementNodes.{label_of, body_of}
+use Rattle.fb_read.specs.StatementGrammar.{IsBound, is_bound, is_negative, IsLabel, is_single, is_range, IsStep, no_step, is_step, IsStatement, is_empty, is_exit, is_return, is_assignment, is_if, is_case, is_for, is_while, is_repeat, AreStatements, no_statement, then_statements, IsChoice, is_choice, IsElsif, is_elsif, AreElsifs, no_elsif, then_elsifs, IsBranch, is_branch, AreBranches, no_branch, then_branches, AreOthers, no_others, are_others, is_body}
+use Rattle.fb_read.specs.Statements.{bound, label, step, block}
 use Rattle.fb_read.proofs.lemmas.rules.Steps.{both_ok, made, expected, eaten, named, counted}
 use Rattle.fb_read.proofs.lemmas.rules.Chained.{both_done}
 use Rattle.fb_read.proofs.lemmas.rules.Lists.{IsSound, separated-sound}

@@ -1,14 +1,7 @@
 -- Expressions and statements as the rules that contain them need them.
-use Rattle.std.proofs.Common.{◌≡◌, Bool, true, false, refl, ap, ◌∙◌}
-use Rattle.std.specs.Prelude.{◌&&◌}
-use Rattle.std.proofs.lemmas.Bool.{leb-true, le-leb}
-use Rattle.fb_types.specs.declared.text.Expr.{Expr}
+use Rattle.fb_read.proofs.lemmas.Common.{◌≡◌, Bool, true, false, refl, ap, ◌∙◌, ◌&&◌, leb-true, le-leb, Expr, nesting, most_nesting, IsExpression, IsBody, expression, body}
 use Rattle.fb_types.specs.declared.text.Body.{Body}
-use Rattle.fb_read.specs.Nesting.{nesting, most_nesting, ExpressionFits, BodyFits, fits_expression, fits_body}
-use Rattle.fb_read.specs.ExpressionGrammar.{IsExpression}
-use Rattle.fb_read.specs.StatementGrammar.{IsBody}
-use Rattle.fb_read.specs.Expressions.{expression}
-use Rattle.fb_read.specs.Statements.{body}
+use Rattle.fb_read.specs.Nesting.{ExpressionFits, BodyFits, fits_expression, fits_body}
 use Rattle.fb_read.specs.ReadsExactly.{ReadsExpressions, ReadsBodies}
 use Rattle.fb_read.proofs.lemmas.rules.Lists.{IsSound, picked}
 use Rattle.fb_read.proofs.lemmas.expressions.ExpressionSound.{expression-right}

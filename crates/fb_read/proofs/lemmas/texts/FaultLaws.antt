@@ -1,14 +1,10 @@
 -- Which fault there is if there is no token.
-use Rattle.std.proofs.Common.{◌≡◌, ℕ, ◌+◌, ◌≤◌, Bool, true, false, cond, eqb, leb, ◌∷◌, Option, Some, None, Err, refl, sym, ap, ◌∙◌, inl, inr, arith}
-use Rattle.std.specs.Prelude.{◌&&◌}
+use Rattle.fb_read.proofs.lemmas.Common.{◌≡◌, ℕ, ◌+◌, ◌≤◌, Bool, true, false, cond, eqb, leb, ◌∷◌, Option, Some, None, Err, refl, sym, ap, ◌∙◌, inl, inr, arith, ◌&&◌, is_ascii_digit, cases_Bool, and_parts, le-leb, leb-true, eqb-true, true≢false, false_from_ne_true, Mark, Text, at, is_letter, in_upper, keyword, word_len, word_of, bad_byte, bad_token, Found, time, sign_of, front}
+use Rattle.fb_types.proofs.Common.{and_from, or_right, or_cases, or_from}
 use Rattle.std.specs.Int.{is_in_range}
-use Rattle.std.specs.Char.{is_ascii_digit, is_ascii_alphabetic}
-use Rattle.std.proofs.lemmas.Bool.{cases_Bool, and_parts, and_from, or_right, or_cases, or_from, le-leb, leb-true, eqb-true, true≢false, false_from_ne_true}
-use Rattle.fb_read.specs.declared.token.Mark.{Mark}
+use Rattle.std.specs.Char.{is_ascii_alphabetic}
 use Rattle.fb_read.specs.declared.token.Token.TheVariants as token
-use Rattle.fb_read.specs.Blank.{Text, at}
-use Rattle.fb_read.specs.Words.{is_letter, in_upper, keyword, word_len, word_of}
-use Rattle.fb_read.specs.Front.{bad_byte, bad_token, Found, found, named, timed, time, is_time_word, word, whole, base_of, in_base, literal, sign_of, marked, is_plain, front}
+use Rattle.fb_read.specs.Front.{found, named, timed, is_time_word, word, whole, base_of, in_base, literal, marked, is_plain}
 use Rattle.fb_read.specs.Longest.{FaultsExactly}
 use Rattle.fb_read.proofs.lemmas.rules.Steps.{chosen}
 use Rattle.fb_read.proofs.lemmas.tokens.LongestLaws.{front-letter, front-digit, front-sign}

@@ -1,21 +1,13 @@
 -- What is parsed of a text's tokens, or the refusal of the text.
-use Rattle.std.proofs.Common.{◌≡◌, ℕ, zero, suc, ◌-◌, ◌<◌, ◌≤◌, Bool, true, false, List, [], ◌∷◌, ◌++◌, length, take, drop, Ok, Err, refl, sym, ap, subst, ◌∙◌, arith}
-use Rattle.std.proofs.lemmas.List.{length-take, map-append, nil_from_length, take-append-drop, take-take, take_all}
-use Rattle.fb_types.specs.declared.library.Library.{Library}
-use Rattle.fb_read.specs.declared.token.Located.{Located}
+use Rattle.fb_read.proofs.lemmas.Common.{◌≡◌, ℕ, zero, suc, ◌-◌, ◌<◌, ◌≤◌, Bool, true, false, List, [], ◌∷◌, ◌++◌, length, take, drop, Ok, Err, refl, sym, ap, subst, ◌∙◌, arith, length-take, take-append-drop, take_all, Library, Located, Text, Tokens, tokens_of, after_mark, AreLocated, syntax, too_deep, library, ended, IsDeepLen}
+use Rattle.fb_types.proofs.Common.{map-append, nil_from_length, take-take, IsTrue, ◌↔◌}
 use Rattle.fb_read.specs.declared.refused.ReadFault.{ReadFault}
 use Rattle.fb_read.specs.declared.refused.ReadFault.TheVariants as fault
 use Rattle.fb_read.specs.declared.refused.Refusal.{Refusal}
 use Rattle.fb_read.specs.declared.refused.TextFault.{TextFault}
 use Rattle.fb_read.specs.declared.refused.TextFault.TheVariants as text_fault
-use Rattle.fb_read.specs.Blank.{Text}
-use Rattle.fb_read.specs.Tokens.{Tokens, tokens_of, after_mark}
-use Rattle.fb_read.specs.Located.{AreLocated}
-use Rattle.std.specs.Prelude.{IsTrue, ◌↔◌}
-use Rattle.fb_read.specs.Parser.{syntax, too_deep}
-use Rattle.fb_read.specs.Blocks.{library}
-use Rattle.fb_read.specs.Whole.{most_bytes, ended, IsLibraryText}
-use Rattle.fb_read.specs.Refusals.{IsAtNext, IsDeepLen, IsFaultAt, IsFirstDeep, IsRefused, IsSameFault, IsTooDeep}
+use Rattle.fb_read.specs.Whole.{most_bytes, IsLibraryText}
+use Rattle.fb_read.specs.Refusals.{IsAtNext, IsFaultAt, IsFirstDeep, IsRefused, IsSameFault, IsTooDeep}
 use Rattle.fb_read.proofs.lemmas.tokens.TokenLaws.{tokens-located}
 use Rattle.fb_read.proofs.lemmas.texts.WholeLaws.{parsed-derived, parsed-fits}
 use Rattle.fb_read.proofs.lemmas.texts.StopLaws.{deep-more, none-deep, none-fits, stops}

@@ -1,13 +1,6 @@
 -- Where the reader stops, no library goes on.
-use Rattle.std.proofs.Common.{◌≡◌, Bool, true, false, [], ◌∷◌, ◌++◌, Result, Ok, Err, sym, ap, subst, ◌∙◌, append_assoc}
-use Rattle.fb_types.specs.declared.library.Library.{Library}
-use Rattle.fb_read.specs.declared.token.Token.{Token}
-use Rattle.fb_read.specs.Tokens.{Tokens}
-use Rattle.fb_read.specs.Parser.{Outcome, RuleFault, syntax, too_deep}
-use Rattle.fb_read.specs.Blocks.{library}
-use Rattle.fb_read.specs.BlocksGrammar.{IsLibrary}
+use Rattle.fb_read.proofs.lemmas.Common.{◌≡◌, Bool, true, false, [], ◌∷◌, ◌++◌, Result, Ok, Err, sym, ap, subst, ◌∙◌, append_assoc, Library, Token, Tokens, Outcome, RuleFault, syntax, too_deep, library, IsLibrary, ended}
 use Rattle.fb_read.specs.Fits.{fits_library}
-use Rattle.fb_read.specs.Whole.{ended}
 use Rattle.fb_read.specs.Stops.{BeginsNoneThatFits, IsRefusedToken, Stops}
 use Rattle.fb_read.proofs.lemmas.lookahead.OneTokenAhead.{IsLeft, shape, Shape, is_read, is_stuck, is_deep}
 use Rattle.fb_read.proofs.lemmas.lookahead.LocalLibrary.{local-library}

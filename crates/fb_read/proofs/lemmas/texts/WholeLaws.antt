@@ -1,19 +1,12 @@
 -- A text has one list of tokens, or a first fault; what is read of its tokens is the one library that it declares.
-use Rattle.std.proofs.Common.{◌≡◌, ℕ, ◌<◌, Bool, true, false, cond, List, [], ◌∷◌, length, drop, Result, Ok, Err, Some, refl, sym, ap, subst, ◌∙◌, inl, inr, arith}
-use Rattle.std.specs.Prelude.{◌↔◌}
-use Rattle.fb_types.specs.declared.library.Library.{Library}
-use Rattle.fb_read.specs.declared.token.Located.{Located}
-use Rattle.fb_read.specs.declared.token.Token.{Token}
+use Rattle.fb_read.proofs.lemmas.Common.{◌≡◌, ℕ, ◌<◌, Bool, true, false, cond, List, [], ◌∷◌, length, drop, Result, Ok, Err, Some, refl, sym, ap, subst, ◌∙◌, inl, inr, arith, Library, Located, Token, Text, skip, start, bad_byte, bad_token, Found, front, Tokens, tokens_of, after_mark, Outcome, RuleFault, syntax, too_deep, library, IsLibrary, ended}
+use Rattle.fb_types.proofs.Common.{◌↔◌}
 use Rattle.fb_read.specs.declared.error.ReadError.{ReadError}
 use Rattle.fb_read.specs.declared.error.ReadError.TheVariants as error
-use Rattle.fb_read.specs.Blank.{Text, skip, start}
-use Rattle.fb_read.specs.Front.{TokenFault, bad_byte, bad_token, Found, front}
-use Rattle.fb_read.specs.Tokens.{Tokens, tokens_of, after_mark, AreTokens, no_more, then_token, IsFirstFault, open_comment, is_here, is_later}
-use Rattle.fb_read.specs.Parser.{Outcome, RuleFault, syntax, too_deep}
-use Rattle.fb_read.specs.Blocks.{library}
-use Rattle.fb_read.specs.BlocksGrammar.{IsLibrary}
+use Rattle.fb_read.specs.Front.{TokenFault}
+use Rattle.fb_read.specs.Tokens.{AreTokens, no_more, then_token, IsFirstFault, open_comment, is_here, is_later}
 use Rattle.fb_read.specs.Fits.{fits_library}
-use Rattle.fb_read.specs.Whole.{most_bytes, IsDerived, IsLibraryText, IsNesting, HasTokenFault, HasTokens, RefusesWhere, IsMemory, IsGrammarFault, ended, DeclaresOne}
+use Rattle.fb_read.specs.Whole.{most_bytes, IsDerived, IsLibraryText, IsNesting, HasTokenFault, HasTokens, RefusesWhere, IsMemory, IsGrammarFault, DeclaresOne}
 use Rattle.fb_read.specs.declared.read.Unread.{Unread}
 use Rattle.fb_read.specs.declared.read.Unread.TheVariants as unread
 use Rattle.fb_read.specs.declared.refused.ReadFault.TheVariants as fault

@@ -1,11 +1,7 @@
 -- Digits, letters and words, a byte at a time.
-use Rattle.std.proofs.Common.{◌≡◌, ℕ, suc, ◌+◌, ◌-◌, ◌<◌, ◌≤◌, Bool, true, false, not, cond, eqb, leb, ltb, List, [], ◌∷◌, ◌++◌, length, take, Option, Some, None, refl, sym, subst, inl, inr, arith}
-use Rattle.std.specs.Prelude.{◌&&◌}
+use Rattle.fb_types.proofs.Common.{◌≡◌, ℕ, suc, ◌+◌, ◌-◌, ◌<◌, ◌≤◌, Bool, true, false, not, cond, eqb, leb, ltb, List, [], ◌∷◌, ◌++◌, length, take, Option, Some, None, refl, sym, subst, inl, inr, arith, ◌&&◌, is_ascii_digit, bytes_eq, cases_Bool, and_parts, and_from, and_right, or_left, or_right, le-leb, lt-leb, leb-true, ltb-true, eqb-true, true≢false, take-append-drop}
 use Rattle.std.specs.Int.{is_in_range}
-use Rattle.std.specs.Char.{is_ascii_digit, is_ascii_alphabetic}
-use Rattle.std.specs.Str.{bytes_eq}
-use Rattle.std.proofs.lemmas.Bool.{cases_Bool, and_parts, and_from, and_right, or_left, or_right, le-leb, lt-leb, leb-true, ltb-true, eqb-true, true≢false}
-use Rattle.std.proofs.lemmas.List.{take-append-drop}
+use Rattle.std.specs.Char.{is_ascii_alphabetic}
 use Rattle.fb_read.specs.declared.time.Unit.{Unit}
 use Rattle.fb_read.specs.Blank.{Text, at}
 use Rattle.fb_read.specs.Words.{is_letter, is_word, upper, in_upper, word_len, word_of}

@@ -1,11 +1,7 @@
 -- Where a comment begins that is not closed.
-use Rattle.std.proofs.Common.{◌≡◌, ℕ, ◌<◌, ◌≤◌, Bool, true, false, cond, eqb, [], length, drop, Option, Some, None, refl, subst, inl, inr}
-use Rattle.std.specs.Prelude.{◌&&◌}
-use Rattle.std.proofs.lemmas.Bool.{and_parts, cases_lt, eqb-true}
-use Rattle.std.proofs.lemmas.List.{drop_all}
-use Rattle.fb_read.specs.declared.blank.BlankState.{BlankState}
+use Rattle.fb_read.proofs.lemmas.Common.{◌≡◌, ℕ, ◌<◌, ◌≤◌, Bool, true, false, cond, eqb, [], length, drop, Option, Some, None, refl, subst, inl, inr, ◌&&◌, and_parts, cases_lt, eqb-true, drop_all, BlankState, Text, at, skip, start, step, may_end}
 use Rattle.fb_read.specs.declared.blank.BlankState.TheVariants.{Between, Opening, Inside, Closing, Line}
-use Rattle.fb_read.specs.Blank.{Text, at, is_blank, skip, start, step, may_end}
+use Rattle.fb_read.specs.Blank.{is_blank}
 use Rattle.fb_read.specs.Located.{begun}
 
 -- the position is in a comment that has to be closed

@@ -1,17 +1,9 @@
 -- A token is found at the front of a text exactly if it is cut off there.
-use Rattle.std.proofs.Common.{◌≡◌, ℕ, ◌+◌, ◌≤◌, Bool, true, false, cond, eqb, pos, neg_ℤ, [], ◌∷◌, ◌++◌, length, take, drop, Option, Some, None, Ok, refl, sym, ap, subst, ◌∙◌, append_assoc, arith}
-use Rattle.std.specs.Prelude.{◌&&◌}
-use Rattle.std.specs.Char.{is_ascii_digit}
-use Rattle.std.proofs.lemmas.Bool.{and_parts, or_left, eqb-true, true≢false, false_from_ne_true}
-use Rattle.std.proofs.lemmas.List.{take_at, length-append}
-use Rattle.fb_read.specs.declared.token.Mark.{Mark}
-use Rattle.fb_read.specs.declared.token.Token.{Token}
+use Rattle.fb_read.proofs.lemmas.Common.{◌≡◌, ℕ, ◌+◌, ◌≤◌, Bool, true, false, cond, eqb, pos, [], ◌∷◌, ◌++◌, length, take, drop, Option, Some, None, Ok, refl, sym, ap, subst, ◌∙◌, append_assoc, arith, ◌&&◌, is_ascii_digit, and_parts, eqb-true, true≢false, false_from_ne_true, length-append, Mark, Token, Text, at, is_letter, is_word, in_upper, keyword, word_len, word_of, number, time, sign_of, front}
+use Rattle.fb_types.proofs.Common.{neg_ℤ, or_left, take_at}
 use Rattle.fb_read.specs.declared.token.Token.TheVariants as token
-use Rattle.fb_read.specs.Blank.{Text, at}
-use Rattle.fb_read.specs.Words.{is_letter, is_word, in_upper, keyword, word_len, word_of}
-use Rattle.fb_read.specs.Numbers.{number}
 use Rattle.fb_read.specs.Durations.{duration}
-use Rattle.fb_read.specs.Front.{found, named, whole, base_of, is_time_word, word, literal, time, sign, sign_of, marked, front}
+use Rattle.fb_read.specs.Front.{found, named, whole, base_of, is_time_word, word, literal, sign, marked}
 use Rattle.fb_read.specs.Longest.{AreWord, IsToken, is_name, is_decimal, is_based, is_duration, is_negative_duration, is_sign, IsLiteral, BeginsLiteral, a_base, a_time_word, IsCut, CutsExactly}
 use Rattle.fb_read.proofs.lemmas.tokens.ByteLaws.{number-word, decimal-first, duration-word}
 use Rattle.fb_read.proofs.lemmas.tokens.LongestLaws.{time-found, parts_start-least, whole-found, Signs, none, alone, double, signs, IsTimeWord, time_word, time-word, word-is-time, at-following, drop-following, drop-two, not_minus, no-duration, IsBase, two, eight, sixteen, base-is, base-most, front-letter, front-digit, front-sign, takes-longest}

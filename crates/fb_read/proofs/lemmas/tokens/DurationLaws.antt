@@ -1,10 +1,6 @@
 -- A duration is parts with units that fall.
-use Rattle.std.proofs.Common.{◌≡◌, ℕ, ◌+◌, ◌*◌, ◌<◌, ◌≤◌, Bool, true, false, not, cond, eqb, leb, ltb, List, [], ◌∷◌, ◌++◌, length, drop, Option, Some, None, refl, sym, ap, subst, ◌∙◌, inl, inr, append_assoc, append-nil, arith}
-use Rattle.std.specs.Prelude.{◌⊎◌, ◌&&◌, codes}
-use Rattle.std.specs.Char.{is_ascii_digit, is_ascii_alphabetic}
-use Rattle.std.specs.Str.{bytes_eq}
-use Rattle.std.proofs.lemmas.Bool.{and_parts, or_parts, le-leb, leb-true, ltb-true, eqb-true, true≢false, false_from_ne_true}
-use Rattle.std.proofs.lemmas.List.{take_at, take-append-drop}
+use Rattle.fb_types.proofs.Common.{◌≡◌, ℕ, ◌+◌, ◌*◌, ◌<◌, ◌≤◌, Bool, true, false, not, cond, eqb, leb, ltb, List, [], ◌∷◌, ◌++◌, length, drop, Option, Some, None, refl, sym, ap, subst, ◌∙◌, inl, inr, append_assoc, append-nil, arith, ◌⊎◌, ◌&&◌, codes, is_ascii_digit, bytes_eq, and_parts, or_parts, le-leb, leb-true, ltb-true, eqb-true, true≢false, false_from_ne_true, take_at, take-append-drop}
+use Rattle.std.specs.Char.{is_ascii_alphabetic}
 use Rattle.fb_read.specs.declared.time.Unit.{Unit}
 use Rattle.fb_read.specs.declared.time.Unit.TheVariants as unit
 use Rattle.fb_read.specs.Limits.{most}

@@ -1,9 +1,5 @@
 -- One table of all keywords, and one for each letter.
-use Rattle.std.proofs.Common.{◌≡◌, ℕ, Bool, true, false, cond, [], ◌∷◌, ◌++◌, length, Some, refl, sym, ap, ◌∙◌, eq-eqb}
-use Rattle.std.specs.Prelude.{nat_eq}
-use Rattle.std.proofs.lemmas.Bool.{true≢false}
-use Rattle.std.proofs.lemmas.Slice.Eq.{bytes_eq-Decides}
-use Rattle.std.specs.Str.{bytes_eq}
+use Rattle.fb_types.proofs.Common.{◌≡◌, ℕ, Bool, true, false, cond, [], ◌∷◌, ◌++◌, length, Some, refl, sym, ap, ◌∙◌, eq-eqb, nat_eq, true≢false, bytes_eq-Decides, bytes_eq}
 use Rattle.fb_read.specs.Blank.{Text, at}
 use Rattle.fb_read.specs.Letters.{all_words, from_loops, from_sections, from_statements, from_types, group}
 use Rattle.fb_read.specs.Words.{Table, look_up, or_else, block_words, section_words, type_words, statement_words, loop_words, operator_words, keyword}

@@ -1,18 +1,10 @@
 -- The token that is found at the front of a text is the longest one.
-use Rattle.std.proofs.Common.{◌≡◌, ℕ, zero, suc, ◌+◌, ◌<◌, ◌≤◌, Bool, true, false, cond, eqb, [], ◌∷◌, ◌++◌, length, take, drop, get_or, Option, Some, None, Ok, Err, refl, sym, ap, subst, ◌∙◌, inl, inr, append_assoc, arith}
-use Rattle.std.specs.Prelude.{◌&&◌, codes}
-use Rattle.std.specs.Char.{is_ascii_digit}
-use Rattle.std.specs.Str.{bytes_eq}
-use Rattle.std.proofs.lemmas.Bool.{cases_Bool, cases_lt, or_from, and_parts, or_cases, or_parts, or_left, eqb-true, true≢false, false_from_ne_true}
-use Rattle.std.proofs.lemmas.List.{take_at, get_or_at, get_or_past, length-append, get_or-append-add, drop-drop, drop_more, get_or-drop}
-use Rattle.fb_read.specs.declared.token.Mark.{Mark}
-use Rattle.fb_read.specs.declared.token.Token.{Token}
+use Rattle.fb_read.proofs.lemmas.Common.{◌≡◌, ℕ, zero, suc, ◌+◌, ◌<◌, ◌≤◌, Bool, true, false, cond, eqb, [], ◌∷◌, ◌++◌, length, take, drop, get_or, Option, Some, None, Ok, Err, refl, sym, ap, subst, ◌∙◌, inl, inr, append_assoc, arith, ◌&&◌, codes, is_ascii_digit, bytes_eq, cases_Bool, cases_lt, and_parts, eqb-true, true≢false, false_from_ne_true, length-append, Mark, Token, Text, at, is_letter, is_word, in_upper, keyword, word_len, word_of, number, bad_byte, bad_token, Found, time, sign_of, front}
+use Rattle.fb_types.proofs.Common.{or_from, or_cases, or_parts, or_left, take_at, get_or_past, drop_more, get_or-drop}
+use Rattle.std.proofs.lemmas.List.{get_or_at, get_or-append-add, drop-drop}
 use Rattle.fb_read.specs.declared.token.Token.TheVariants as token
-use Rattle.fb_read.specs.Blank.{Text, at}
-use Rattle.fb_read.specs.Words.{is_letter, is_word, in_upper, keyword, word_len, word_of}
-use Rattle.fb_read.specs.Numbers.{number}
 use Rattle.fb_read.specs.Durations.{parts, duration}
-use Rattle.fb_read.specs.Front.{bad_byte, bad_token, Found, found, named, signed, timed, parts_start, time, is_time_word, word, whole, base_of, in_base, literal, sign, sign_of, marked, is_plain, front}
+use Rattle.fb_read.specs.Front.{found, named, signed, timed, parts_start, is_time_word, word, whole, base_of, in_base, literal, sign, marked, is_plain}
 use Rattle.fb_read.specs.Longest.{AreWord, IsToken, is_name, is_decimal, is_based, is_duration, is_negative_duration, is_sign, IsLiteral, TakesLongest}
 use Rattle.fb_read.proofs.lemmas.rules.Steps.{chosen}
 use Rattle.fb_read.proofs.lemmas.tokens.ByteLaws.{digit-not-letter, number-word, decimal-first, duration-word, upper-letter, in_upper-word, longest, all_word, word_of-cons, word-ends, word-stops, bytes_same}

@@ -1,9 +1,6 @@
 -- Numbers that are too large.
-use Rattle.std.proofs.Common.{◌≡◌, ℕ, ◌+◌, ◌*◌, ◌<◌, ◌≤◌, Bool, true, false, cond, eqb, [], ◌∷◌, length, get_or, drop, Option, None, refl, sym, ap, ◌∙◌, arith}
-use Rattle.std.specs.List.{fold}
+use Rattle.fb_types.proofs.Common.{◌≡◌, ℕ, ◌+◌, ◌*◌, ◌<◌, ◌≤◌, Bool, true, false, cond, eqb, [], ◌∷◌, length, get_or, drop, Option, None, refl, sym, ap, ◌∙◌, arith, fold, drop_more, lt-leb, eqb-true}
 use Rattle.std.proofs.Math.Nat.{mul-le-mul_right}
-use Rattle.std.proofs.lemmas.List.{drop_more}
-use Rattle.std.proofs.lemmas.Bool.{lt-leb, eqb-true}
 use Rattle.fb_read.specs.Limits.{most}
 use Rattle.fb_read.specs.Blank.{Text}
 use Rattle.fb_read.specs.Numbers.{digit_of, with_digit, value_of, are_digits, number}

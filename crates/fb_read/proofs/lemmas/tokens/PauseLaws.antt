@@ -1,8 +1,5 @@
 -- Blanks and comments are skipped, all of them and nothing else.
-use Rattle.std.proofs.Common.{◌≡◌, ℕ, zero, suc, ◌≤◌, Bool, true, false, eqb, [], ◌∷◌, ◌++◌, length, Option, Some, None, refl, sym, ap, subst, ◌∙◌, inl, inr, append_assoc, append-nil, arith}
-use Rattle.std.specs.Prelude.{◌&&◌, codes}
-use Rattle.std.proofs.lemmas.Bool.{cases_Bool, and_parts, eqb-true, true≢false, false_from_ne_true}
-use Rattle.std.proofs.lemmas.List.{length-append}
+use Rattle.fb_types.proofs.Common.{◌≡◌, ℕ, zero, suc, ◌≤◌, Bool, true, false, eqb, [], ◌∷◌, ◌++◌, length, Option, Some, None, refl, sym, ap, subst, ◌∙◌, inl, inr, append_assoc, append-nil, arith, ◌&&◌, codes, cases_Bool, and_parts, eqb-true, true≢false, false_from_ne_true, length-append}
 use Rattle.fb_read.specs.declared.blank.BlankState.TheVariants.{Between, Inside, Line}
 use Rattle.fb_read.specs.Blank.{Text, at, is_blank, skip}
 use Rattle.fb_read.specs.Pauses.{HasNo, IsPause, a_blank, a_comment, a_line, ArePauses, no_more, one_more, BeginsNone, Leaves, a_rest, a_last_line, not_closed, SkipsExactly}

@@ -1,16 +1,10 @@
 -- Where a refusal shows: in the text, after its byte order mark; and what the text up to a token that nests too deep is.
-use Rattle.std.proofs.Common.{ℕ, suc, ◌+◌, ◌-◌, ◌≤◌, Bool, true, false, cond, List, [], ◌∷◌, length, take, drop, ap, arith}
-use Rattle.std.proofs.lemmas.List.{length-drop, length-take}
-use Rattle.fb_types.specs.declared.library.Library.{Library}
+use Rattle.fb_read.proofs.lemmas.Common.{ℕ, suc, ◌+◌, ◌-◌, ◌≤◌, Bool, true, false, cond, List, [], ◌∷◌, length, take, drop, ap, arith, length-drop, length-take, Library, Located, Text, start, AreLocated, too_deep, after_mark, tokens_of}
 use Rattle.fb_read.specs.declared.refused.TextFault.{TextFault}
 use Rattle.fb_read.specs.declared.refused.TextFault.TheVariants as text_fault
-use Rattle.fb_read.specs.declared.token.Located.{Located}
-use Rattle.fb_read.specs.Blank.{Text, start}
 use Rattle.fb_read.specs.Front.{TokenFault}
-use Rattle.fb_read.specs.Located.{AreLocated, IsFirstFaultAt, open_comment, is_here, is_later}
-use Rattle.fb_read.specs.Parser.{too_deep}
+use Rattle.fb_read.specs.Located.{IsFirstFaultAt, open_comment, is_here, is_later}
 use Rattle.fb_read.specs.Refusals.{IsFaultAt, IsNestingAt, IsNext}
-use Rattle.fb_read.specs.Tokens.{after_mark, tokens_of}
 use Rattle.fb_read.specs.Whole.{HasTokens, IsLibraryText}
 use Rattle.fb_read.proofs.lemmas.tokens.TextEnds.{end-length, skip-end}
 use Rattle.fb_read.proofs.lemmas.tokens.PrefixLaws.{has_mark, next-after, tokens-before}

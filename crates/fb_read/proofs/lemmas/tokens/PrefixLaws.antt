@@ -1,18 +1,12 @@
 -- The tokens of the bytes of a text up to the end of one of its tokens are those up to it.
-use Rattle.std.proofs.Common.{◌≡◌, ℕ, zero, suc, ◌+◌, ◌-◌, ◌<◌, ◌≤◌, Bool, true, false, cond, eqb, List, [], ◌∷◌, ◌++◌, length, take, drop, Option, Some, None, Ok, refl, sym, ap, subst, ◌∙◌, append_assoc, inl, inr, arith}
-use Rattle.std.specs.Prelude.{◌&&◌}
-use Rattle.std.proofs.lemmas.Bool.{and_parts, cases_lt, eqb-true, false_from_ne_true, true≢false}
-use Rattle.std.proofs.lemmas.List.{drop_all, drop-take, get_or-take, get_or_past, length-drop, length-take, length-take-le, take-append-drop, take-take}
-use Rattle.fb_read.specs.declared.blank.BlankState.{BlankState}
+use Rattle.fb_read.proofs.lemmas.Common.{◌≡◌, ℕ, zero, suc, ◌+◌, ◌-◌, ◌<◌, ◌≤◌, Bool, true, false, cond, eqb, List, [], ◌∷◌, ◌++◌, length, take, drop, Option, Some, None, Ok, refl, sym, ap, subst, ◌∙◌, append_assoc, inl, inr, arith, ◌&&◌, and_parts, cases_lt, eqb-true, false_from_ne_true, true≢false, drop_all, length-drop, length-take, take-append-drop, BlankState, Located, Token, Text, at, skip, start, step, stepped, is_word, front, tokens_of, after_mark, AreLocated}
+use Rattle.fb_types.proofs.Common.{get_or-take, get_or_past, length-take-le, take-take}
+use Rattle.std.proofs.lemmas.List.{drop-take}
 use Rattle.fb_read.specs.declared.blank.BlankState.TheVariants.{Between, Opening, Inside, Closing, Line}
-use Rattle.fb_read.specs.declared.token.Located.{Located}
-use Rattle.fb_read.specs.declared.token.Token.{Token}
-use Rattle.fb_read.specs.Blank.{Text, at, is_blank, skip, start, step, stepped}
-use Rattle.fb_read.specs.Words.{is_word}
-use Rattle.fb_read.specs.Front.{front}
-use Rattle.fb_read.specs.Tokens.{tokens_of, after_mark, AreTokens}
+use Rattle.fb_read.specs.Blank.{is_blank}
+use Rattle.fb_read.specs.Tokens.{AreTokens}
 use Rattle.fb_read.specs.Tokens as tokens
-use Rattle.fb_read.specs.Located.{AreLocated, no_more, then_token}
+use Rattle.fb_read.specs.Located.{no_more, then_token}
 use Rattle.fb_read.specs.Longest.{IsCut}
 use Rattle.fb_read.specs.Refusals.{IsNext}
 use Rattle.fb_read.proofs.lemmas.tokens.CutLaws.{cuts-exactly}

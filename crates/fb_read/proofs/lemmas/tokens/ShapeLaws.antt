@@ -1,10 +1,6 @@
 -- The digits of a number are groups of digits, with single underscores between them.
-use Rattle.std.proofs.Common.{◌≡◌, ℕ, ◌<◌, ◌≤◌, Bool, true, false, cond, eqb, ltb, List, [], ◌∷◌, ◌++◌, All, refl, sym, subst, ap, inl, inr, ◌∙◌, arith}
-use Rattle.std.specs.Prelude.{◌&&◌}
-use Rattle.std.proofs.lemmas.Bool.{cases_Bool, and_parts, and_from, eqb-true, ltb-true, lt-ltb}
-use Rattle.std.proofs.lemmas.List.Elements.{All-nil, All-cons, All-head, All-tail}
-use Rattle.fb_read.specs.Blank.{Text}
-use Rattle.fb_read.specs.Numbers.{are_digits, digit_of}
+use Rattle.fb_read.proofs.lemmas.Common.{◌≡◌, ℕ, ◌<◌, ◌≤◌, Bool, true, false, cond, eqb, List, [], ◌∷◌, ◌++◌, refl, sym, subst, ap, inl, inr, ◌∙◌, arith, ◌&&◌, cases_Bool, and_parts, eqb-true, Text, are_digits, digit_of}
+use Rattle.fb_types.proofs.Common.{ltb, All, and_from, ltb-true, lt-ltb, All-nil, All-cons, All-head, All-tail}
 use Rattle.fb_read.specs.Shapes.{AreAllDigits, AreGroups, NumbersExactly, underscored}
 
 abbrev IsDigit : ℕ → ℕ → Type 0

@@ -1,13 +1,7 @@
 -- The sign at the front of a text is the longest of the list that is there.
-use Rattle.std.proofs.Common.{◌≡◌, ℕ, zero, suc, Bool, true, false, cond, eqb, leb, List, [], ◌∷◌, length, take, Option, None, Some, refl, sym, subst, ap, ⊎_elim, inl, inr, ◌∙◌, arith}
-use Rattle.std.specs.Prelude.{◌⊎◌, slice_get}
-use Rattle.std.specs.Str.{bytes_eq}
-use Rattle.std.proofs.lemmas.Bool.{cases_Bool, eqb-true, leb-true, leb-false}
-use Rattle.std.proofs.lemmas.Slice.Eq.{bytes_eq-Decides}
-use Rattle.fb_read.specs.Blank.{Text}
-use Rattle.fb_read.specs.Front.{sign_of}
+use Rattle.fb_read.proofs.lemmas.Common.{◌≡◌, ℕ, zero, suc, Bool, true, false, cond, eqb, leb, List, [], ◌∷◌, length, take, Option, None, Some, refl, sym, subst, ap, inl, inr, ◌∙◌, arith, bytes_eq, cases_Bool, eqb-true, leb-true, Text, sign_of, Mark}
+use Rattle.fb_types.proofs.Common.{⊎_elim, ◌⊎◌, slice_get, leb-false, bytes_eq-Decides}
 use Rattle.fb_read.specs.Shapes.{IsLongest, SignsExactly, IsSignOf, signs}
-use Rattle.fb_read.specs.declared.token.Mark.{Mark}
 
 abbrev begins : (b next : ℕ) → Text → Bool
 begins b next w = bytes_eq (take (length w) (b ∷ (next ∷ []))) w

@@ -1,8 +1,6 @@
 -- Skipping blanks and comments, a byte at a time.
-use Rattle.std.proofs.Common.{◌≡◌, ℕ, ◌+◌, ◌<◌, ◌≤◌, [], length, get_or, drop, cond, Some, None, refl, ap, ◌∙◌, arith}
-use Rattle.std.proofs.lemmas.List.{drop_more, drop_all, get_or-drop}
-use Rattle.fb_read.specs.declared.blank.BlankState.{BlankState}
-use Rattle.fb_read.specs.Blank.{Text, at, skip, step, stepped, may_end}
+use Rattle.fb_read.proofs.lemmas.Common.{◌≡◌, ℕ, ◌+◌, ◌<◌, ◌≤◌, [], length, get_or, drop, cond, Some, None, refl, ap, ◌∙◌, arith, drop_all, BlankState, Text, at, skip, step, stepped, may_end}
+use Rattle.fb_types.proofs.Common.{drop_more, get_or-drop}
 
 pub skip_turn : (state : BlankState) (z : Text) (i : ℕ) → i < length z → skip state (drop i z) ≡ stepped (λ next. skip next (drop (i + 1) z)) (drop i z) (step state (get_or z i 0) (at z (i + 1)))
 unfolding skip

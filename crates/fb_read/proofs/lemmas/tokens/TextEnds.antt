@@ -1,9 +1,6 @@
 -- Ends of a text.
-use Rattle.std.proofs.Common.{◌≡◌, ℕ, ◌+◌, ◌-◌, ◌≤◌, Bool, true, false, cond, [], ◌∷◌, ◌++◌, length, drop, Option, Some, None, refl, sym, ap, subst, ◌∙◌, append_assoc, arith}
-use Rattle.std.proofs.lemmas.List.{length-append, length-drop, take-append-drop, take_all, drop_at}
-use Rattle.std.specs.Prelude.{take}
-use Rattle.fb_read.specs.declared.blank.BlankState.{BlankState}
-use Rattle.fb_read.specs.Blank.{Text, at, skip, step, stepped, may_end}
+use Rattle.fb_read.proofs.lemmas.Common.{◌≡◌, ℕ, ◌+◌, ◌-◌, ◌≤◌, Bool, true, false, cond, [], ◌∷◌, ◌++◌, length, drop, Option, Some, None, refl, sym, ap, subst, ◌∙◌, append_assoc, arith, length-append, length-drop, take-append-drop, take_all, take, BlankState, Text, at, skip, step, stepped, may_end}
+use Rattle.std.proofs.lemmas.List.{drop_at}
 use Rattle.fb_read.specs.Located.{IsEnd}
 
 pub end-whole : (z : Text) → IsEnd z z

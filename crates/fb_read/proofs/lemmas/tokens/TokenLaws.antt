@@ -1,15 +1,13 @@
 -- A text is read a token at a time.
-use Rattle.std.proofs.Common.{◌≡◌, ℕ, ◌+◌, ◌-◌, ◌<◌, ◌≤◌, List, [], ◌∷◌, ◌++◌, length, drop, Some, None, Ok, Err, refl, sym, subst, ap, ◌∙◌, append_assoc, append-nil, arith}
-use Rattle.std.proofs.lemmas.List.{drop-drop, get_or-drop, length-drop, nil_from_length}
-use Rattle.fb_read.specs.declared.token.Located.{Located}
+use Rattle.fb_read.proofs.lemmas.Common.{◌≡◌, ℕ, ◌+◌, ◌-◌, ◌<◌, ◌≤◌, List, [], ◌∷◌, ◌++◌, length, drop, Some, None, Ok, Err, refl, sym, subst, ap, ◌∙◌, append_assoc, append-nil, arith, length-drop, Located, Text, at, skip, start, bad_byte, bad_token, front, tokens_of, after_mark, AreLocated}
+use Rattle.std.proofs.lemmas.List.{drop-drop, get_or-drop, nil_from_length}
 use Rattle.fb_read.specs.declared.front.LexFault.{LexFault}
 use Rattle.fb_read.specs.declared.front.LexFault.TheVariants as fault
 use Rattle.fb_read.specs.declared.refused.ReadFault.{ReadFault}
-use Rattle.fb_read.specs.Blank.{Text, at, skip, start}
-use Rattle.fb_read.specs.Front.{TokenFault, bad_byte, bad_token, front, Gives}
-use Rattle.fb_read.specs.Tokens.{tokens_of, after_mark, AreTokens, no_more, then_token, IsFirstFault, open_comment, is_here, is_later}
+use Rattle.fb_read.specs.Front.{TokenFault, Gives}
+use Rattle.fb_read.specs.Tokens.{AreTokens, no_more, then_token, IsFirstFault, open_comment, is_here, is_later}
 use Rattle.fb_read.specs.declared.refused.TextFault.TheVariants as text_fault
-use Rattle.fb_read.specs.Located.{AreLocated, IsEnd, IsFirstFaultAt}
+use Rattle.fb_read.specs.Located.{IsEnd, IsFirstFaultAt}
 use Rattle.fb_read.specs.Located as located
 use Rattle.fb_read.specs.Whole.{most_bytes}
 use Rattle.fb_read.specs.Refusals.{IsRefused, IsFaultOf, IsFoundAt, IsUnclosed, refused_at}

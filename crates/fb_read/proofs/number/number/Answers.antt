@@ -1,5 +1,4 @@
-use Rattle.std.proofs.Common.{arith}
-use Rattle.std.proofs.lemmas.Grind.{common_steps}
+use Rattle.fb_types.proofs.Common.{arith, common_steps}
 use Rattle.fb_read.proofs.lemmas.tokens.NumberLaws.{too_large}
 use Rattle.fb_read.proofs.number.number.Goals as goal
 

@@ -1,5 +1,4 @@
-use Rattle.std.proofs.Common.{◌≡◌, ◌≤◌, true, drop}
-use Rattle.std.specs.List.{fold}
+use Rattle.fb_types.proofs.Common.{◌≡◌, ◌≤◌, true, drop, fold}
 use Rattle.fb_read.specs.Limits.{most}
 use Rattle.fb_read.specs.Numbers.{are_digits, with_digit, value_of}
 use Rattle.fb_read.proofs.number.number.Given as goal

@@ -1,5 +1,4 @@
-use Rattle.std.proofs.Common.{◌≡◌}
-use Rattle.std.specs.List.{flat_map}
+use Rattle.fb_read.proofs.lemmas.Common.{◌≡◌, flat_map}
 use Rattle.fb_read.specs.Ports as spec
 use Rattle.fb_read.proofs.ports.declared.Given as goal
 

@@ -1,5 +1,4 @@
-use Rattle.std.proofs.Common.{◌≡◌, ℕ, ◌+◌, ◌-◌, sym, subst, ◌∙◌, arith}
-use Rattle.fb_read.specs.Refusals.{IsDeepLen}
+use Rattle.fb_read.proofs.lemmas.Common.{◌≡◌, ℕ, ◌+◌, ◌-◌, sym, subst, ◌∙◌, arith, IsDeepLen}
 use Rattle.fb_read.proofs.lemmas.texts.RefusalLaws.{deep-shorter, first-deep}
 use Rattle.fb_read.proofs.read.deep_len.Goals as goal
 

@@ -1,5 +1,4 @@
-use Rattle.std.proofs.Common.{◌-◌}
-use Rattle.fb_read.specs.Refusals.{IsDeepLen}
+use Rattle.fb_read.proofs.lemmas.Common.{◌-◌, IsDeepLen}
 use Rattle.fb_read.proofs.read.deep_len.Given as goal
 
 abbrev pub invariant-loop-turn : goal.invariant-loop-turn

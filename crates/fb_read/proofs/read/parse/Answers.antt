@@ -1,5 +1,4 @@
-use Rattle.std.proofs.Common.{sym, ap, ◌∙◌}
-use Rattle.fb_read.specs.Whole.{ended}
+use Rattle.fb_read.proofs.lemmas.Common.{sym, ap, ◌∙◌, ended}
 use Rattle.fb_read.proofs.lemmas.texts.RefusalLaws.{left-over, refused-rule, whole-declared}
 use Rattle.fb_read.proofs.read.parse.Goals as goal
 

@@ -1,7 +1,6 @@
-use Rattle.std.proofs.Common.{arith}
+use Rattle.fb_read.proofs.lemmas.Common.{arith, bad_byte, bad_token}
 use Rattle.fb_read.specs.declared.error.ReadError.TheVariants as error
 use Rattle.fb_read.specs.declared.read.Unread.TheVariants as why
-use Rattle.fb_read.specs.Front.{bad_byte, bad_token}
 use Rattle.fb_read.proofs.lemmas.texts.WholeLaws.{is-byte, is-grammar, is-nesting, is-none, is-token, is-too-long, read-short, read-token, unread-of}
 use Rattle.fb_read.proofs.read.read_library.Goals as goal
 

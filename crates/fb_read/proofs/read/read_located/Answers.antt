@@ -1,6 +1,4 @@
-use Rattle.std.proofs.Common.{List, length, sym, subst, arith}
-use Rattle.std.proofs.lemmas.List.{take_all}
-use Rattle.fb_read.specs.declared.token.Located.{Located}
+use Rattle.fb_read.proofs.lemmas.Common.{List, length, sym, subst, arith, take_all, Located}
 use Rattle.fb_read.specs.Refusals.{IsTooDeep}
 use Rattle.fb_read.proofs.lemmas.texts.RefusalLaws.{same-refused}
 use Rattle.fb_read.proofs.read.read_located.Goals as goal

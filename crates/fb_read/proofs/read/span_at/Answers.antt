@@ -1,5 +1,4 @@
-use Rattle.std.proofs.Common.{◌-◌, ◌<◌, length, drop, arith}
-use Rattle.std.proofs.lemmas.List.{length-drop, length-take}
+use Rattle.fb_types.proofs.Common.{◌-◌, ◌<◌, length, drop, arith, length-drop, length-take}
 use Rattle.fb_read.proofs.lemmas.rules.NextLaws.{at-end, at-front, first-before}
 use Rattle.fb_read.proofs.read.span_at.Goals as goal
 

@@ -1,7 +1,4 @@
-use Rattle.std.proofs.Common.{◌≡◌, ◌-◌, ℕ, false, length, Ok, ap, sym, ◌∙◌, arith}
-use Rattle.std.proofs.lemmas.Result.{err_from_is_err_and}
-use Rattle.fb_read.specs.Tokens.{Tokens}
-use Rattle.fb_read.specs.Parser.{sees, after, many_after, many_from}
+use Rattle.fb_read.proofs.lemmas.Common.{◌≡◌, ◌-◌, ℕ, false, length, Ok, ap, sym, ◌∙◌, arith, err_from_is_err_and, Tokens, sees, after, many_after, many_from}
 use Rattle.fb_read.proofs.lemmas.rules.CountedLoops.{one_more, no_more}
 use Rattle.fb_read.proofs.lemmas.rules.Reading.{stops_as}
 use Rattle.fb_read.proofs.lemmas.rules.ItemLoops.{many_fault, many_more, many_over}

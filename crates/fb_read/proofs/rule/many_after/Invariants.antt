@@ -1,5 +1,4 @@
-use Rattle.std.proofs.Common.{◌≡◌, ◌-◌}
-use Rattle.fb_read.specs.Parser.{many_after, many_from}
+use Rattle.fb_read.proofs.lemmas.Common.{◌≡◌, ◌-◌, many_after, many_from}
 use Rattle.fb_read.proofs.rule.many_after.Given as goal
 
 abbrev pub invariant-loop-turn : goal.invariant-loop-turn

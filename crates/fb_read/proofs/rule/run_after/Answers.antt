@@ -1,6 +1,4 @@
-use Rattle.std.proofs.Common.{◌≡◌, ◌-◌, ℕ, true, length, ap, sym, ◌∙◌, arith}
-use Rattle.std.proofs.lemmas.Result.{err_from_is_err_and}
-use Rattle.fb_read.specs.Parser.{sees, run_after, run_from}
+use Rattle.fb_read.proofs.lemmas.Common.{◌≡◌, ◌-◌, ℕ, true, length, ap, sym, ◌∙◌, arith, err_from_is_err_and, sees, run_after, run_from}
 use Rattle.fb_read.proofs.lemmas.rules.CountedLoops.{one_more, no_more}
 use Rattle.fb_read.proofs.lemmas.rules.Reading.{stops_as}
 use Rattle.fb_read.proofs.lemmas.rules.ItemLoops.{run_fault, run_more, run_over}

@@ -1,5 +1,4 @@
-use Rattle.std.proofs.Common.{◌≡◌, ◌-◌}
-use Rattle.fb_read.specs.Parser.{run_after, run_from}
+use Rattle.fb_read.proofs.lemmas.Common.{◌≡◌, ◌-◌, run_after, run_from}
 use Rattle.fb_read.proofs.rule.run_after.Given as goal
 
 abbrev pub invariant-loop-turn : goal.invariant-loop-turn

@@ -1,7 +1,5 @@
-use Rattle.std.proofs.Common.{◌≡◌, ◌-◌, ℕ, true, false, [], length, ap, sym, ◌∙◌, arith}
-use Rattle.std.proofs.lemmas.Result.{err_from_is_err_and}
+use Rattle.fb_read.proofs.lemmas.Common.{◌≡◌, ◌-◌, ℕ, true, false, [], length, ap, sym, ◌∙◌, arith, err_from_is_err_and, sees, separated, separated_from}
 use Rattle.fb_read.specs.declared.token.Mark.TheVariants as mark
-use Rattle.fb_read.specs.Parser.{sees, separated, separated_from}
 use Rattle.fb_read.proofs.lemmas.rules.CountedLoops.{one_more, no_more}
 use Rattle.fb_read.proofs.lemmas.rules.Reading.{stops_as}
 use Rattle.fb_read.proofs.lemmas.rules.ItemLoops.{separated_fault, separated_last, separated_more}

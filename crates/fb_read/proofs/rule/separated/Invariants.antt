@@ -1,5 +1,4 @@
-use Rattle.std.proofs.Common.{◌≡◌, ◌-◌}
-use Rattle.fb_read.specs.Parser.{separated, separated_from}
+use Rattle.fb_read.proofs.lemmas.Common.{◌≡◌, ◌-◌, separated, separated_from}
 use Rattle.fb_read.proofs.rule.separated.Given as goal
 
 abbrev pub invariant-loop-turn : goal.invariant-loop-turn

@@ -1,5 +1,4 @@
-use Rattle.std.proofs.Common.{refl}
-use Rattle.std.proofs.lemmas.Result.{err_from_is_err_and}
+use Rattle.fb_types.proofs.Common.{refl, err_from_is_err_and}
 use Rattle.fb_read.specs.Parser.{then_read}
 use Rattle.fb_read.proofs.lemmas.rules.Reading.{stops, stops_later, went_on}
 use Rattle.fb_read.proofs.rule.then_read.Goals as goal

@@ -1,5 +1,4 @@
-use Rattle.std.proofs.Common.{◌≡◌, ap, arith}
-use Rattle.fb_read.specs.Statements.{nested_statement}
+use Rattle.fb_read.proofs.lemmas.Common.{◌≡◌, ap, arith, nested_statement}
 use Rattle.fb_read.proofs.lemmas.rules.CountedLoops.{deeper}
 use Rattle.fb_read.proofs.statement.+nested_statement.Goals as goal
 

@@ -1,10 +1,7 @@
-use Rattle.std.proofs.Common.{refl, sym, subst, ◌∙◌}
-use Rattle.std.proofs.lemmas.Result.{err_from_is_err_and}
-use Rattle.fb_types.specs.Names.{Name}
+use Rattle.fb_read.proofs.lemmas.Common.{refl, sym, subst, ◌∙◌, err_from_is_err_and, Name, Reads, simple}
 use Rattle.fb_types.specs.declared.text.Stmt.TheVariants as s
 use Rattle.fb_read.specs.declared.token.Mark.TheVariants as mark
-use Rattle.fb_read.specs.Parser.{Reads, ended}
-use Rattle.fb_read.specs.Statements.{simple}
+use Rattle.fb_read.specs.Parser.{ended}
 use Rattle.fb_read.proofs.lemmas.rules.Pairs.{simple_is}
 use Rattle.fb_read.proofs.lemmas.rules.Reading.{begun, begun_is, goes_on, passed, read_as, stops, stops_as}
 use Rattle.fb_read.proofs.statement.simple.Goals as goal

@@ -1,5 +1,4 @@
-use Rattle.std.proofs.Common.{arith, rules}
-use Rattle.std.proofs.lemmas.Grind.{common_steps}
+use Rattle.fb_types.proofs.Common.{arith, rules, common_steps}
 use Rattle.fb_read.proofs.time.digits_len.Goals as goal
 
 pub loop-end-preserved : goal.loop-end-preserved

@@ -1,5 +1,4 @@
-use Rattle.std.proofs.Common.{◌+◌, ◌-◌, length, drop, refl, arith}
-use Rattle.std.proofs.lemmas.List.{length-drop, length-take}
+use Rattle.fb_types.proofs.Common.{◌+◌, ◌-◌, length, drop, refl, arith, length-drop, length-take}
 use Rattle.fb_read.proofs.tokens.faulty.Goals as goal
 
 pub returns-in-Token : goal.returns-in-Token

@@ -1,7 +1,4 @@
-use Rattle.std.proofs.Common.{rules, ◌≡◌, ◌<◌, Some, None, length, arith}
-use Rattle.std.proofs.lemmas.Grind.{common_steps}
-use Rattle.std.proofs.lemmas.Result.{err_from_is_err_and}
-use Rattle.fb_read.specs.Blank.{skip, start}
+use Rattle.fb_read.proofs.lemmas.Common.{rules, ◌≡◌, ◌<◌, Some, None, length, arith, common_steps, err_from_is_err_and, skip, start}
 use Rattle.fb_read.proofs.lemmas.tokens.TextEnds.{end-at, end-drop, end-end, end-length, skip-end}
 use Rattle.fb_read.proofs.lemmas.tokens.TokenLaws.{begun, ended, one_more, unclosed, faulty}
 use Rattle.fb_read.proofs.tokens.lex.Goals as goal

@@ -1,5 +1,4 @@
-use Rattle.std.proofs.Common.{◌≡◌, ◌+◌, drop}
-use Rattle.fb_read.specs.Words.{word_len}
+use Rattle.fb_read.proofs.lemmas.Common.{◌≡◌, ◌+◌, drop, word_len}
 use Rattle.fb_read.proofs.word.word_len.Given as goal
 
 abbrev pub invariant-loop-end : goal.invariant-loop-end

@@ -1,5 +1,4 @@
-use Rattle.std.proofs.Common.{◌≡◌, ◌+◌, ◌-◌, suc, true, sym, ◌∙◌, arith}
-use Rattle.std.specs.Prelude.{if◌then◌else◌, [], ◌∷◌}
+use Rattle.fb_types.proofs.Common.{◌≡◌, ◌+◌, ◌-◌, suc, true, sym, ◌∙◌, arith, if◌then◌else◌, [], ◌∷◌}
 use Rattle.fb_read_positions.specs.Walks.{begins_clauses, ends_clauses}
 use Rattle.fb_read_positions.proofs.clauses.depth_after.Goals as goal
 

@@ -1,5 +1,4 @@
-use Rattle.std.proofs.Common.{sym, ap, ◌∙◌}
-use Rattle.fb_types.specs.Names.{Name}
+use Rattle.fb_types.proofs.Common.{sym, ap, ◌∙◌, Name}
 use Rattle.fb_types.proofs.lemmas.names.NameLaws.{same_from_same_name}
 use Rattle.fb_read.specs.declared.token.Token.TheVariants as variant
 use Rattle.fb_read_positions.proofs.find.is_name.Goals as goal

@@ -1,7 +1,4 @@
-use Rattle.std.proofs.Common.{◌≡◌, ◌-◌, Bor, Option, length, drop, take, Ok, sym, ap, subst, ◌∙◌, arith}
-use Rattle.std.specs.Option.{option_copied}
-use Rattle.std.proofs.lemmas.List.{length-drop, take_all}
-use Rattle.fb_types.specs.Names.{Name}
+use Rattle.fb_types.proofs.Common.{◌≡◌, ◌-◌, Bor, Option, length, drop, take, Ok, sym, ap, subst, ◌∙◌, arith, option_copied, length-drop, take_all, Name}
 use Rattle.fb_read.specs.Blank.{Text}
 use Rattle.fb_read.specs.declared.token.Token.{Token}
 use Rattle.fb_read_positions.specs.Spans.{IsNameOf, IsNamed}

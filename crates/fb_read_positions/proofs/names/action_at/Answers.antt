@@ -1,6 +1,4 @@
-use Rattle.std.proofs.Common.{ap, ◌∙◌}
-use Rattle.std.specs.Prelude.{slice_get}
-use Rattle.std.specs.Option.{option_copied}
+use Rattle.fb_types.proofs.Common.{ap, ◌∙◌, slice_get, option_copied}
 use Rattle.fb_types.specs.declared.library.State.{State}
 use Rattle.fb_read_positions.proofs.lemmas.IndexedItems.{found, none_found}
 use Rattle.fb_read_positions.proofs.names.action_at.Goals as goal

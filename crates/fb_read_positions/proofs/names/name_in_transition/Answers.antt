@@ -1,5 +1,4 @@
-use Rattle.std.proofs.Common.{ap, ◌∙◌}
-use Rattle.std.specs.Option.{option_copied}
+use Rattle.fb_types.proofs.Common.{ap, ◌∙◌, option_copied}
 use Rattle.fb_read_positions.specs.Spans.{name_of_transition}
 use Rattle.fb_read_positions.proofs.lemmas.IndexedItems.{found, none_found}
 use Rattle.fb_read_positions.proofs.names.name_in_transition.Goals as goal

@@ -1,5 +1,4 @@
-use Rattle.std.proofs.Common.{ap, ◌∙◌}
-use Rattle.std.specs.Option.{option_copied}
+use Rattle.fb_types.proofs.Common.{ap, ◌∙◌, option_copied}
 use Rattle.fb_read_positions.proofs.lemmas.IndexedItems.{had, none_had}
 use Rattle.fb_read_positions.proofs.names.name_of.Goals as goal
 

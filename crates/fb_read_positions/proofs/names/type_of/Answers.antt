@@ -1,6 +1,4 @@
-use Rattle.std.proofs.Common.{refl, ap, ◌∙◌}
-use Rattle.std.specs.Option.{option_copied}
-use Rattle.fb_types.specs.declared.library.Instance.{Instance}
+use Rattle.fb_types.proofs.Common.{refl, ap, ◌∙◌, option_copied, Instance}
 use Rattle.fb_read_positions.proofs.lemmas.IndexedItems.{had, none_had}
 use Rattle.fb_read_positions.proofs.names.type_of.Goals as goal
 

@@ -1,5 +1,4 @@
-use Rattle.std.proofs.Common.{◌≤◌, ◌==◌, length, take, arith}
-use Rattle.std.proofs.lemmas.List.{length-take-le}
+use Rattle.fb_types.proofs.Common.{◌≤◌, ◌==◌, length, take, arith, length-take-le}
 use Rattle.std.proofs.lemmas.List.Sums.{count_by-le-length, suffix_len-le-length}
 use Rattle.fb_read_positions.proofs.lemmas.LinesAndColumns.{column_on, column_past, is_other, lines_passed}
 use Rattle.fb_read_positions.proofs.places.count_to.Goals as goal

@@ -1,5 +1,4 @@
-use Rattle.std.proofs.Common.{◌≤◌, ◌==◌, ℕ, List, count_by, length, take, ap, ◌∙◌, arith}
-use Rattle.std.proofs.lemmas.List.{length-take-le, take_all}
+use Rattle.fb_types.proofs.Common.{◌≤◌, ◌==◌, ℕ, List, count_by, length, take, ap, ◌∙◌, arith, length-take-le, take_all}
 use Rattle.std.proofs.lemmas.List.Sums.{count_by-le-length}
 use Rattle.fb_read_positions.proofs.lemmas.LinesAndColumns.{lines_passed}
 use Rattle.fb_read_positions.proofs.places.line_feeds.Goals as goal

@@ -1,6 +1,4 @@
-use Rattle.std.proofs.Common.{List, Option, Some, None, subst, refl, sym, ◌∙◌, arith}
-use Rattle.std.specs.List.{AllZip}
-use Rattle.std.proofs.lemmas.List.{take_all}
+use Rattle.fb_types.proofs.Common.{List, Option, Some, None, subst, refl, sym, ◌∙◌, arith, AllZip, take_all}
 use Rattle.fb_check_names.proofs.lemmas.twice.Repeating.{same_within}
 use Rattle.fb_read_positions.specs.Places.{IsPlaceFor}
 use Rattle.fb_read_positions.specs.declared.position.Position.{Position}

@@ -1,6 +1,4 @@
-use Rattle.std.proofs.Common.{◌≡◌, ◌≤◌, length, take, vec_len, vec_capacity}
-use Rattle.std.specs.List.{AllZip}
-use Rattle.std.specs.Prelude.{IfSome}
+use Rattle.fb_types.proofs.Common.{◌≡◌, ◌≤◌, length, take, vec_len, vec_capacity, AllZip, IfSome}
 use Rattle.fb_read_positions.specs.Places.{IsPlace, IsPlaceFor}
 use Rattle.fb_read_positions.specs.Resumed.{IsReached}
 use Rattle.fb_read_positions.proofs.position_places.places_among.Given as goal

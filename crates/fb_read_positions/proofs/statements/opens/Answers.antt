@@ -1,5 +1,4 @@
-use Rattle.std.proofs.Common.{◌≡◌, ◌||◌, false, sym, ◌∙◌}
-use Rattle.std.proofs.lemmas.Bool.{false≢true}
+use Rattle.fb_types.proofs.Common.{◌≡◌, ◌||◌, false, sym, ◌∙◌, false≢true}
 use Rattle.fb_read.specs.Parser.{is_mark}
 use Rattle.fb_read.specs.declared.token.Mark.TheVariants as mark
 use Rattle.fb_read_positions.proofs.statements.opens.Goals as goal

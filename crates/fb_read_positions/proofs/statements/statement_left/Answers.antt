@@ -1,6 +1,4 @@
-use Rattle.std.proofs.Common.{◌≡◌, ℕ, suc, ◌-◌, true, false, drop, ap, ◌∙◌, arith}
-use Rattle.std.specs.Prelude.{◌&&◌}
-use Rattle.std.proofs.lemmas.List.{length-drop}
+use Rattle.fb_types.proofs.Common.{◌≡◌, ℕ, suc, ◌-◌, true, false, drop, ap, ◌∙◌, arith, ◌&&◌, length-drop}
 use Rattle.fb_read.specs.Statements.{begins_statement}
 use Rattle.fb_read.specs.Tokens.{tokens_of}
 use Rattle.fb_read_positions.specs.Walks.{to_statement}

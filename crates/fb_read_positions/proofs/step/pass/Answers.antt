@@ -1,5 +1,4 @@
-use Rattle.std.proofs.Common.{ℕ, ◌∙◌}
-use Rattle.std.proofs.lemmas.Result.{err_from_is_err_and}
+use Rattle.fb_types.proofs.Common.{ℕ, ◌∙◌, err_from_is_err_and}
 use Rattle.fb_read.proofs.lemmas.rules.CountedLoops.{one_more, no_more}
 use Rattle.fb_read_positions.specs.Walks.{pass}
 use Rattle.fb_read_positions.proofs.lemmas.ReadingLoops.{fault_at, from_start, pass_fault, pass_more}

@@ -1,5 +1,4 @@
-use Rattle.std.proofs.Common.{ℕ, ◌∙◌}
-use Rattle.std.proofs.lemmas.Result.{err_from_is_err_and}
+use Rattle.fb_types.proofs.Common.{ℕ, ◌∙◌, err_from_is_err_and}
 use Rattle.fb_read.proofs.lemmas.rules.CountedLoops.{one_more, no_more}
 use Rattle.fb_read_positions.specs.Walks.{pass, pass_actions}
 use Rattle.fb_read_positions.proofs.lemmas.PassedTokens.{action_fault, action_more, comma_fault}

@@ -1,5 +1,4 @@
-use Rattle.std.proofs.Common.{◌≡◌, true, false, sym, ap, subst, ◌∙◌}
-use Rattle.std.specs.Bool.{OnTrue}
+use Rattle.fb_types.proofs.Common.{◌≡◌, true, false, sym, ap, subst, ◌∙◌, OnTrue}
 use Rattle.fb_agenda.specs.Agendas.{Contents, IsClear, waiting}
 use Rattle.fb_resource.specs.Takings.{Finds, with_event, with_next}
 use Rattle.fb_resource.proofs.lemmas.Finding.{finds_alike, finds_clear, finds_taken}

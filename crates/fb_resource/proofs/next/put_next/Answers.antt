@@ -1,5 +1,4 @@
-use Rattle.std.proofs.Common.{◌≡◌, true, refl, sym, subst}
-use Rattle.std.specs.Bool.{OnTrue}
+use Rattle.fb_types.proofs.Common.{◌≡◌, true, refl, sym, subst, OnTrue}
 use Rattle.fb_agenda.specs.Agendas.{waiting}
 use Rattle.fb_resource.specs.Takings.{IsRaised, with_next}
 use Rattle.fb_resource.proofs.lemmas.Finding.{put_next}

@@ -1,8 +1,6 @@
-use Rattle.std.proofs.Common.{[], ◌∷◌, All, refl, sym, ◌∙◌, ap, subst, arith}
-use Rattle.fb_types.specs.Headline.{system_of}
-use Rattle.fb_net.specs.declared.effects.Out.{Out}
+use Rattle.fb_resource.proofs.lemmas.Common.{[], ◌∷◌, All, refl, sym, ◌∙◌, ap, subst, arith, system_of, Out, IsPostable, IsSendable}
 use Rattle.fb_net.specs.declared.effects.Out.TheVariants.{Send}
-use Rattle.fb_resource.specs.Posts.{IsOneMessage, IsPostable, IsSendable}
+use Rattle.fb_resource.specs.Posts.{IsOneMessage}
 use Rattle.fb_resource.proofs.lemmas.Lone.{lone_out, message_settles, nothing_out, still_settles}
 use Rattle.fb_resource.proofs.lemmas.ReadyIs.{when_ok_four}
 use Rattle.fb_resource.proofs.one_taking.settle.Goals as goal

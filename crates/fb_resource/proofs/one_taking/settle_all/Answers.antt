@@ -1,9 +1,6 @@
-use Rattle.std.proofs.Common.{◌≡◌, ℕ, All, sym, subst, rules}
-use Rattle.std.specs.Prelude.{OnOk}
-use Rattle.fb_types.specs.Headline.{system_of}
-use Rattle.fb_system.specs.Lines.{BelongsTo}
+use Rattle.fb_resource.proofs.lemmas.Common.{◌≡◌, ℕ, All, sym, subst, rules, system_of, BelongsTo, Traffic}
+use Rattle.fb_types.proofs.Common.{OnOk}
 use Rattle.fb_resource.specs.Takings.{Settles}
-use Rattle.fb_resource.specs.declared.traffic.Traffic.{Traffic}
 use Rattle.fb_resource.proofs.lemmas.Posted.{ready_again}
 use Rattle.fb_resource.proofs.lemmas.ReadyIs.{when_ok_three}
 use Rattle.fb_resource.proofs.one_taking.settle_all.Goals as goal

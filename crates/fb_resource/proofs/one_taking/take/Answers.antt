@@ -1,20 +1,11 @@
-use Rattle.std.proofs.Common.{◌≡◌, Some, All, length, refl, sym, ap, subst, ◌∙◌, arith}
-use Rattle.fb_types.specs.Headline.{system_of}
-use Rattle.fb_types.specs.Keys.{local_key}
-use Rattle.fb_types.specs.Takes.{begun, world_of}
-use Rattle.fb_types.specs.declared.key.Key.{Key}
-use Rattle.fb_types.specs.declared.run.Event.{Event}
+use Rattle.fb_resource.proofs.lemmas.Common.{◌≡◌, Some, All, length, refl, sym, ap, subst, ◌∙◌, arith, system_of, local_key, begun, world_of, Key, path_of, Event, event_of, IsMetered, meter_of, AreReady, IsTakenHere, with_event, Traffic, TickCounts}
+use Rattle.fb_types.proofs.Common.{Steps}
 use Rattle.fb_types.specs.declared.run.Event.TheVariants.{Local}
 use Rattle.fb_net.specs.Outs.{IsOut}
-use Rattle.fb_net.specs.Events.{IsEventIn, event_of}
-use Rattle.fb_types.specs.States.{path_of}
+use Rattle.fb_net.specs.Events.{IsEventIn}
 use Rattle.fb_types.specs.OfSystem.{IsResource}
 use Rattle.fb_laws.proofs.lemmas.typing.Accepted.{accepted_typed}
-use Rattle.fb_types.specs.declared.value.Reason.TheVariants.{Steps}
-use Rattle.fb_resource.specs.Counts.{IsMetered, before_step, meter_of}
-use Rattle.fb_resource.specs.Takings.{AreReady, IsTakenHere, with_event}
-use Rattle.fb_resource.specs.declared.traffic.Traffic.{Traffic}
-use Rattle.fb_resource.specs.declared.tick_counts.TickCounts.{TickCounts}
+use Rattle.fb_resource.specs.Counts.{before_step}
 use Rattle.fb_resource.proofs.lemmas.Alone.{came_ended, put_out}
 use Rattle.fb_resource.proofs.lemmas.Lone.{lone_ready, lone_settled, raised_lone}
 use Rattle.fb_resource.proofs.lemmas.ReadyIs.{came_good, metered_after}

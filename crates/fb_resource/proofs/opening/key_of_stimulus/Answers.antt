@@ -1,8 +1,4 @@
-use Rattle.std.proofs.Common.{refl, sym, ap, subst, ◌∙◌}
-use Rattle.fb_types.specs.Headline.{system_of}
-use Rattle.fb_types.specs.Keys.{stimulus_key}
-use Rattle.fb_types.specs.Names.{Port}
-use Rattle.fb_types.specs.declared.key.Key.{Key}
+use Rattle.fb_types.proofs.Common.{refl, sym, ap, subst, ◌∙◌, system_of, stimulus_key, Port, Key}
 use Rattle.fb_types.specs.declared.run.Event.TheVariants.{Stimulus}
 use Rattle.fb_resource.proofs.lemmas.OpenIs.{stimulus_waits}
 use Rattle.fb_resource.proofs.lemmas.PostLaws.{port_path}

@@ -1,5 +1,4 @@
-use Rattle.std.proofs.Common.{rules, ◌≡◌, ◌<◌, length, sym, ap, subst, ◌∙◌, arith}
-use Rattle.fb_types.specs.Headline.{system_of}
+use Rattle.fb_types.proofs.Common.{rules, ◌≡◌, ◌<◌, length, sym, ap, subst, ◌∙◌, arith, system_of}
 use Rattle.fb_resource.specs.Openings.{HasRestarts, HasStimuli, is_of}
 use Rattle.fb_resource.proofs.lemmas.OpenIs.{opened, restarts_none, restarts_put, restarts_skip, stimuli_none, stimuli_put, stimuli_skip}
 use Rattle.fb_resource.proofs.opening.open_agenda.Goals as goal

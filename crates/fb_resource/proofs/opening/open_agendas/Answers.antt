@@ -1,8 +1,5 @@
-use Rattle.std.proofs.Common.{rules, ◌≡◌, ◌+◌, ◌<◌, ◌∷◌, [], Some, length, length-append, refl, sym, ap, subst, ◌∙◌, arith}
-use Rattle.std.specs.Prelude.{slice_get}
-use Rattle.std.proofs.lemmas.Option.{slice_get_read}
+use Rattle.fb_types.proofs.Common.{rules, ◌≡◌, ◌+◌, ◌<◌, ◌∷◌, [], Some, length, length-append, refl, sym, ap, subst, ◌∙◌, arith, slice_get, slice_get_read, system_of}
 use Rattle.fb_types.proofs.lemmas.lists.ByIndex.{slice_get-push}
-use Rattle.fb_types.specs.Headline.{system_of}
 use Rattle.fb_resource.specs.Openings.{HasRestarts, HasStimuli, IsOpened, OneEach}
 use Rattle.fb_resource.proofs.lemmas.Apart.{each_more, restart_apart, stimulus_apart}
 use Rattle.fb_resource.proofs.lemmas.OpenIs.{opened, restarts_none, stimuli_none}

@@ -1,7 +1,5 @@
-use Rattle.std.proofs.Common.{◌≡◌, ℕ, Some, length}
-use Rattle.std.specs.Prelude.{slice_get}
-use Rattle.fb_agenda.specs.Agendas.{Contents}
-use Rattle.fb_resource.specs.Openings.{HasRestarts, HasStimuli, OneEach}
+use Rattle.fb_resource.proofs.lemmas.Common.{◌≡◌, ℕ, Some, length, slice_get, Contents, HasRestarts, HasStimuli}
+use Rattle.fb_resource.specs.Openings.{OneEach}
 use Rattle.fb_resource.proofs.opening.open_agendas.Given as goal
 
 abbrev pub invariant-loop : goal.invariant-loop

@@ -1,5 +1,4 @@
-use Rattle.std.proofs.Common.{rules, refl, arith}
-use Rattle.std.proofs.lemmas.Grind.{common_steps}
+use Rattle.fb_types.proofs.Common.{rules, refl, arith, common_steps}
 use Rattle.fb_resource.proofs.posting.count_lone.Goals as goal
 
 pub returns-clause-counted : goal.returns-clause-counted

@@ -1,5 +1,4 @@
-use Rattle.std.proofs.Common.{[], ◌∷◌, sym, ◌∙◌, ap, arith}
-use Rattle.fb_net.specs.declared.effects.Out.{Out}
+use Rattle.fb_resource.proofs.lemmas.Common.{[], ◌∷◌, sym, ◌∙◌, ap, arith, Out}
 use Rattle.fb_resource.proofs.lemmas.Lone.{lone_out}
 use Rattle.fb_resource.proofs.posting.lone_of.Goals as goal
 

@@ -1,6 +1,4 @@
-use Rattle.std.proofs.Common.{zero, suc, List, [], ◌∷◌, All, arith, subst, sym}
-use Rattle.fb_types.specs.Headline.{system_of}
-use Rattle.fb_types.specs.declared.run.Line.{Line}
+use Rattle.fb_types.proofs.Common.{zero, suc, List, [], ◌∷◌, All, arith, subst, sym, system_of, Line}
 use Rattle.fb_system.specs.Lines.{BelongsTo}
 use Rattle.fb_session.proofs.breaks.render.Goals as goal
 

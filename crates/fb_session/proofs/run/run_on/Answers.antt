@@ -1,7 +1,4 @@
-use Rattle.std.proofs.Common.{◌≡◌, ◌∙◌, ◌++◌, List, Ok, Err, Result, refl, subst, sym}
-use Rattle.std.specs.Prelude.{Contains, IfSome, IsTrue}
-use Rattle.std.specs.Result.{IsErrAnd}
-use Rattle.fb_types.specs.Simulation.{last}
+use Rattle.fb_types.proofs.Common.{◌≡◌, ◌∙◌, ◌++◌, List, Ok, Err, Result, refl, subst, sym, Contains, IfSome, IsTrue, IsErrAnd, last}
 use Rattle.fb_types.specs.declared.run.Line as run
 use Rattle.fb_sim_machine.specs.Pauses.{Stands}
 use Rattle.fb_session.specs.Running.{RunsOn}

@@ -1,5 +1,4 @@
-use Rattle.std.proofs.Common.{◌≡◌, ℕ}
-use Rattle.fb_types.specs.States.{Config}
+use Rattle.fb_types.proofs.Common.{◌≡◌, ℕ, Config}
 use Rattle.fb_sim_machine.specs.Counts.{fuel_of_all}
 use Rattle.fb_sim_machine.specs.Machines.{IsAt, IsReady}
 use Rattle.fb_session.proofs.lemmas.RunIs.{Gone}

@@ -1,26 +1,10 @@
 -- What advancing a simulation has written, and what it answers.
-use Rattle.std.proofs.Common.{◌≡◌, ℕ, ◌^◌, ◌<◌, ◌≤◌, inl, List, ◌++◌, Option, Result, Ok, Err, refl, sym, ap, ◌∙◌, subst, arith, append_assoc, append-nil}
-use Rattle.std.specs.Result.{IsErrAnd}
-use Rattle.std.specs.Io.KnownBytes.{Appends}
-use Rattle.std.proofs.KnownBytes.{Appends-trans}
-use Rattle.fb_types.specs.Headline.{system_of}
+use Rattle.fb_sim.proofs.lemmas.Common.{◌≡◌, ℕ, ◌^◌, ◌<◌, ◌≤◌, inl, List, ◌++◌, Option, Result, Ok, Err, refl, sym, ap, ◌∙◌, subst, arith, append_assoc, append-nil, IsErrAnd, Appends, Appends-trans, system_of, Ending, AtHorizon, AtStop, lines_text, last_line, StopMark, IsPartWritten, CoreState, AreAll, Begin, RunsOn, text_of, SimulationView, AtEnd, AtMark, Options, Outcome, End, Stop, RunError, Refused, Memory, Write, BadOption, Failed, Written}
+use Rattle.fb_types.proofs.Common.{ending_of}
 use Rattle.fb_types.specs.States.{Line}
-use Rattle.fb_types.specs.Simulation.{Ending, AtHorizon, AtStop, ending_of}
-use Rattle.fb_types.specs.Text.{lines_text, last_line}
-use Rattle.fb_types.specs.declared.run.StopMark.{StopMark}
-use Rattle.fb_trace.specs.Progress.{IsPartWritten}
-use Rattle.fb_window.specs.declared.cores.CoreState.{CoreState}
 use Rattle.fb_sim.specs.Advances.{Advances, AdvancesBy, AdvancesOn, Finishes, FinishesBy, FinishesOn, HasAdvanced, IsNext, RunsTo, stop_line}
-use Rattle.fb_sim.specs.Rounds.{AreAll, Begin, IsShort, RunsOn, text_of}
-use Rattle.fb_sim.specs.Views.{SimulationView}
-use Rattle.fb_sim.specs.declared.rounds.all_rounds.Finish.TheVariants.{AtEnd, AtMark}
-use Rattle.fb_sim.specs.declared.options.Options.{Options}
-use Rattle.fb_trace.specs.declared.last.Outcome.{Outcome}
-use Rattle.fb_trace.specs.declared.last.Outcome.TheVariants.{End, Stop}
-use Rattle.fb_sim.specs.declared.outcome.RunError.{RunError}
-use Rattle.fb_sim.specs.declared.outcome.RunError.TheVariants.{Refused, Memory, Write, BadOption, Failed}
+use Rattle.fb_sim.specs.Rounds.{IsShort}
 use Rattle.fb_sim.specs.declared.state.Stage.{Stage}
-use Rattle.fb_sim.specs.declared.rounds.tally.Written.{Written}
 use Rattle.fb_sim.specs.declared.state.Stage.TheVariants as going
 use Rattle.fb_sim.proofs.lemmas.text.Texts.{lines_text-append, part-after, part-before}
 

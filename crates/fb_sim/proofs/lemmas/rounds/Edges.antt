@@ -1,10 +1,6 @@
 -- Lines up to an edge are what a list in trace order begins with.
-use Rattle.std.proofs.Common.{◌≡◌, ℕ, ◌+◌, ◌<◌, ◌≤◌, ◌⊎◌, Bool, true, false, List, [], ◌∷◌, ◌++◌, refl, sym, ap, ◌∙◌, subst, inl, inr, ⊎_elim, arith, append-nil}
-use Rattle.std.specs.Prelude.{if◌then◌else◌, ◌==◌, ◌&&◌, ◌||◌, nat_lt}
-use Rattle.std.proofs.lemmas.Bool.{cases_lt, cases_eq, cond-true, cond-false, lt-ltb, le-ltb, eq-eqb, ne_eqb, eqb-true}
-use Rattle.std.specs.List.{filter}
-use Rattle.fb_types.specs.Machines.{Machine, Each}
-use Rattle.fb_types.specs.Merges.{NotAfter, IsInOrder, IsMerge, lines_at, lines_before}
+use Rattle.fb_types.proofs.Common.{◌≡◌, ℕ, ◌+◌, ◌<◌, ◌≤◌, ◌⊎◌, Bool, true, false, List, [], ◌∷◌, ◌++◌, refl, sym, ap, ◌∙◌, subst, inl, inr, ⊎_elim, arith, append-nil, if◌then◌else◌, ◌==◌, ◌&&◌, ◌||◌, nat_lt, cases_lt, cases_eq, cond-true, cond-false, lt-ltb, le-ltb, eq-eqb, ne_eqb, eqb-true, filter, Machine, Each, IsMerge, lines_at, lines_before}
+use Rattle.fb_types.specs.Merges.{NotAfter, IsInOrder}
 use Rattle.fb_types.proofs.lemmas.lists.EachLaws.{each_map}
 use Rattle.fb_laws.proofs.lemmas.schedules.Lines.{filter_joined, filter_all, filter_nothing, merge_one}
 use Rattle.fb_laws.specs.Finality.{Edge, until}

@@ -1,24 +1,13 @@
 -- The first rounds of a run, whose text waits in memory, and what comes after.
-use Rattle.std.proofs.Common.{◌≡◌, ◌≤◌, ◌<◌, ℕ, ◌+◌, List, [], ◌++◌, length, take, take-append-drop, drop_of_length-le, append-nil, length-append, Option, Some, Ok, Err, sym, ap, ◌∙◌, subst, arith}
-use Rattle.std.specs.Io.KnownBytes.{Appends}
-use Rattle.fb_types.specs.Headline.{Inputs}
-use Rattle.fb_types.specs.Simulation.{AtHorizon, AtStop}
+use Rattle.fb_sim.proofs.lemmas.Common.{◌≡◌, ◌≤◌, ◌<◌, ℕ, ◌+◌, List, [], ◌++◌, length, take, take-append-drop, append-nil, length-append, Option, Some, Ok, Err, sym, ap, ◌∙◌, subst, arith, Appends, Inputs, AtHorizon, AtStop, AreGood, IsPartWritten, bounded, CoreState, Begin, RunsOn, after_bytes, text_of, AtEnd, AtMark, Options, RunError, Refused, Memory, Write, BadOption, Failed, Written, Going}
+use Rattle.std.proofs.Common.{drop_of_length-le}
 use Rattle.fb_types.specs.States.{Line}
-use Rattle.fb_laws.specs.Sound.{AreGood}
-use Rattle.fb_trace.specs.Progress.{IsPartWritten, bounded}
-use Rattle.fb_window.specs.declared.cores.CoreState.{CoreState}
-use Rattle.fb_sim.specs.Rounds.{Begin, HasBegun, HasRunOut, IsFinished, AreFirstRounds, RunsOn, after_bytes, text_of}
+use Rattle.fb_sim.specs.Rounds.{HasBegun, HasRunOut, IsFinished, AreFirstRounds}
 use Rattle.fb_sim.specs.declared.rounds.all_rounds.Finish.{Finish}
-use Rattle.fb_sim.specs.declared.rounds.all_rounds.Finish.TheVariants.{AtEnd, AtMark}
-use Rattle.fb_sim.specs.declared.options.Options.{Options}
-use Rattle.fb_sim.specs.declared.outcome.RunError.{RunError}
-use Rattle.fb_sim.specs.declared.outcome.RunError.TheVariants.{Refused, Memory, Write, BadOption, Failed}
-use Rattle.fb_sim.specs.declared.rounds.tally.Written.{Written}
 use Rattle.fb_sim.specs.declared.rounds.first_rounds.FirstRounds.{FirstRounds}
 use Rattle.fb_sim.specs.declared.rounds.first_rounds.FirstRounds.TheVariants as legs
 use Rattle.fb_sim.proofs.lemmas.rounds.RoundIs.{all_begin, come_begins}
 use Rattle.fb_sim.proofs.lemmas.rounds.RunIs.{CameLast, both_counted, both_got, joined}
-use Rattle.fb_sim.specs.declared.progress.Round.TheVariants.{Going}
 use Rattle.fb_sim.proofs.lemmas.text.Texts.{part-after}
 
 module _ (i : Inputs) (o : Options) where

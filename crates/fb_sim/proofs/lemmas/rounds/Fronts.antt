@@ -1,19 +1,8 @@
 -- What was handed out is what the lines of the simulation begin with, and at the end it is all of them.
-use Rattle.std.proofs.Common.{◌≡◌, ℕ, zero, suc, ◌+◌, ◌<◌, ◌≤◌, Bool, true, false, List, [], ◌∷◌, ◌++◌, None, refl, sym, ap, ◌∙◌, subst, inl, ⊎_elim, arith}
-use Rattle.std.specs.Prelude.{if◌then◌else◌, nat_lt, not}
-use Rattle.std.specs.List.{filter}
-use Rattle.std.proofs.lemmas.Bool.{cases_lt, le-ltb, lt-ltb}
-use Rattle.fb_types.specs.Headline.{Inputs, system_of, stimuli_of}
+use Rattle.fb_types.proofs.Common.{◌≡◌, ℕ, zero, suc, ◌+◌, ◌<◌, ◌≤◌, Bool, true, false, List, [], ◌∷◌, ◌++◌, None, refl, sym, ap, ◌∙◌, subst, inl, ⊎_elim, arith, if◌then◌else◌, nat_lt, not, filter, cases_lt, le-ltb, lt-ltb, Inputs, system_of, stimuli_of, Taken, IsSimulation, lines_of, opening, Machine, Item, Each, machine, items_of, count_of, IsMerge, lines_at, lines_before, Core, CoreStep, opening_core, IsSchedule, taken_after, IsAtHorizon, IsLeastStop, Reason}
 use Rattle.fb_types.specs.States.{Line}
-use Rattle.fb_types.specs.Simulation.{Taken, IsSimulation, lines_of, opening}
-use Rattle.fb_types.specs.Machines.{Machine, Item, Each}
 use Rattle.fb_types.specs.Machines as machines
-use Rattle.fb_types.specs.Parts.{machine, items_of, count_of}
-use Rattle.fb_types.specs.Merges.{IsMerge, lines_at, lines_before}
-use Rattle.fb_types.specs.Cores.{Core, CoreStep, opening_core}
-use Rattle.fb_types.specs.Schedules.{IsSchedule, taken_after, IsAtHorizon, IsLeastStop}
 use Rattle.fb_types.specs.declared.run.Line as run
-use Rattle.fb_types.specs.declared.value.Reason.{Reason}
 use Rattle.fb_types.proofs.lemmas.lists.EachLaws.{each_map, each_append}
 use Rattle.fb_types.proofs.lemmas.lists.Lookups.{option_cases}
 use Rattle.fb_laws.specs.Sound.{AreGood}

@@ -1,28 +1,14 @@
 -- How a run comes from hundredth to hundredth, and what it has written then.
-use Rattle.std.proofs.Common.{◌≡◌, inl, inr, ℕ, suc, ◌+◌, ◌*◌, ◌/◌, ◌<◌, ◌≤◌, Bool, true, false, refl, sym, ap, ap₂, ◌∙◌, subst, arith, List, [], ◌∷◌, ◌++◌, length, take, drop, take-append-drop, append_assoc, append-nil, length-append, length-drop, Option, mul-suc, mul-zero}
-use Rattle.std.specs.Prelude.{Result, Ok, Err}
-use Rattle.std.specs.Io.KnownBytes.{Appends}
-use Rattle.std.proofs.KnownBytes.{Appends-nil, Appends-trans}
-use Rattle.fb_types.specs.Headline.{Inputs, IsTrace, system_of, stimuli_of}
-use Rattle.fb_types.specs.Simulation.{Taken, IsSimulation, Ending, AtHorizon, AtStop, ending_of, lines_of}
-use Rattle.fb_types.specs.Text.{lines_text, last_line}
-use Rattle.fb_types.specs.declared.value.Reason.{Reason}
-use Rattle.fb_types.specs.declared.run.StopMark.{StopMark}
-use Rattle.fb_laws.specs.Sound.{AreGood}
+use Rattle.fb_sim.proofs.lemmas.Common.{◌≡◌, inl, inr, ℕ, suc, ◌+◌, ◌<◌, ◌≤◌, Bool, true, false, refl, sym, ap, ap₂, ◌∙◌, subst, arith, List, [], ◌∷◌, ◌++◌, length, take, drop, take-append-drop, append_assoc, append-nil, length-append, Option, Result, Ok, Err, Appends, Appends-nil, Appends-trans, Inputs, system_of, stimuli_of, Ending, AtHorizon, AtStop, lines_text, last_line, Reason, StopMark, AreGood, IsPartWritten, bounded, SimulationView, Options, Outcome, End, Stop, RunError, Refused, Memory, Write, BadOption, Failed, Came, Comes, GoesOn, hundredth, view_at}
+use Rattle.fb_types.proofs.Common.{◌*◌, ◌/◌, length-drop, IsTrace, Taken, IsSimulation, ending_of, lines_of}
+use Rattle.std.proofs.Common.{mul-suc, mul-zero}
 use Rattle.fb_laws.proofs.lemmas.soundness.Accepting.{sound_of}
 use Rattle.fb_laws.proofs.lemmas.existence.Existence.{there_is}
 use Rattle.fb_types.proofs.lemmas.determined.SimulationLaws.{one-simulation}
 use Rattle.fb_sim_machine.proofs.lemmas.JoinedRuns.{lines_of-append}
-use Rattle.fb_trace.specs.Progress.{IsPartWritten, bounded}
 use Rattle.fb_sim.specs.Advances.{IsNext, stop_line}
-use Rattle.fb_sim.specs.Views.{SimulationView}
-use Rattle.fb_sim.specs.declared.options.Options.{Options}
-use Rattle.fb_trace.specs.declared.last.Outcome.{Outcome}
-use Rattle.fb_trace.specs.declared.last.Outcome.TheVariants.{End, Stop}
-use Rattle.fb_sim.specs.declared.outcome.RunError.{RunError}
-use Rattle.fb_sim.specs.declared.outcome.RunError.TheVariants.{Refused, Memory, Write, BadOption, Failed}
 use Rattle.fb_sim.proofs.lemmas.text.Texts.{lines_text-append, part-after, part-before}
-use Rattle.fb_sim.specs.Reports.{Came, Comes, GoesOn, HasBroken, HasCome, HasReported, Hears, IsAsFar, hundredth, report_text, view_at}
+use Rattle.fb_sim.specs.Reports.{HasBroken, HasCome, HasReported, Hears, IsAsFar, report_text}
 use Rattle.fb_sim.specs.declared.with_progress.ReportTally.{ReportTally}
 use Rattle.fb_sim_machine.proofs.lemmas.Simulations.{horizon_is, later_begins, stop_is_early, stopped_later, stops}
 

@@ -1,25 +1,10 @@
 -- What a phase hands out belongs to the system, whatever was handed out before.
-use Rattle.std.proofs.Common.{◌≡◌, ℕ, List, sym, ap₂, ◌∙◌, subst}
-use Rattle.std.specs.Prelude.{All}
-use Rattle.std.specs.List.{AllZip}
-use Rattle.fb_types.specs.Headline.{Inputs, system_of, stimuli_of}
-use Rattle.fb_types.specs.Cores.{CoreStep, opening_core}
-use Rattle.fb_types.specs.Parts.{machine, count_of}
-use Rattle.fb_types.specs.Schedules.{IsSchedule}
+use Rattle.fb_sim.proofs.lemmas.Common.{◌≡◌, ℕ, List, sym, ap₂, ◌∙◌, subst, All, AllZip, Inputs, system_of, stimuli_of, CoreStep, opening_core, machine, count_of, IsSchedule, core_of, AreGood, BelongsTo, Resource, WindowDone, Does, JobModel, jobs_of, AreLegal, KeepHorizon, OfEachCore, lists_of, IsAt, CoreState}
 use Rattle.fb_types.specs.declared.run.Line as run
-use Rattle.fb_laws.specs.Finality.{core_of}
-use Rattle.fb_laws.specs.Sound.{AreGood}
-use Rattle.fb_system.specs.Lines.{BelongsTo}
-use Rattle.fb_resource.specs.declared.resource.Resource.{Resource}
-use Rattle.fb_resource.specs.declared.resource.WindowDone.{WindowDone}
-use Rattle.fb_window.specs.Jobs.{Does, JobModel, jobs_of}
-use Rattle.fb_window.specs.Leaving.{AreLegal, HasLeft}
-use Rattle.fb_window.specs.Reached.{IsReached, KeepHorizon}
-use Rattle.fb_window.specs.Reaching.{OfEachCore}
-use Rattle.fb_window.specs.Settling.{Settles, lists_of}
-use Rattle.fb_window.specs.Standing.{IsAt}
+use Rattle.fb_window.specs.Leaving.{HasLeft}
+use Rattle.fb_window.specs.Reached.{IsReached}
+use Rattle.fb_window.specs.Settling.{Settles}
 use Rattle.fb_window.specs.declared.cores.AwayState.{AwayState}
-use Rattle.fb_window.specs.declared.cores.CoreState.{CoreState}
 use Rattle.fb_window.specs.declared.cores.Settled.{Settled}
 use Rattle.fb_window.specs.declared.cores.Settled.TheVariants as settled
 use Rattle.fb_window.proofs.lemmas.bounds.KeptHorizons.{come}

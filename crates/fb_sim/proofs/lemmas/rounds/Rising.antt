@@ -1,26 +1,14 @@
 -- While a run goes on, some event comes before the horizon, and the least tick of all events rises in each round.
-use Rattle.std.proofs.Common.{◌≡◌, ℕ, zero, suc, ◌+◌, ◌<◌, ◌≤◌, ◌⊎◌, min, Option, Some, None, List, refl, sym, ap, ◌∙◌, subst, inl, inr, ⊎_elim, arith}
-use Rattle.std.specs.Prelude.{slice_index_or}
-use Rattle.std.proofs.lemmas.Bool.{cases_lt}
-use Rattle.fb_types.specs.Headline.{Inputs, system_of, stimuli_of}
-use Rattle.fb_types.specs.Machines.{Machine}
-use Rattle.fb_types.specs.Parts.{machine, count_of}
-use Rattle.fb_types.specs.Cores.{Core, CoreStep, Member, IsFloor, exchanged, opening_core}
-use Rattle.fb_types.specs.Schedules.{IsSchedule, IsAtHorizon, IsLeastStop}
-use Rattle.fb_types.specs.Simulation.{opening}
-use Rattle.fb_types.specs.declared.value.Reason.{Reason}
+use Rattle.fb_sim.proofs.lemmas.Common.{◌≡◌, ℕ, zero, suc, ◌+◌, ◌<◌, ◌≤◌, Option, Some, None, List, refl, sym, ap, ◌∙◌, subst, inl, inr, ⊎_elim, arith, cases_lt, Inputs, system_of, stimuli_of, Machine, machine, count_of, CoreStep, opening_core, IsSchedule, IsAtHorizon, opening, Reason, AreGood, Resource, core_of, IsAt}
+use Rattle.fb_types.proofs.Common.{◌⊎◌, min, slice_index_or, Core, Member, IsFloor, exchanged, IsLeastStop}
 use Rattle.fb_types.proofs.lemmas.lists.Lookups.{none_some, option_cases}
-use Rattle.fb_laws.specs.Sound.{AreGood}
 use Rattle.fb_laws.proofs.lemmas.soundness.Accepting.{sound_of}
-use Rattle.fb_resource.specs.declared.resource.Resource.{Resource}
 use Rattle.fb_laws.specs.Worlds.{World}
 use Rattle.fb_laws.proofs.lemmas.machine.Bridge.{world_of}
 use Rattle.fb_laws.proofs.lemmas.resources.OwnPart.{lawful}
 use Rattle.fb_window.specs.Bounding.{AreGreatest, IsInReach}
-use Rattle.fb_laws.specs.Finality.{core_of}
 use Rattle.fb_laws.specs.Phases.{Loan, IsPhase, after_loan}
 use Rattle.fb_window.specs.Settling.{AreLoans, HasRisen, after_phase}
-use Rattle.fb_window.specs.Standing.{IsAt}
 use Rattle.fb_laws.proofs.lemmas.schedules.AtHome.{has_returned, rises_or_stops, stop_in_range}
 use Rattle.fb_window.proofs.lemmas.bounds.BoundsAre.{clock_within, home, is_round_of, kept_by}
 use Rattle.fb_laws.proofs.lemmas.schedules.Phasing.{IsRound, after_loans}

@@ -1,34 +1,19 @@
 -- From what is settled to what a round hands out.
-use Rattle.std.proofs.Common.{◌≡◌, ℕ, List, Result, Ok, Err, IfOk, [], ◌∷◌, ◌++◌, map, length, refl, sym, ap, ◌∙◌, subst, append-nil, arith}
-use Rattle.std.specs.Global.{Vec}
-use Rattle.std.specs.Prelude.{All, slice_index_or}
-use Rattle.std.proofs.lemmas.List.{get_or-map, length-map}
-use Rattle.fb_types.specs.Headline.{Inputs, system_of, stimuli_of}
-use Rattle.fb_types.specs.Numbers.{line_of}
+use Rattle.fb_sim.proofs.lemmas.Common.{◌≡◌, ℕ, List, Result, Ok, Err, IfOk, [], ◌∷◌, ◌++◌, map, length, refl, sym, ap, ◌∙◌, subst, append-nil, arith, Vec, All, length-map, Inputs, system_of, stimuli_of, line_of, AtHorizon, AtStop, Ending, CoreStep, opening_core, machine, count_of, IsSchedule, IsAtHorizon, Reason, AreGood, BelongsTo, Resource, core_of, IsAt, lists_of, CoreState, Begin, AreAll, HasCome}
+use Rattle.fb_types.proofs.Common.{slice_index_or, get_or-map, IsMerge, IsLeastStop}
 use Rattle.fb_types.specs.States.{Line}
-use Rattle.fb_types.specs.Simulation.{AtHorizon, AtStop, Ending}
-use Rattle.fb_types.specs.Cores.{CoreStep, opening_core}
-use Rattle.fb_types.specs.Merges.{IsMerge}
-use Rattle.fb_types.specs.Parts.{machine, count_of}
-use Rattle.fb_types.specs.Schedules.{IsSchedule, IsAtHorizon, IsLeastStop}
 use Rattle.fb_types.specs.declared.run.Line as run
-use Rattle.fb_types.specs.declared.value.Reason.{Reason}
-use Rattle.fb_laws.specs.Sound.{AreGood}
-use Rattle.fb_system.specs.Lines.{BelongsTo}
 use Rattle.fb_laws.proofs.lemmas.soundness.Accepting.{sound_of}
 use Rattle.fb_laws.proofs.lemmas.existence.Existence.{there_is}
-use Rattle.fb_resource.specs.declared.resource.Resource.{Resource}
 use Rattle.fb_window.specs.Bounding.{AreGreatest}
-use Rattle.fb_laws.specs.Finality.{HasHanded, HasKept, core_of}
+use Rattle.fb_laws.specs.Finality.{HasHanded, HasKept}
 use Rattle.fb_laws.specs.ScheduleLaw.{lines_to}
-use Rattle.fb_window.specs.Standing.{IsAt}
-use Rattle.fb_window.specs.Settling.{Settles, after_phase, lists_of}
-use Rattle.fb_window.specs.declared.cores.CoreState.{CoreState}
+use Rattle.fb_window.specs.Settling.{Settles, after_phase}
 use Rattle.fb_window.specs.declared.cores.Settled.{Settled}
 use Rattle.fb_window.specs.declared.cores.Settled.TheVariants as settled
 use Rattle.fb_laws.proofs.lemmas.schedules.Phasing.{phase_of, is_phase}
 use Rattle.fb_laws.proofs.lemmas.schedules.AllSchedules.{end_law, stop_law}
-use Rattle.fb_sim.specs.Rounds.{Begin, AreAll, HasCome, IsHomeAgain, IsHomeOnce, IsPhaseAt}
+use Rattle.fb_sim.specs.Rounds.{IsHomeAgain, IsHomeOnce, IsPhaseAt}
 use Rattle.fb_sim.proofs.lemmas.rounds.Fronts.{left_begins, all_left, all_stopped}
 use Rattle.fb_sim.proofs.lemmas.rounds.Rising.{rises}
 

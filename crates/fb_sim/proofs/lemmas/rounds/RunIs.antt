@@ -1,47 +1,23 @@
 -- Round after round, and what a whole run has written.
-use Rattle.std.proofs.Common.{◌≡◌, ℕ, ◌+◌, ◌<◌, List, [], ◌∷◌, ◌++◌, map, length, All, Option, None, Result, Ok, Err, IfErr, inl, inr, ⊎_elim, refl, sym, ap, ◌∙◌, subst, arith, append_assoc, append-nil, length-append}
-use Rattle.std.specs.Global.{Global, Vec}
-use Rattle.std.proofs.lemmas.List.{length-map}
-use Rattle.std.proofs.lemmas.List.Elements.{All-nil}
+use Rattle.fb_sim.proofs.lemmas.Common.{◌≡◌, ℕ, ◌+◌, ◌<◌, List, [], ◌∷◌, ◌++◌, map, length, All, Option, None, Result, Ok, Err, inl, inr, ⊎_elim, refl, sym, ap, ◌∙◌, subst, arith, append_assoc, append-nil, length-append, Vec, length-map, IfSome, Appends, IsErrAnd, Appends-nil, Appends-trans, Inputs, system_of, Ending, AtStop, line_of, machine, last_line, StopMark, BelongsTo, Lists, flat, AreGood, IsPartWritten, bounded, core_of, IsMerged, lists_of, CoreState, AreAll, Begin, FailsRun, HasCome, RunsOn, WritesPartOf, after_bytes, text_of, AtEnd, AtMark, Options, RunError, Refused, Memory, Write, BadOption, Failed, Going, Ended, Stopped, Written}
+use Rattle.fb_types.proofs.Common.{IfErr, All-nil, IsTrace, ending_of, IsFloor, trace_text}
+use Rattle.std.specs.Global.{Global}
 use Rattle.std.proofs.lemmas.List.Sorted.{length_permutation}
-use Rattle.std.specs.Prelude.{IfSome}
-use Rattle.std.specs.Io.KnownBytes.{Appends}
-use Rattle.std.specs.Result.{IsErrAnd}
-use Rattle.std.proofs.KnownBytes.{Appends-nil, Appends-trans}
-use Rattle.fb_types.specs.Headline.{Inputs, IsTrace, system_of}
-use Rattle.fb_types.specs.Simulation.{Ending, AtStop, ending_of}
-use Rattle.fb_types.specs.Cores.{IsFloor}
 use Rattle.fb_types.specs.Cores as model_cores
-use Rattle.fb_types.specs.Numbers.{line_of}
 use Rattle.fb_types.specs.declared.run.Line as run
-use Rattle.fb_system.specs.Lines.{BelongsTo}
-use Rattle.fb_trace.specs.Merging.{Lists, flat}
-use Rattle.fb_types.specs.Parts.{machine}
 use Rattle.fb_types.specs.States.{Line}
-use Rattle.fb_types.specs.Text.{last_line, trace_text}
-use Rattle.fb_types.specs.declared.run.StopMark.{StopMark}
-use Rattle.fb_laws.specs.Sound.{AreGood}
 use Rattle.fb_trace.specs.End as trace
 use Rattle.fb_trace.specs.End.{EndsIn}
-use Rattle.fb_trace.specs.Progress.{IsPartWritten, bounded}
-use Rattle.fb_laws.specs.Finality.{core_of}
-use Rattle.fb_window.specs.Settling.{IsMerged, IsUnderWay, lists_of}
-use Rattle.fb_window.specs.declared.cores.CoreState.{CoreState}
+use Rattle.fb_window.specs.Settling.{IsUnderWay}
 use Rattle.fb_sim.specs.Given.{Given}
 use Rattle.fb_sim.specs.Serial.{AreTrace, AreWithin, Declares, IsRefusal, Writes, WritesPart}
-use Rattle.fb_sim.specs.Rounds.{AreAll, Begin, RoundsWithCounts, FailsAfter, FailsRun, HandsOutAfter, HasCome, HoldsTo, IsAfter, IsFinished, IsShort, RunsOn, WritesFront, WritesPartOf, after_bytes, outcome_at, text_of}
+use Rattle.fb_sim.specs.Rounds.{RoundsWithCounts, FailsAfter, HandsOutAfter, HoldsTo, IsAfter, IsFinished, IsShort, WritesFront, outcome_at}
 use Rattle.fb_sim.specs.declared.rounds.all_rounds.Finish.{Finish}
-use Rattle.fb_sim.specs.declared.rounds.all_rounds.Finish.TheVariants.{AtEnd, AtMark}
-use Rattle.fb_sim.specs.declared.options.Options.{Options}
-use Rattle.fb_sim.specs.declared.outcome.RunError.{RunError}
-use Rattle.fb_sim.specs.declared.outcome.RunError.TheVariants.{Refused, Memory, Write, BadOption, Failed}
 use Rattle.fb_sim.specs.Texts.{AreTextsOf}
 use Rattle.fb_sim.specs.declared.rounds.unwritten_lines.UnwrittenLines.{UnwrittenLines}
 use Rattle.fb_sim.specs.declared.rounds.job_texts.FinalTexts.{FinalTexts}
 use Rattle.fb_sim.specs.declared.progress.Round.{Round}
-use Rattle.fb_sim.specs.declared.progress.Round.TheVariants.{Going, Ended, Stopped}
 use Rattle.fb_sim.specs.declared.rounds.tally.Tally.{Tally}
-use Rattle.fb_sim.specs.declared.rounds.tally.Written.{Written}
 use Rattle.fb_sim.proofs.lemmas.rounds.RoundIs.{all_begin, come_begins}
 use Rattle.fb_sim.proofs.lemmas.text.Texts.{bounded-length, lines_text-append, merged_list, part-after, part-before}
 

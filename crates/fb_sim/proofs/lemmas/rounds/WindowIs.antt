@@ -1,43 +1,19 @@
 -- From what the calls of a round say of each other's values to what the round hands out.
-use Rattle.std.proofs.Common.{◌≡◌, ℕ, List, ◌++◌, map, Option, Result, Ok, Err, refl, sym, ap, ap₂, ◌∙◌, subst, ⊎_elim}
-use Rattle.std.specs.Global.{Vec}
-use Rattle.std.specs.Prelude.{All}
-use Rattle.std.specs.List.{AllZip}
-use Rattle.std.specs.Result.{IsErrAnd}
-use Rattle.std.specs.Io.KnownBytes.{Appends}
-use Rattle.fb_types.specs.Headline.{Inputs, system_of, stimuli_of}
-use Rattle.fb_types.specs.Numbers.{line_of}
+use Rattle.fb_sim.proofs.lemmas.Common.{◌≡◌, ℕ, List, ◌++◌, map, Option, Result, Ok, Err, refl, sym, ap, ap₂, ◌∙◌, subst, ⊎_elim, Vec, All, AllZip, IsErrAnd, Appends, Inputs, system_of, stimuli_of, line_of, CoreStep, opening_core, machine, IsSchedule, AreGood, BelongsTo, Resource, WindowDone, core_of, Does, JobModel, jobs_of, KeepHorizon, OfEachCore, AreLegal, IsMerged, lists_of, IsAt, CoreState, HasCome, WritesPartOf, text_of, Options, RunError, Refused, Memory, Write, BadOption, Failed, Going, Ended, Stopped}
 use Rattle.fb_types.specs.States.{Line}
-use Rattle.fb_types.specs.Cores.{CoreStep, opening_core}
 use Rattle.fb_types.specs.Cores as model_cores
-use Rattle.fb_types.specs.Parts.{machine}
-use Rattle.fb_types.specs.Schedules.{IsSchedule}
 use Rattle.fb_types.specs.declared.run.Line as run
-use Rattle.fb_laws.specs.Sound.{AreGood}
-use Rattle.fb_system.specs.Lines.{BelongsTo}
-use Rattle.fb_resource.specs.declared.resource.Resource.{Resource}
-use Rattle.fb_resource.specs.declared.resource.WindowDone.{WindowDone}
 use Rattle.fb_window.specs.Bounding.{AreGreatest}
-use Rattle.fb_laws.specs.Finality.{core_of}
-use Rattle.fb_window.specs.Jobs.{Does, JobModel, jobs_of}
-use Rattle.fb_window.specs.Reached.{KeepHorizon}
-use Rattle.fb_window.specs.Reaching.{OfEachCore}
-use Rattle.fb_window.specs.Leaving.{AreLegal, HasLeft}
-use Rattle.fb_window.specs.Settling.{IsMerged, Settles, lists_of, settled_of}
-use Rattle.fb_window.specs.Standing.{IsAt}
+use Rattle.fb_window.specs.Leaving.{HasLeft}
+use Rattle.fb_window.specs.Settling.{Settles, settled_of}
 use Rattle.fb_window.specs.ManyTurns.{TakesTurns, after_series}
 use Rattle.fb_window.specs.declared.cores.AwayState.{AwayState}
-use Rattle.fb_window.specs.declared.cores.CoreState.{CoreState}
 use Rattle.fb_window.specs.declared.cores.Reach.{Reach}
 use Rattle.fb_window.specs.declared.cores.Reach.TheVariants as reach
 use Rattle.fb_window.specs.declared.cores.Settled.{Settled}
-use Rattle.fb_sim.specs.Rounds.{FailsRound, FailsToHandOut, HandsOut, RoundsWithCounts, HasCome, HasTakenTurns, HoldsTo, IsAfter, AreUnwrittenOf, IsHomeAgain, IsHomeOnce, IsOnItsWay, Rounds, WritesPartOf, lines_out, round_of, text_of}
+use Rattle.fb_sim.specs.Rounds.{FailsRound, FailsToHandOut, HandsOut, RoundsWithCounts, HasTakenTurns, HoldsTo, IsAfter, AreUnwrittenOf, IsHomeAgain, IsHomeOnce, IsOnItsWay, Rounds, lines_out, round_of}
 use Rattle.fb_sim.specs.declared.rounds.unwritten_lines.UnwrittenLines.{UnwrittenLines}
-use Rattle.fb_sim.specs.declared.options.Options.{Options}
-use Rattle.fb_sim.specs.declared.outcome.RunError.{RunError}
-use Rattle.fb_sim.specs.declared.outcome.RunError.TheVariants.{Refused, Memory, Write, BadOption, Failed}
 use Rattle.fb_sim.specs.declared.progress.Round.{Round}
-use Rattle.fb_sim.specs.declared.progress.Round.TheVariants.{Going, Ended, Stopped}
 use Rattle.fb_sim.specs.declared.rounds.tally.Tally.{Tally}
 use Rattle.fb_window.proofs.lemmas.bounds.KeptHorizons.{keeps}
 use Rattle.fb_sim.proofs.lemmas.rounds.RoundIs.{come_begins, home_again, home_once}

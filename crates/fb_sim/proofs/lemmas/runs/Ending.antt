@@ -1,25 +1,13 @@
 -- What a run has written and reported in the end.
-use Rattle.std.proofs.Common.{◌≡◌, ◌≤◌, ℕ, Bool, true, inl, inr, refl, sym, ap, ◌∙◌, subst, arith, List, [], ◌++◌, length, take, drop, take-append-drop, drop_of_length-le, Option}
-use Rattle.std.specs.Prelude.{IfErr, IsTrue, Result, Ok, Err}
-use Rattle.std.specs.Io.KnownBytes.{Appends}
-use Rattle.std.proofs.KnownBytes.{Appends-trans}
-use Rattle.fb_types.specs.Headline.{Inputs, IsTrace, system_of}
-use Rattle.fb_types.specs.Simulation.{AtHorizon}
-use Rattle.fb_types.specs.Text.{last_line, lines_text}
+use Rattle.fb_sim.proofs.lemmas.Common.{◌≡◌, ◌≤◌, ℕ, Bool, true, inl, inr, refl, sym, ap, ◌∙◌, subst, arith, List, [], ◌++◌, length, take, drop, take-append-drop, Option, Result, Ok, Err, Appends, Appends-trans, Inputs, system_of, AtHorizon, last_line, lines_text, FailsRun, after_bytes, IsPartWritten, SimulationView, Options, Outcome, End, Stop, RunError, Refused, Memory, Write, BadOption, Failed, Came, Comes, hundredth, view_at}
+use Rattle.fb_types.proofs.Common.{IfErr, IsTrue, IsTrace}
+use Rattle.std.proofs.Common.{drop_of_length-le}
 use Rattle.fb_sim.specs.Advances.{FailsToOpen, Finishes, FinishesBy}
 use Rattle.fb_sim.specs.Given.{Given}
-use Rattle.fb_sim.specs.Rounds.{FailsRun, after_bytes}
 use Rattle.fb_sim.specs.Serial.{AreWithin, Declares}
-use Rattle.fb_trace.specs.Progress.{IsPartWritten}
-use Rattle.fb_sim.specs.Views.{SimulationView}
-use Rattle.fb_sim.specs.declared.options.Options.{Options}
-use Rattle.fb_trace.specs.declared.last.Outcome.{Outcome}
-use Rattle.fb_trace.specs.declared.last.Outcome.TheVariants.{End, Stop}
-use Rattle.fb_sim.specs.declared.outcome.RunError.{RunError}
-use Rattle.fb_sim.specs.declared.outcome.RunError.TheVariants.{Refused, Memory, Write, BadOption, Failed}
 use Rattle.fb_sim.specs.declared.state.Stage.{Stage}
 use Rattle.fb_sim.proofs.lemmas.text.Texts.{part-after}
-use Rattle.fb_sim.specs.Reports.{AreReports, Came, Comes, Ends, Fails, HasBroken, HasCome, HasReported, Hears, IsAsFar, Reports, hundredth, view_at}
+use Rattle.fb_sim.specs.Reports.{AreReports, Ends, Fails, HasBroken, HasCome, HasReported, Hears, IsAsFar, Reports}
 use Rattle.fb_sim.specs.declared.with_progress.ReportTally.{ReportTally}
 use Rattle.fb_sim.proofs.lemmas.rounds.HundredthSteps.{come_end, heard_none, hundredth_last}
 

@@ -1,18 +1,6 @@
 -- A run that goes on to a later tick, with the counts of what it has written.
-use Rattle.std.proofs.Common.{◌≡◌, ℕ, ◌+◌, List, ◌++◌, length, Option, refl, ap, ◌∙◌, subst, arith}
-use Rattle.std.specs.Prelude.{Ok, Err}
-use Rattle.std.specs.Io.KnownBytes.{Appends}
-use Rattle.fb_types.specs.Headline.{system_of}
-use Rattle.fb_types.specs.Text.{lines_text}
-use Rattle.fb_trace.specs.Progress.{bounded}
+use Rattle.fb_sim.proofs.lemmas.Common.{◌≡◌, ℕ, ◌+◌, List, ◌++◌, length, Option, refl, ap, ◌∙◌, subst, arith, Ok, Err, Appends, system_of, lines_text, bounded, GoesOn, after_bytes, SimulationView, Outcome, RunError, Refused, Memory, Write, BadOption, Failed, Written}
 use Rattle.fb_sim.specs.Advances.{IsNext, RunsTo}
-use Rattle.fb_sim.specs.Reports.{GoesOn}
-use Rattle.fb_sim.specs.Rounds.{after_bytes}
-use Rattle.fb_sim.specs.Views.{SimulationView}
-use Rattle.fb_trace.specs.declared.last.Outcome.{Outcome}
-use Rattle.fb_sim.specs.declared.outcome.RunError.{RunError}
-use Rattle.fb_sim.specs.declared.outcome.RunError.TheVariants.{Refused, Memory, Write, BadOption, Failed}
-use Rattle.fb_sim.specs.declared.rounds.tally.Written.{Written}
 use Rattle.fb_sim.specs.declared.with_progress.ReportTally.{ReportTally}
 
 -- a count, after another

@@ -1,13 +1,7 @@
 -- A run over one agenda, piece by piece.
-use Rattle.std.proofs.Common.{◌≡◌, ℕ, ◌+◌, ◌<◌, List, [], ◌++◌, length, map, Option, Some, None, Err, sym, ap, ◌∙◌, subst, arith, append-nil}
-use Rattle.std.specs.Io.KnownBytes.{Appends}
-use Rattle.std.proofs.KnownBytes.{Appends-nil}
-use Rattle.fb_types.specs.Headline.{Inputs, system_of, stimuli_of}
-use Rattle.fb_types.specs.Numbers.{line_of}
-use Rattle.fb_types.specs.Simulation.{Taken, Ending, lines_of, opening}
-use Rattle.fb_types.specs.States.{Config, Line}
-use Rattle.fb_types.specs.declared.run.StopMark.{StopMark}
-use Rattle.fb_laws.specs.Sound.{AreGood}
+use Rattle.fb_sim.proofs.lemmas.Common.{◌≡◌, ℕ, ◌+◌, ◌<◌, List, [], ◌++◌, length, map, Option, Some, None, Err, sym, ap, ◌∙◌, subst, arith, append-nil, Appends, Appends-nil, Inputs, system_of, stimuli_of, line_of, Ending, opening, StopMark, AreGood, IsPartWritten, bounded, AreAll, Begin, RunsOn, WritesPartOf, after_bytes, text_of, Options, RunError, Refused, Memory, Write, BadOption, Failed}
+use Rattle.fb_types.proofs.Common.{Taken, lines_of, Config}
+use Rattle.fb_types.specs.States.{Line}
 use Rattle.fb_laws.proofs.lemmas.soundness.Accepting.{sound_of}
 use Rattle.fb_sim_machine.specs.Completions.{Completes, Reaches, ending_at}
 use Rattle.fb_sim_machine.specs.Machines.{IsAt}
@@ -18,12 +12,7 @@ use Rattle.fb_sim_machine.specs.declared.pause.Pause.TheVariants.{Lines, Horizon
 use Rattle.fb_sim_machine.proofs.lemmas.JoinedRuns.{reaches_after, reaches_none, joins, lines_of-append}
 use Rattle.fb_laws.proofs.lemmas.machine.Bridge.{all_each}
 use Rattle.fb_laws.proofs.lemmas.existence.Existence.{there_is}
-use Rattle.fb_trace.specs.Progress.{IsPartWritten, bounded}
 use Rattle.fb_sim.specs.OneAgenda.{RunsThrough}
-use Rattle.fb_sim.specs.Rounds.{AreAll, Begin, RunsOn, WritesPartOf, after_bytes, text_of}
-use Rattle.fb_sim.specs.declared.options.Options.{Options}
-use Rattle.fb_sim.specs.declared.outcome.RunError.{RunError}
-use Rattle.fb_sim.specs.declared.outcome.RunError.TheVariants.{Refused, Memory, Write, BadOption, Failed}
 use Rattle.fb_sim.proofs.lemmas.rounds.RunIs.{both_counted, both_got, joined}
 use Rattle.fb_sim_machine.proofs.lemmas.Simulations.{begins}
 use Rattle.fb_sim.proofs.lemmas.text.Texts.{part-after}

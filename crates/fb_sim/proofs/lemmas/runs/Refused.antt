@@ -1,11 +1,9 @@
 -- Why nothing is run.
-use Rattle.std.proofs.Common.{◌≡◌, ◌<◌, ◌↔◌, ◌⊎◌, inl, inr, ℕ, List, length, Result, Ok, Err, refl, ap}
-use Rattle.fb_types.specs.declared.library.Library.{Library}
+use Rattle.fb_types.proofs.Common.{◌≡◌, ◌<◌, ◌↔◌, ◌⊎◌, inl, inr, ℕ, List, length, Result, Ok, Err, refl, ap, Library, Inputs}
 use Rattle.fb_read.specs.Front.{bad_byte, bad_token}
 use Rattle.fb_read.specs.Whole.{IsDerived, IsLibraryText, IsMemory, IsNesting, IsGrammarFault, HasTokenFault, HasTokens, RefusesWhere, most_bytes}
 use Rattle.fb_read.specs.declared.error.ReadError.{ReadError}
 use Rattle.fb_read.specs.declared.error.ReadError.TheVariants as error
-use Rattle.fb_types.specs.Headline.{Inputs}
 use Rattle.fb_check.specs.Refusals as judge
 use Rattle.fb_check.specs.declared.error.CheckError.{CheckError}
 use Rattle.fb_check.specs.declared.error.CheckError.TheVariants as check

@@ -1,25 +1,14 @@
 -- A simulation that has reached a tick continues to a later one.
-use Rattle.std.proofs.Common.{◌≡◌, ℕ, ◌+◌, ◌<◌, ◌≤◌, false, List, [], ◌∷◌, refl, sym, ap, ◌∙◌, subst, arith}
-use Rattle.std.specs.Prelude.{not, nat_lt}
-use Rattle.std.proofs.lemmas.Bool.{cond-false, le-ltb, lt-ltb}
-use Rattle.fb_types.specs.Headline.{Inputs, system_of, stimuli_of}
+use Rattle.fb_sim.proofs.lemmas.Common.{◌≡◌, ℕ, ◌+◌, ◌<◌, ◌≤◌, false, List, [], ◌∷◌, refl, sym, ap, ◌∙◌, subst, arith, nat_lt, cond-false, le-ltb, lt-ltb, Inputs, system_of, stimuli_of, AtHorizon, AtStop, CoreStep, opening_core, Machine, Each, machine, count_of, IsSchedule, IsAtHorizon, StopMark, AreGood, core_of, lists_of, AreAll, HasCome, SimulationView, AtEnd}
+use Rattle.fb_types.proofs.Common.{not, Core, Lend, Give, Exchange, done, lines_before}
 use Rattle.fb_types.specs.States.{Line}
-use Rattle.fb_types.specs.Simulation.{AtHorizon, AtStop}
-use Rattle.fb_types.specs.Cores.{Core, CoreStep, Lend, Give, Exchange, done, MayDo, opening_core}
-use Rattle.fb_types.specs.Machines.{Machine, Each}
-use Rattle.fb_types.specs.Merges.{lines_before}
-use Rattle.fb_types.specs.Parts.{machine, count_of}
-use Rattle.fb_types.specs.Schedules.{IsSchedule, IsAtHorizon}
+use Rattle.fb_types.specs.Cores.{MayDo}
 use Rattle.fb_types.proofs.lemmas.lists.EachLaws.{each_map}
 use Rattle.fb_laws.proofs.lemmas.schedules.Lines.{filter_nothing, merge_same}
-use Rattle.fb_laws.specs.Sound.{AreGood}
-use Rattle.fb_laws.specs.Finality.{Edge, until, lines_from, IsFinalIn, core_of}
-use Rattle.fb_window.specs.Settling.{lists_of}
+use Rattle.fb_laws.specs.Finality.{Edge, until, lines_from, IsFinalIn}
 use Rattle.fb_window.specs.declared.cores.CoreState as cores
-use Rattle.fb_sim.specs.Rounds.{AreAll, HasCome, IsFinished}
-use Rattle.fb_sim.specs.Views.{SimulationView, IsAhead, HasStoppedAt}
-use Rattle.fb_sim.specs.declared.rounds.all_rounds.Finish.TheVariants.{AtEnd}
-use Rattle.fb_types.specs.declared.run.StopMark.{StopMark}
+use Rattle.fb_sim.specs.Rounds.{IsFinished}
+use Rattle.fb_sim.specs.Views.{IsAhead, HasStoppedAt}
 use Rattle.fb_sim.proofs.lemmas.rounds.Edges.{all_before}
 use Rattle.fb_sim.proofs.lemmas.rounds.Fronts.{all_final, all_merged, at_zero, core_below, none_left}
 use Rattle.fb_sim.proofs.lemmas.rounds.RoundIs.{come_all}

@@ -1,24 +1,16 @@
 -- Marked texts from which the early lines are taken, tick after tick and list by list.
-use Rattle.std.proofs.Common.{◌≡◌, ℕ, suc, ◌+◌, ◌<◌, ◌≤◌, Bool, true, false, cond, Option, Some, List, [], ◌∷◌, ◌++◌, length, map, filter, take, drop, set, get_or, refl, sym, ap, ap₂, ◌∙◌, subst, arith, IsPermutation, append-nil, append_assoc}
-use Rattle.std.specs.Prelude.{nat_lt, sum_by}
-use Rattle.std.specs.List.{AllZip}
-use Rattle.std.proofs.lemmas.Bool.{cond-false, ltb-true, le-ltb}
-use Rattle.std.proofs.lemmas.List.{length-append, length-map, length-take-le, drop_more, drop_all, take_more, take_all, map_push, take-append-le, drop-append-le}
+use Rattle.fb_sim.proofs.lemmas.Common.{◌≡◌, ℕ, suc, ◌+◌, ◌<◌, ◌≤◌, Bool, true, false, Option, Some, List, [], ◌∷◌, ◌++◌, length, map, take, drop, get_or, refl, sym, ap, ap₂, ◌∙◌, subst, arith, IsPermutation, append-nil, append_assoc, nat_lt, AllZip, cond-false, le-ltb, length-append, length-map, take_more, take_all, map_push, Inputs, system_of, Each, Form, Line, IsLeast, all_early, all_late, early, joint, late, Rises, tick_of, IsMarkedText, IsRest, IsMergedText}
+use Rattle.fb_types.proofs.Common.{cond, set, sum_by, ltb-true, length-take-le, drop_more, drop_all, take-append-le, sum_by-cons}
+use Rattle.std.proofs.Common.{filter}
+use Rattle.std.proofs.lemmas.List.{drop-append-le}
 use Rattle.std.proofs.lemmas.List.Sorted.{length_permutation}
-use Rattle.std.proofs.lemmas.List.Sums.{sum_by-cons}
-use Rattle.fb_types.specs.Headline.{Inputs, system_of}
-use Rattle.fb_types.specs.Machines.{Each}
-use Rattle.fb_types.specs.declared.run.Form.{Form}
-use Rattle.fb_types.specs.declared.run.Line.{Line}
-use Rattle.fb_trace.specs.Fronts.{BeginsFrom, IsEmpty, IsLeast, all_early, all_late, before, early, joint, late, lesser, tick_at}
-use Rattle.fb_trace.specs.Merging.{Rises, tick_of}
-use Rattle.fb_trace.specs.Marks.{AreMarked, IsMarkedText, IsRun, text_of_lines}
+use Rattle.fb_trace.specs.Fronts.{BeginsFrom, IsEmpty, before, lesser, tick_at}
+use Rattle.fb_trace.specs.Marks.{AreMarked, IsRun, text_of_lines}
 use Rattle.fb_trace.specs.declared.marks.Mark.{Mark}
 use Rattle.fb_trace.specs.declared.marks.MarkedText.{MarkedText}
 use Rattle.fb_trace.proofs.lemmas.order.Sorting.{tie}
 use Rattle.fb_trace.proofs.lemmas.order.EarlyLines.{IsTaken, early_more, fewer, further, least_more, none_early, none_left}
-use Rattle.fb_sim.specs.JoinedTexts.{ArePut, IsCut, IsPassed, IsPut, IsRest, past_at}
-use Rattle.fb_sim.specs.MergedText.{IsMergedText}
+use Rattle.fb_sim.specs.JoinedTexts.{ArePut, IsCut, IsPassed, IsPut, past_at}
 use Rattle.fb_sim.specs.declared.rounds.join_texts.Rest.{Rest}
 use Rattle.fb_sim.proofs.lemmas.text.Texts.{parts_text}
 use Rattle.fb_sim.proofs.lemmas.text.MergedText.{all_woven, begin_all}

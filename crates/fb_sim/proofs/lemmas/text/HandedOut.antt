@@ -1,18 +1,10 @@
 -- What a writer got of lists of lines.
-use Rattle.std.proofs.Common.{◌≡◌, ℕ, ◌^◌, ◌<◌, List, map, length, Option, sym, subst, IsPermutation}
-use Rattle.std.specs.Global.{Global, Vec}
-use Rattle.std.specs.Prelude.{Result, Ok, Err, IfErr}
-use Rattle.std.specs.Result.{IsErrAnd}
-use Rattle.std.specs.Io.KnownBytes.{Appends}
-use Rattle.fb_types.specs.Headline.{Inputs, system_of}
-use Rattle.fb_types.specs.Numbers.{line_of}
-use Rattle.fb_types.specs.declared.run.Form.{Form}
+use Rattle.fb_sim.proofs.lemmas.Common.{◌≡◌, ℕ, ◌^◌, ◌<◌, List, map, length, Option, sym, subst, IsPermutation, Vec, Result, Ok, Err, IsErrAnd, Appends, Inputs, system_of, line_of, Form, Lists, flat, bounded, WritesPartOf, text_of, IsMergedText, RunError}
+use Rattle.fb_types.proofs.Common.{IfErr}
+use Rattle.std.specs.Global.{Global}
 use Rattle.fb_types.specs.declared.run.Line as run
-use Rattle.fb_trace.specs.Merging.{AreMerged, AreRising, Lists, flat}
-use Rattle.fb_trace.specs.Progress.{bounded}
-use Rattle.fb_sim.specs.Rounds.{HandsOut, HandsPart, WritesPartOf, text_of}
-use Rattle.fb_sim.specs.MergedText.{IsMergedText}
-use Rattle.fb_sim.specs.declared.outcome.RunError.{RunError}
+use Rattle.fb_trace.specs.Merging.{AreMerged, AreRising}
+use Rattle.fb_sim.specs.Rounds.{HandsOut, HandsPart}
 use Rattle.fb_sim.proofs.lemmas.text.Texts.{handed}
 
 module _ (i : Inputs) (form : Form) (lists : Lists) (old new : Option (List ℕ)) where

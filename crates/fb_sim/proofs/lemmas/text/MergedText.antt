@@ -1,14 +1,10 @@
 -- Lists whose lines are taken tick by tick, and lists that are cut in two.
-use Rattle.std.proofs.Common.{◌≡◌, ℕ, zero, suc, ◌+◌, ◌<◌, ◌≤◌, nat_le, Bool, true, false, Some, List, [], ◌∷◌, ◌++◌, length, get_or, take, drop, map, filter, refl, sym, ap, ap₂, ◌∙◌, subst, ⊎_elim, arith, All, Bor, Vec, IsPermutation, append-nil, append_assoc}
-use Rattle.std.specs.Prelude.{nat_lt, slice_get}
-use Rattle.std.proofs.lemmas.Bool.{cases_lt, cond-true, cond-false, le-leb, lt-leb, lt-ltb, le-ltb, ltb-true, ltb-false}
-use Rattle.std.proofs.lemmas.List.Elements.{All-nil, All-cons, All-head, All-tail, All-from_recursion, recursion_from_All}
+use Rattle.fb_types.proofs.Common.{◌≡◌, ℕ, zero, suc, ◌+◌, ◌<◌, ◌≤◌, nat_le, Bool, true, false, Some, List, [], ◌∷◌, ◌++◌, length, get_or, take, drop, map, refl, sym, ap, ap₂, ◌∙◌, subst, ⊎_elim, arith, All, Bor, IsPermutation, append-nil, append_assoc, nat_lt, slice_get, cases_lt, cond-true, cond-false, le-leb, lt-leb, lt-ltb, le-ltb, ltb-true, ltb-false, All-nil, All-cons, All-head, All-tail, All-permutation, Global, Each, Line, drop_all, drop_more, take_more}
+use Rattle.std.proofs.Common.{filter, Vec}
+use Rattle.std.proofs.lemmas.List.Elements.{All-from_recursion, recursion_from_All}
 use Rattle.std.specs.List.Sorted.{IsPartitionedBy, IsPartitionPoint}
-use Rattle.std.proofs.lemmas.List.Sorted.{All-permutation, IsPartitionedBy-ltb, IsPermutation-refl, IsPermutation-trans, IsPermutation-append, IsPermutation-append_left, IsPermutation-append_right, IsPermutation-append_comm}
-use Rattle.std.specs.declared.alloc.Global.{Global}
-use Rattle.fb_types.specs.Machines.{Each}
+use Rattle.std.proofs.lemmas.List.Sorted.{IsPartitionedBy-ltb, IsPermutation-refl, IsPermutation-trans, IsPermutation-append, IsPermutation-append_left, IsPermutation-append_right, IsPermutation-append_comm}
 use Rattle.fb_types.proofs.lemmas.lists.EachLaws.{each_map, each_append}
-use Rattle.fb_types.specs.declared.run.Line.{Line}
 use Rattle.fb_trace.specs.Fronts.{IsEmpty, early, joint, late}
 use Rattle.fb_trace.specs.Merging.{Lists, tick_of, Rises, AreRising, flat}
 use Rattle.fb_window.specs.Settling.{IsMerged}
@@ -16,7 +12,6 @@ use Rattle.fb_sim.specs.MergedText.{AreCut, AreDivided, IsWoven, until}
 use Rattle.fb_sim.specs.declared.rounds.merge_text.Cut.{Cut}
 use Rattle.fb_trace.proofs.lemmas.order.Sorting.{filter_nothing, filter_joined, rises_append, tie, tie_less, tie_more}
 use Rattle.fb_trace.proofs.lemmas.order.EarlyLines.{IsTaken, none_early, one_early, one_late}
-use Rattle.std.proofs.lemmas.List.{drop_all, drop_more, take_more}
 use Rattle.fb_trace.proofs.lemmas.order.StableSort.{merged}
 
 each_left : (P : Line → Type 0) (xs ys : List Line) → Each P (xs ++ ys) → Each P xs

@@ -1,14 +1,7 @@
 -- Lines of lists of which text is made while they are taken, tick by tick.
-use Rattle.std.proofs.Common.{◌≡◌, ℕ, List, [], ◌++◌, map, refl, sym, ap, ◌∙◌, subst, All, Bor, append-nil, append_assoc}
-use Rattle.fb_types.specs.Headline.{Inputs, system_of}
-use Rattle.fb_types.specs.Machines.{Each}
-use Rattle.fb_types.specs.Numbers.{line_of}
-use Rattle.fb_types.specs.Text.{lines_text}
-use Rattle.fb_types.specs.declared.run.Form.{Form}
-use Rattle.fb_types.specs.declared.run.Line.{Line}
-use Rattle.fb_trace.specs.Fronts.{BeginsFrom, IsEmpty, all_early, all_late, joint}
+use Rattle.fb_sim.proofs.lemmas.Common.{◌≡◌, ℕ, List, [], ◌++◌, map, refl, sym, ap, ◌∙◌, subst, All, Bor, append-nil, append_assoc, Inputs, system_of, Each, line_of, lines_text, Form, Line, all_early, all_late, joint, IsMergedText}
+use Rattle.fb_trace.specs.Fronts.{BeginsFrom, IsEmpty}
 use Rattle.fb_trace.proofs.lemmas.order.EarlyLines.{IsTaken, further}
-use Rattle.fb_sim.specs.MergedText.{IsMergedText}
 use Rattle.fb_sim.proofs.lemmas.text.Texts.{parts_text}
 use Rattle.fb_sim.proofs.lemmas.text.MergedText.{all_woven, begin_all, taken_each}
 

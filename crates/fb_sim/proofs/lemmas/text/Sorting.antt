@@ -1,13 +1,10 @@
 -- Every list of lists of lines has a list of all of them, in the order of the trace.
-use Rattle.std.proofs.Common.{◌≡◌, ◌<◌, ◌≤◌, true, false, cond, List, [], ◌∷◌, filter, refl, sym, ap, ◌∙◌, ⊎_elim, arith, IsPermutation}
-use Rattle.std.specs.Prelude.{nat_lt}
-use Rattle.std.proofs.lemmas.Bool.{cases_eq, cond_both, ltb-true, ltb-false}
+use Rattle.fb_sim.proofs.lemmas.Common.{◌≡◌, ◌<◌, ◌≤◌, true, false, List, [], ◌∷◌, refl, sym, ap, ◌∙◌, ⊎_elim, arith, IsPermutation, nat_lt, Each, Line, joint, tick_of, Rises}
+use Rattle.fb_types.proofs.Common.{cond, cases_eq, ltb-true, ltb-false}
+use Rattle.std.proofs.Common.{filter}
+use Rattle.std.proofs.lemmas.Bool.{cond_both}
 use Rattle.std.proofs.lemmas.List.Sorted.{IsPermutation-refl, IsPermutation-trans, IsPermutation-cons, IsPermutation-middle}
-use Rattle.fb_types.specs.Machines.{Each}
 use Rattle.fb_types.proofs.lemmas.lists.EachLaws.{each_map}
-use Rattle.fb_types.specs.declared.run.Line.{Line}
-use Rattle.fb_trace.specs.Fronts.{joint}
-use Rattle.fb_trace.specs.Merging.{tick_of, Rises}
 use Rattle.fb_trace.proofs.lemmas.order.Sorting.{filter_in, filter_out, tie, tie_less, tie_same, tie_apart}
 use Rattle.fb_sim.specs.MergedText.{IsWoven}
 

@@ -1,24 +1,14 @@
 -- The text of a trace that is written piece by piece, with the counts of its bytes.
-use Rattle.std.proofs.Common.{◌≡◌, ℕ, zero, suc, ◌+◌, ◌^◌, ◌<◌, List, [], ◌∷◌, ◌++◌, map, length, take, Option, Result, Ok, Err, refl, sym, ap, ap₂, ◌∙◌, subst, arith, append_assoc, append-nil, length-append, get_or, drop, take-append-drop}
+use Rattle.fb_sim.proofs.lemmas.Common.{◌≡◌, ℕ, zero, suc, ◌+◌, ◌^◌, ◌<◌, List, [], ◌∷◌, ◌++◌, map, length, take, Option, Result, Ok, Err, refl, sym, ap, ap₂, ◌∙◌, subst, arith, append_assoc, append-nil, length-append, get_or, drop, take-append-drop, Vec, IfOk, Appends, Appends-trans, take_more, Inputs, system_of, line_of, lines_text, Form, Lists, flat, IsPartWritten, bounded, IsMerged, IsMergedText, all_bytes}
+use Rattle.fb_types.proofs.Common.{map-append, System, line_text}
 use native.Mathlib.Nat.{le_refl}
 use denote.RawPtr.{null_ptr}
-use Rattle.std.specs.Global.{Global, Vec}
-use Rattle.std.specs.Prelude.{IfOk, IsOkAnd}
-use Rattle.std.specs.Io.KnownBytes.{Appends}
-use Rattle.std.proofs.KnownBytes.{Appends-trans}
-use Rattle.std.proofs.lemmas.List.{map-append, take_more}
+use Rattle.std.specs.Global.{Global}
+use Rattle.std.specs.Prelude.{IsOkAnd}
 use Rattle.std.proofs.lemmas.List.Sorted.{length_permutation}
-use Rattle.fb_types.specs.Headline.{Inputs, system_of}
-use Rattle.fb_types.specs.Numbers.{line_of}
-use Rattle.fb_types.specs.Systems.{System}
 use Rattle.fb_types.specs.States.{Line}
-use Rattle.fb_types.specs.Text.{line_text, lines_text}
-use Rattle.fb_types.specs.declared.run.Form.{Form}
 use Rattle.fb_types.specs.declared.run.Line as run
-use Rattle.fb_trace.specs.Merging.{Lists, flat}
-use Rattle.fb_trace.specs.Progress.{IsPartWritten, bounded}
-use Rattle.fb_window.specs.Settling.{IsMerged}
-use Rattle.fb_sim.specs.MergedText.{AreDivided, IsMergedText, all_bytes}
+use Rattle.fb_sim.specs.MergedText.{AreDivided}
 use Rattle.fb_sim.proofs.lemmas.text.Sorting.{woven_of}
 use Rattle.fb_sim.proofs.lemmas.text.MergedText.{woven_joined, woven_merged}
 

@@ -1,22 +1,11 @@
 -- The texts that jobs made, and the final lines that they are of.
-use Rattle.std.proofs.Common.{◌≡◌, ℕ, zero, suc, ◌+◌, Bool, true, false, if◌then◌else◌, List, [], ◌∷◌, ◌++◌, length, take, drop, map, Option, Some, None, refl, sym, ap, ◌∙◌, subst, arith, append-nil}
-use Rattle.std.specs.Prelude.{IfSome, slice_get, slice_index_or}
-use Rattle.std.specs.Global.{Vec}
-use Rattle.std.specs.List.{AllZip}
-use Rattle.std.proofs.lemmas.List.{length-append, nil_from_length}
-use Rattle.fb_types.specs.Headline.{Inputs}
-use Rattle.fb_types.specs.Machines.{Each}
-use Rattle.fb_types.specs.declared.run.Form.{Form}
-use Rattle.fb_types.specs.declared.run.Line.{Line}
-use Rattle.fb_types.specs.declared.value.Reason.{Reason}
+use Rattle.fb_sim.proofs.lemmas.Common.{◌≡◌, ℕ, zero, suc, ◌+◌, Bool, true, false, List, [], ◌∷◌, ◌++◌, length, take, drop, map, Option, Some, None, refl, sym, ap, ◌∙◌, subst, arith, append-nil, IfSome, Vec, AllZip, length-append, Inputs, Each, Form, Line, Reason, IsMarkedText, Resource, WindowDone, Does, JobModel, jobs_of}
+use Rattle.fb_types.proofs.Common.{if◌then◌else◌, slice_get, slice_index_or, nil_from_length}
 use Rattle.fb_types.proofs.lemmas.lists.EachLaws.{each_append}
 use Rattle.fb_laws.proofs.lemmas.lists.Indexes.{drop_at, push_counted}
-use Rattle.fb_trace.specs.Marks.{IsMarkedText}
 use Rattle.fb_trace.specs.declared.marks.MarkedText.{MarkedText}
-use Rattle.fb_resource.specs.declared.resource.Resource.{Resource}
-use Rattle.fb_resource.specs.declared.resource.WindowDone.{WindowDone}
 use Rattle.fb_resource.specs.declared.resource.WindowDone.TheVariants.{NoMemory, Ran}
-use Rattle.fb_window.specs.Jobs.{Does, JobModel, job_of, jobs_of}
+use Rattle.fb_window.specs.Jobs.{job_of}
 use Rattle.fb_window.specs.Texts.{IsFrontOf}
 use Rattle.fb_sim.specs.Texts.{AreDone, AreUnwrittenIn, AreTextsFrom, AreTextsOf, DoesWithText, HasText, IsTextFrom}
 use Rattle.fb_sim.specs.declared.rounds.job_texts.FinalTexts.{FinalTexts}

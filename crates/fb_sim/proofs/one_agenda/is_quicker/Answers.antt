@@ -1,6 +1,4 @@
-use Rattle.std.proofs.Common.{subst}
-use Rattle.fb_types.specs.Headline.{stimuli_of, system_of}
-use Rattle.fb_types.specs.Simulation.{opening}
+use Rattle.fb_types.proofs.Common.{subst, stimuli_of, system_of, opening}
 use Rattle.fb_sim_machine.specs.Pauses.{Pauses}
 use Rattle.fb_sim.proofs.one_agenda.is_quicker.Goals as goal
 

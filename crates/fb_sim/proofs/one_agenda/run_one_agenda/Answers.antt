@@ -1,5 +1,4 @@
-use Rattle.fb_sim.specs.declared.outcome.RunError.TheVariants.{Memory}
-use Rattle.fb_sim.specs.Rounds.{FailsRun}
+use Rattle.fb_sim.proofs.lemmas.Common.{Memory, FailsRun}
 use Rattle.fb_trace.specs.End as trace
 use Rattle.fb_sim.proofs.lemmas.rounds.RunIs.{err_is, fails_at, fails_on, fails_wanting, writes_all}
 use Rattle.fb_sim.proofs.one_agenda.run_one_agenda.Goals as goal

@@ -1,9 +1,6 @@
-use Rattle.std.proofs.Common.{[], subst, Err}
+use Rattle.fb_sim.proofs.lemmas.Common.{[], subst, Err, AreGood, RunsOn, Memory}
 use Rattle.std.proofs.lemmas.Result.{IfOk-from_err}
-use Rattle.fb_laws.specs.Sound.{AreGood}
 use Rattle.fb_sim_machine.specs.Pauses.{Pauses}
-use Rattle.fb_sim.specs.Rounds.{RunsOn}
-use Rattle.fb_sim.specs.declared.outcome.RunError.TheVariants.{Memory}
 use Rattle.fb_sim.proofs.lemmas.runs.OneAgendaIs.{gone_first, gone_more, gone_short, gone_out_of_memory, through_horizon, through_stop}
 use Rattle.fb_sim.proofs.lemmas.rounds.RunIs.{err_is}
 use Rattle.fb_sim.proofs.one_agenda.run_through.Goals as goal

@@ -1,5 +1,4 @@
-use Rattle.std.proofs.Common.{◌≡◌, subst}
-use Rattle.fb_types.specs.Headline.{Inputs, AreAccepted, inputs}
+use Rattle.fb_types.proofs.Common.{◌≡◌, subst, Inputs, AreAccepted, inputs}
 use Rattle.fb_check.specs.Refusals as judge
 use Rattle.fb_sim.proofs.lemmas.runs.Refused.{check_fault}
 use Rattle.fb_sim.proofs.reading.judge_reading.Goals as goal

@@ -1,17 +1,8 @@
-use Rattle.std.proofs.Common.{ℕ, List, All, Ok, map, ◌^◌, ◌≤◌, vec_len, refl, subst, sym, ◌∙◌, arith}
-use Rattle.std.specs.Io.KnownBytes.{Appends}
+use Rattle.fb_sim.proofs.lemmas.Common.{ℕ, List, All, Ok, map, ◌^◌, ◌≤◌, vec_len, refl, subst, sym, ◌∙◌, arith, Appends, system_of, line_of, Line, BelongsTo, AreLegal, KeepHorizon, OfEachCore, WritesPartOf, text_of, Memory}
 use denote.Param.Send.{sendable}
 use Rattle.fb_resource.proofs.lemmas.Sends.{done_send}
 use Rattle.fb_window.proofs.lemmas.messages.JobsCross.{job_send}
-use Rattle.fb_types.specs.Headline.{system_of}
-use Rattle.fb_types.specs.Numbers.{line_of}
-use Rattle.fb_types.specs.declared.run.Line.{Line}
-use Rattle.fb_system.specs.Lines.{BelongsTo}
-use Rattle.fb_window.specs.Leaving.{AreLegal}
-use Rattle.fb_window.specs.Reached.{KeepHorizon}
-use Rattle.fb_window.specs.Reaching.{OfEachCore}
-use Rattle.fb_sim.specs.Rounds.{Rounds, WritesPartOf, text_of}
-use Rattle.fb_sim.specs.declared.outcome.RunError.TheVariants.{Memory}
+use Rattle.fb_sim.specs.Rounds.{Rounds}
 use Rattle.fb_sim.specs.declared.progress.Round.{Round}
 use Rattle.fb_sim.proofs.lemmas.rounds.OnePhase.{all_done, out_belongs}
 use Rattle.fb_sim.proofs.lemmas.rounds.WindowIs.{is_home_once, on_its_way, round_failed, round_passed, round_wanting, round_whole}

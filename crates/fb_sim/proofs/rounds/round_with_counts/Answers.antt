@@ -1,11 +1,4 @@
-use Rattle.std.proofs.Common.{◌≡◌, List, ℕ, length, inr, refl, sym, ap, subst, ◌∙◌}
-use Rattle.std.specs.Io.KnownBytes.{Appends}
-use Rattle.fb_laws.specs.Finality.{core_of}
-use Rattle.fb_laws.specs.Sound.{AreGood}
-use Rattle.fb_trace.specs.Progress.{bounded}
-use Rattle.fb_sim.specs.Rounds.{WritesPartOf}
-use Rattle.fb_sim.specs.MergedText.{all_bytes}
-use Rattle.fb_sim.specs.declared.outcome.RunError.TheVariants.{Memory}
+use Rattle.fb_sim.proofs.lemmas.Common.{◌≡◌, List, ℕ, length, inr, refl, sym, ap, subst, ◌∙◌, Appends, core_of, AreGood, bounded, WritesPartOf, all_bytes, Memory}
 use Rattle.fb_sim.proofs.lemmas.text.HandedOut.{part_by_text, whole_by_text}
 use Rattle.fb_sim.proofs.lemmas.text.Texts.{merged_list}
 use Rattle.fb_sim.proofs.lemmas.rounds.WindowIs.{held_failed, unwritten_out_of_memory, held_passed, unwritten_whole, home_since, series_keeps, turned_on}

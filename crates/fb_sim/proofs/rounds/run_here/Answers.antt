@@ -1,8 +1,4 @@
-use Rattle.std.proofs.Common.{◌++◌, [], ◌∷◌, List, length, sym, ap, subst, ◌∙◌, append_assoc, arith}
-use Rattle.std.specs.List.{AllZip}
-use Rattle.std.specs.Vec.Iter.{into_iter_items}
-use Rattle.fb_resource.specs.declared.resource.WindowDone.{WindowDone}
-use Rattle.fb_window.specs.Jobs.{Does, JobModel}
+use Rattle.fb_sim.proofs.lemmas.Common.{◌++◌, [], ◌∷◌, List, length, sym, ap, subst, ◌∙◌, append_assoc, arith, AllZip, into_iter_items, WindowDone, Does, JobModel}
 use Rattle.fb_sim.proofs.rounds.run_here.Goals as goal
 
 zip_push : (js : List JobModel) (ds : List WindowDone) (j : JobModel) (d : WindowDone) → AllZip Does js ds → Does j d → AllZip Does (js ++ j ∷ []) (ds ++ d ∷ [])

@@ -1,16 +1,4 @@
-use Rattle.std.proofs.Common.{◌≡◌, ℕ, List, Option, All, length, ap, subst, sym, ◌∙◌}
-use Rattle.std.specs.Prelude.{IfSome}
-use Rattle.std.specs.Global.{Vec}
-use Rattle.fb_types.specs.Headline.{Inputs, system_of}
-use Rattle.fb_types.specs.Machines.{Each}
-use Rattle.fb_types.specs.declared.run.Line.{Line}
-use Rattle.fb_system.specs.Lines.{BelongsTo}
-use Rattle.fb_trace.specs.Merging.{flat}
-use Rattle.fb_window.specs.Jobs.{JobModel, jobs_of}
-use Rattle.fb_window.specs.Leaving.{AreLegal}
-use Rattle.fb_window.specs.Reached.{KeepHorizon}
-use Rattle.fb_window.specs.Reaching.{OfEachCore}
-use Rattle.fb_window.specs.Settling.{IsMerged}
+use Rattle.fb_sim.proofs.lemmas.Common.{◌≡◌, ℕ, List, Option, All, length, ap, subst, sym, ◌∙◌, IfSome, Vec, Inputs, system_of, Each, Line, BelongsTo, flat, JobModel, jobs_of, AreLegal, KeepHorizon, OfEachCore, IsMerged}
 use Rattle.fb_sim.specs.Texts.{AreTextsFrom, AreTextsOf}
 use Rattle.fb_sim.specs.declared.rounds.job_texts.FinalTexts.{FinalTexts}
 use Rattle.fb_sim.proofs.lemmas.text.TextsAre.{jobs_are_of, texts_if_used}

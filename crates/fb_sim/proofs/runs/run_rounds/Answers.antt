@@ -1,12 +1,6 @@
-use Rattle.std.proofs.Common.{arith, subst, sym}
-use Rattle.std.specs.Io.KnownBytes.{Appends}
-use Rattle.fb_types.specs.Headline.{system_of}
-use Rattle.fb_types.specs.Text.{last_line}
+use Rattle.fb_sim.proofs.lemmas.Common.{arith, subst, sym, Appends, system_of, last_line, Outcome, RunError, Memory, FailsRun}
 use Rattle.fb_trace.specs.End.{ending_of}
-use Rattle.fb_trace.specs.declared.last.Outcome.{Outcome}
-use Rattle.fb_sim.specs.declared.outcome.RunError.{RunError}
-use Rattle.fb_sim.specs.declared.outcome.RunError.TheVariants.{Memory}
-use Rattle.fb_sim.specs.Rounds.{FailsRun, IsShort}
+use Rattle.fb_sim.specs.Rounds.{IsShort}
 use Rattle.fb_sim.proofs.lemmas.rounds.RunIs.{ended, ended_short, err_is, fails_on, fails_wanting, stop_counted}
 use Rattle.fb_sim.proofs.runs.run_rounds.Goals as goal
 

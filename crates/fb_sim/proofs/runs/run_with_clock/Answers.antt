@@ -1,5 +1,4 @@
-use Rattle.std.proofs.Common.{rules}
-use Rattle.fb_sim.specs.Rounds.{FailsRun}
+use Rattle.fb_sim.proofs.lemmas.Common.{rules, FailsRun}
 use Rattle.fb_sim.proofs.lemmas.rounds.RunIs.{err_is, fails_open}
 use Rattle.fb_sim.proofs.runs.run_with_clock.Goals as goal
 

@@ -1,10 +1,4 @@
-use Rattle.std.proofs.Common.{◌≡◌, ◌∙◌, ◌+◌, ℕ, Ok, Err, sym, ap, subst, arith}
-use Rattle.fb_types.specs.Headline.{Inputs}
-use Rattle.fb_laws.specs.Sound.{AreGood}
-use Rattle.fb_sim.specs.Views.{SimulationView}
-use Rattle.fb_trace.specs.declared.last.Outcome.{Outcome}
-use Rattle.fb_trace.specs.declared.last.Outcome.TheVariants.{End}
-use Rattle.fb_sim.specs.Reports.{Came, Comes, hundredth, view_at}
+use Rattle.fb_sim.proofs.lemmas.Common.{◌≡◌, ◌∙◌, ◌+◌, ℕ, Ok, Err, sym, ap, subst, arith, Inputs, AreGood, SimulationView, Outcome, End, Came, Comes, hundredth, view_at}
 use Rattle.fb_sim.proofs.lemmas.rounds.HundredthSteps.{at_own, came_first, comes_so, hundredth_first}
 use Rattle.fb_sim.proofs.with_progress.go_far.Goals as goal
 

@@ -1,5 +1,4 @@
-use Rattle.std.proofs.Common.{◌≡◌}
-use Rattle.fb_sim.specs.Reports.{Came, hundredth, view_at}
+use Rattle.fb_sim.proofs.lemmas.Common.{◌≡◌, Came, hundredth, view_at}
 use Rattle.fb_sim.proofs.with_progress.go_far.Given as goal
 
 abbrev pub invariant-loop-count : goal.invariant-loop-count

@@ -1,6 +1,4 @@
-use Rattle.std.proofs.Common.{Err, refl, sym, subst}
-use Rattle.fb_sim.specs.Reports.{GoesOn}
-use Rattle.fb_sim.specs.declared.outcome.RunError.{RunError}
+use Rattle.fb_sim.proofs.lemmas.Common.{Err, refl, sym, subst, GoesOn, RunError}
 use Rattle.fb_sim.proofs.lemmas.runs.LaterTicks.{goes_short, goes_well}
 use Rattle.fb_sim.proofs.with_progress.go_on.Goals as goal
 

@@ -1,7 +1,5 @@
-use Rattle.std.proofs.Common.{Result, Ok, Err, sym, subst}
-use Rattle.fb_trace.specs.declared.last.Outcome.{Outcome}
-use Rattle.fb_sim.specs.declared.outcome.RunError.{RunError}
-use Rattle.fb_sim.specs.Reports.{Comes, Fails, HasReported}
+use Rattle.fb_sim.proofs.lemmas.Common.{Result, Ok, Err, sym, subst, Outcome, RunError, Comes}
+use Rattle.fb_sim.specs.Reports.{Fails, HasReported}
 use Rattle.fb_sim.proofs.lemmas.runs.Ending.{ends_short, ends_well, reports_short, reports_well}
 use Rattle.fb_sim.proofs.with_progress.go_through.Goals as goal
 

@@ -1,7 +1,6 @@
-use Rattle.std.proofs.Common.{◌≡◌, ◌∙◌, ◌≤◌, ◌<◌, ◌++◌, ℕ, Bool, Ok, Err, suc, sym, ap, subst, add-one, arith}
-use Rattle.fb_trace.specs.declared.last.Outcome.{Outcome}
-use Rattle.fb_trace.specs.declared.last.Outcome.TheVariants.{End, Stop}
-use Rattle.fb_sim.specs.Reports.{Comes, GoesOn, Hears, hundredth, report_text}
+use Rattle.fb_sim.proofs.lemmas.Common.{◌≡◌, ◌∙◌, ◌≤◌, ◌<◌, ◌++◌, ℕ, Bool, Ok, Err, suc, sym, ap, subst, arith, Outcome, End, Stop, Comes, GoesOn, hundredth}
+use Rattle.std.proofs.Common.{add-one}
+use Rattle.fb_sim.specs.Reports.{Hears, report_text}
 use Rattle.fb_sim.proofs.lemmas.rounds.HundredthSteps.{came_failed, came_more, came_same, came_stop, goes_here, hears_more, hears_no_more, same_view}
 use Rattle.fb_sim.proofs.with_progress.go_to_next.Goals as goal
 

@@ -1,5 +1,4 @@
-use Rattle.std.proofs.Common.{◌∙◌, length, nat_eq}
-use Rattle.std.proofs.lemmas.Bool.{eqb-true}
+use Rattle.fb_types.proofs.Common.{◌∙◌, length, nat_eq, eqb-true}
 use Rattle.fb_sim.specs.Reports.{report_text}
 use Rattle.fb_sim.proofs.lemmas.runs.Ending.{heard_whole}
 use Rattle.fb_sim.proofs.with_progress.report.Goals as goal

@@ -1,11 +1,5 @@
-use Rattle.std.proofs.Common.{◌≡◌, ◌++◌, ◌∷◌, ◌<◌, [], All, map, vec_len, sym, ap, subst, ◌∙◌, append_assoc, append-nil, arith}
-use Rattle.std.proofs.lemmas.Bool.{eqb-true}
-use Rattle.std.proofs.lemmas.List.{nil_from_length}
+use Rattle.fb_types.proofs.Common.{◌≡◌, ◌++◌, ◌∷◌, ◌<◌, [], All, map, vec_len, sym, ap, subst, ◌∙◌, append_assoc, append-nil, arith, eqb-true, nil_from_length, system_of, found, message_key, or_else, Message, Arrival}
 use Rattle.std.specs.Vec.Iter.{drain_items}
-use Rattle.fb_types.specs.Headline.{system_of}
-use Rattle.fb_types.specs.Keys.{found, message_key, or_else}
-use Rattle.fb_types.specs.declared.run.Message.{Message}
-use Rattle.fb_types.specs.declared.run.Event.TheVariants.{Arrival}
 use Rattle.fb_resource.specs.Posts.{IsMessage, IsPut, arriving, key_of}
 use Rattle.fb_resource.specs.Waiting.{meaning}
 use Rattle.fb_resource.proofs.lemmas.Lists.{slice_all}

@@ -1,8 +1,5 @@
-use Rattle.std.proofs.Common.{◌≡◌, ◌++◌, ◌<◌, ℕ, All, map}
+use Rattle.fb_types.proofs.Common.{◌≡◌, ◌++◌, ◌<◌, ℕ, All, map, found, or_else, Key, Message}
 use Rattle.std.specs.Vec.Iter.{drain_items, DrainKeeps}
-use Rattle.fb_types.specs.Keys.{found, or_else}
-use Rattle.fb_types.specs.declared.key.Key.{Key}
-use Rattle.fb_types.specs.declared.run.Message.{Message}
 use Rattle.fb_resource.specs.Posts.{arriving}
 use Rattle.fb_resource.specs.Waiting.{IsInOrder, meaning}
 use Rattle.fb_sim_machine.proofs.deliver.deliver_all.Given as goal

@@ -1,16 +1,6 @@
-use Rattle.std.proofs.Common.{List, Option, map, sym, ◌∙◌, ap, subst}
-use Rattle.std.specs.Prelude.{IfSome}
+use Rattle.fb_st.proofs.lemmas.Common.{List, Option, map, sym, ◌∙◌, ap, subst, IfSome, Name, Twice, Stmts, Point, RunsAll, end_of, point, Declared, declared_in, types_in, codes_said, SaysAll, CompiledStmt, Slot}
 use Rattle.std.specs.Borrow.{Bor}
-use Rattle.fb_types.specs.Names.{Name}
-use Rattle.fb_types.specs.Repeated.{Twice}
-use Rattle.fb_types.specs.Syntax.{Stmts, stmts}
-use Rattle.fb_types.specs.Bodies.{Point, RunsAll}
-use Rattle.fb_st.specs.Flows.{end_of, point}
-use Rattle.fb_st.specs.Frames.{Declared, declared_in, types_in}
-use Rattle.fb_st.specs.Fitting.{codes_said}
-use Rattle.fb_st.specs.Made.{SaysAll}
-use Rattle.fb_st.specs.declared.compiled.CompiledStmt.{CompiledStmt}
-use Rattle.fb_st.specs.declared.frame.Slot.{Slot}
+use Rattle.fb_types.specs.Syntax.{stmts}
 use Rattle.fb_st.proofs.lemmas.Slots.{names_declared}
 use Rattle.fb_st.proofs.algorithm.exec_compiled.Goals as goal
 

@@ -1,14 +1,5 @@
-use Rattle.std.proofs.Common.{List, Option, subst, sym, ◌∙◌, ap}
-use Rattle.std.specs.Prelude.{IfSome}
+use Rattle.fb_st.proofs.lemmas.Common.{List, Option, subst, sym, ◌∙◌, ap, IfSome, expr_of, truth_of, Expr, declared_in, values_of, SaysTruth, truth_said, expr_of_truth, TruthExpr, Slot}
 use Rattle.std.specs.Borrow.{Bor}
-use Rattle.fb_types.specs.Syntax.{Expr, expr_of}
-use Rattle.fb_types.specs.Values.{truth_of}
-use Rattle.fb_st.specs.Frames.{declared_in, values_of}
-use Rattle.fb_st.specs.Made.{SaysTruth}
-use Rattle.fb_st.specs.Compiled.{truth_said}
-use Rattle.fb_st.specs.Fitting.{expr_of_truth}
-use Rattle.fb_st.specs.declared.compiled.TruthExpr.{TruthExpr}
-use Rattle.fb_st.specs.declared.frame.Slot.{Slot}
 use Rattle.fb_st.proofs.algorithm.holds_compiled.Goals as goal
 
 pub holds_condition-requires : goal.holds_condition-requires

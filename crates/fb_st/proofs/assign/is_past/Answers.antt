@@ -1,5 +1,4 @@
-use Rattle.std.proofs.Common.{◌≡◌, ◌∙◌, ℤ, pos, Bool, true, false, ◌&&◌, ◌||◌, refl, sym, to_z-of_z}
-use Rattle.std.specs.Prelude.{int_lt}
+use Rattle.fb_types.proofs.Common.{◌≡◌, ◌∙◌, ℤ, pos, Bool, true, false, ◌&&◌, ◌||◌, refl, sym, to_z-of_z, int_lt}
 use Rattle.fb_st.proofs.assign.is_past.Goals as goal
 
 same_order : (x y a b : ℤ) → a ≡ x → b ≡ y → int_lt a b ≡ int_lt x y

@@ -1,11 +1,7 @@
-use Rattle.std.proofs.Common.{◌≡◌, Some, refl, sym, ◌∙◌, ap, subst, rules, to_z-of_z}
-use Rattle.std.specs.Prelude.{IfOk}
+use Rattle.fb_types.proofs.Common.{◌≡◌, Some, refl, sym, ◌∙◌, ap, subst, rules, to_z-of_z, IfOk, IfOk-weaker, Binary, expr_of, function_named, Function}
 use mir.Syntax.{w128}
 use mir.Val.{SFits}
-use Rattle.std.proofs.lemmas.Result.{IfOk-weaker}
-use Rattle.fb_types.specs.Syntax.{Binary, Expr, expr_of}
-use Rattle.fb_types.specs.Values.{function_named}
-use Rattle.fb_types.specs.declared.function.Function.{Function}
+use Rattle.fb_types.specs.Syntax.{Expr}
 use Rattle.fb_types.specs.declared.function.Function.TheVariants as function
 use Rattle.fb_types.specs.declared.text.BinaryOperator.TheVariants as binary
 use Rattle.fb_st.specs.Compiled.{Compared, Joined, number_said, truth_said}

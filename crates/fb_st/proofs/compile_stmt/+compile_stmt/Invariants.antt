@@ -1,7 +1,5 @@
-use Rattle.std.proofs.Common.{map, take}
-use Rattle.fb_types.specs.Syntax.{stmt_of}
-use Rattle.fb_st.specs.Flows.{branch_of, choice_of}
-use Rattle.fb_st.specs.Made.{SaysAll, SaysBranches, SaysChoices}
+use Rattle.fb_st.proofs.lemmas.Common.{map, take, stmt_of, branch_of, choice_of, SaysAll}
+use Rattle.fb_st.specs.Made.{SaysBranches, SaysChoices}
 use Rattle.fb_st.proofs.compile_stmt.+compile_stmt.Given as goal
 
 abbrev pub invariant-compile_all-loop-statement : goal.invariant-compile_all-loop-statement

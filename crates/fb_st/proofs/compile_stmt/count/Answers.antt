@@ -1,7 +1,6 @@
-use Rattle.std.proofs.Common.{sym, ◌∙◌, rules, to_z-of_z}
+use Rattle.fb_types.proofs.Common.{sym, ◌∙◌, rules, to_z-of_z, expr_of, step_of}
 use mir.Syntax.{w64}
 use mir.Val.{SFits}
-use Rattle.fb_types.specs.Syntax.{expr_of, step_of}
 use Rattle.fb_st.proofs.lemmas.MakingCode.{count_made}
 use Rattle.fb_st.proofs.compile_stmt.count.Goals as goal
 

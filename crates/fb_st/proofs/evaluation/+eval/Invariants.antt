@@ -1,9 +1,6 @@
-use Rattle.std.proofs.Common.{◌≡◌, ◌*◌, ◌+◌, max, map, drop, length, List, ◌++◌, Ok}
+use Rattle.fb_types.proofs.Common.{◌≡◌, ◌*◌, ◌+◌, max, map, drop, length, List, ◌++◌, Ok, expr_of, exprs, values_of as values_of_all, and_then, Value}
 use denote.Param.Weighed.{most}
 use Rattle.fb_types.proofs.text.Expr.TheLaws as expr
-use Rattle.fb_types.specs.Syntax.{expr_of, exprs}
-use Rattle.fb_types.specs.Values.{values_of as values_of_all, and_then}
-use Rattle.fb_types.specs.declared.value.Value.{Value}
 use Rattle.fb_st.specs.Frames.{values_of}
 use Rattle.fb_st.proofs.evaluation.+eval.Given as goal
 

@@ -1,18 +1,9 @@
-use Rattle.std.proofs.Common.{List, subst, ◌≡◌, sym, ◌∙◌, ap, not, Bool, ℤ, refl, Result, Ok, Err, false, true, arith}
-use Rattle.std.proofs.lemmas.Result.{err_from_is_err_and}
-use Rattle.fb_types.specs.Names.{Name}
-use Rattle.fb_types.specs.Syntax.{Stmt, Stmts, Assign, If, Case, For, While, Repeat, expr_of, stmt_of, step_of}
-use Rattle.fb_types.specs.Values.{Types, Values, truth_of, whole}
-use Rattle.fb_types.specs.Bodies.{Point, End, Running, Went, Left, Returned, Stopped, Step, Then, RunsAll, RunsChoice, RunsBranch, Runs, Advances, passed}
-use Rattle.fb_types.specs.declared.text.Branch.{Branch}
-use Rattle.fb_types.specs.declared.text.Choice.{Choice}
+use Rattle.fb_st.proofs.lemmas.Common.{List, subst, ◌≡◌, sym, ◌∙◌, ap, not, Bool, ℤ, refl, Result, Ok, Err, false, true, arith, err_from_is_err_and, Name, Stmt, Stmts, Assign, If, Case, For, While, Repeat, expr_of, stmt_of, step_of, Types, Values, truth_of, whole, Point, End, Running, Went, Left, Stopped, Step, RunsAll, RunsChoice, RunsBranch, Runs, Advances, passed, Branch, Choice, Reason, Slot, declared_in, types_in, values_of, end_of, point, all_of, branches_of, choices_of}
+use Rattle.fb_types.proofs.Common.{Returned, Then}
 use Rattle.fb_types.specs.declared.text.Stmt as read
-use Rattle.fb_types.specs.declared.value.Reason.{Reason}
 use Rattle.fb_types.specs.declared.value.Reason.TheVariants as reason
-use Rattle.fb_st.specs.declared.frame.Slot.{Slot}
 use Rattle.fb_st.specs.declared.meter.Flow.TheVariants as flow
-use Rattle.fb_st.specs.Frames.{declared_in, types_in, values_of}
-use Rattle.fb_st.specs.Flows.{end_of, point, before_step, all_of, branches_of, choices_of}
+use Rattle.fb_st.specs.Flows.{before_step}
 use Rattle.fb_st.proofs.lemmas.Runs.{assign_says, if_says, case_says, for_says, while_says, case_runs, began, for_counts, for_not_begun, stopped_by, ended_by, ok_by, turn_as, whole_as, counts_as, all_goes_on, all_ends, all_known, all_as, nothing_left, runs_as, ends_at, choice_holds, choice_ran, choice_taken, choice_passed, choice_stops, choices_known, branch_fits, branch_ran, branch_taken, branch_passed, branches_known, loop_over, loop_stops, loop_left, loop_returned, loop_stopped, loop_goes_on, repeat_says, repeat_goes_on, repeat_over, repeat_stops, repeat_left, repeat_returned, repeat_stopped}
 use Rattle.fb_st.proofs.execution.+exec.Goals as goal
 

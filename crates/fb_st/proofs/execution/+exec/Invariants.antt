@@ -1,14 +1,10 @@
-use Rattle.std.proofs.Common.{◌≡◌, ◌≤◌, ◌*◌, ◌+◌, max, drop, false}
+use Rattle.fb_st.proofs.lemmas.Common.{◌≡◌, ◌≤◌, ◌*◌, ◌+◌, max, drop, false, expr_of, truth_of, whole, RunsAll, RunsChoice, RunsBranch, Step, passed, declared_in, types_in, values_of, point, all_of, choices_of, branches_of, AllKnown, ChoicesKnown, BranchesKnown}
+use Rattle.fb_types.proofs.Common.{Loop}
 use denote.Param.Weighed.{most}
 use Rattle.fb_types.proofs.text.Branch.TheLaws as branch
 use Rattle.fb_types.proofs.text.Choice.TheLaws as choice
 use Rattle.fb_types.proofs.text.Stmt.TheLaws as stmt
-use Rattle.fb_types.specs.Syntax.{expr_of}
-use Rattle.fb_types.specs.Values.{truth_of, whole}
-use Rattle.fb_types.specs.Bodies.{RunsAll, RunsChoice, RunsBranch, Counts, Loop, Step, passed}
-use Rattle.fb_st.specs.Frames.{declared_in, types_in, values_of}
-use Rattle.fb_st.specs.Flows.{point, all_of, choices_of, branches_of}
-use Rattle.fb_st.specs.Known.{AllKnown, ChoicesKnown, BranchesKnown}
+use Rattle.fb_types.specs.Bodies.{Counts}
 use Rattle.fb_st.proofs.lemmas.Runs.{Leads, repeats}
 use Rattle.fb_st.proofs.execution.+exec.Given as goal
 

@@ -1,8 +1,5 @@
-use Rattle.std.proofs.Common.{List, subst}
-use Rattle.fb_types.specs.Bodies.{RunsAll}
+use Rattle.fb_st.proofs.lemmas.Common.{List, subst, RunsAll, declared_in, types_in, all_of, end_of, point}
 use Rattle.fb_types.specs.declared.text.Stmt as read
-use Rattle.fb_st.specs.Frames.{declared_in, types_in}
-use Rattle.fb_st.specs.Flows.{all_of, end_of, point}
 use Rattle.fb_st.proofs.execution.exec.Goals as goal
 
 pub returns-clause-run : goal.returns-clause-run

@@ -1,11 +1,7 @@
-use Rattle.std.proofs.Common.{List, ap, ◌∙◌}
-use Rattle.fb_types.specs.Syntax.{stmt_of}
-use Rattle.fb_types.specs.declared.text.Branch.{Branch}
-use Rattle.fb_types.specs.declared.text.Choice.{Choice}
+use Rattle.fb_st.proofs.lemmas.Common.{List, ap, ◌∙◌, stmt_of, Branch, Choice, all_of, branch_of, branches_of, choice_of, choices_of, declared_in, AllKnown, BranchesKnown, ChoicesKnown}
 use Rattle.fb_types.specs.declared.text.Stmt.{Stmt}
-use Rattle.fb_st.specs.Flows.{all_of, branch_of, branches_of, choice_of, choices_of}
-use Rattle.fb_st.specs.Frames.{declared_in, is_declared}
-use Rattle.fb_st.specs.Known.{AllKnown, AssignsKnown, BranchesKnown, ChoicesKnown}
+use Rattle.fb_st.specs.Frames.{is_declared}
+use Rattle.fb_st.specs.Known.{AssignsKnown}
 use Rattle.fb_st.proofs.lemmas.Knowing.{all_done, both_hold, branch_body, choice_body, fails_at, fails_by, first_fails, goes_on, holds_by, same_test}
 use Rattle.fb_st.proofs.lemmas.Runs.{assign_says, case_says, for_says, if_says}
 use Rattle.fb_st.proofs.known.+known.Goals as goal

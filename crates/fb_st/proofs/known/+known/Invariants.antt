@@ -1,7 +1,5 @@
-use Rattle.std.proofs.Common.{◌↔◌, drop}
-use Rattle.fb_st.specs.Flows.{all_of, branches_of, choices_of}
-use Rattle.fb_st.specs.Frames.{declared_in}
-use Rattle.fb_st.specs.Known.{AllKnown, BranchesKnown, ChoicesKnown}
+use Rattle.fb_st.proofs.lemmas.Common.{drop, all_of, branches_of, choices_of, declared_in, AllKnown, BranchesKnown, ChoicesKnown}
+use Rattle.std.proofs.Common.{◌↔◌}
 use Rattle.fb_st.proofs.known.+known.Given as goal
 
 -- all are known where the rest is

@@ -1,9 +1,7 @@
-use Rattle.std.proofs.Common.{◌∙◌, ap, sym, rules, to_z-of_z}
+use Rattle.fb_st.proofs.lemmas.Common.{◌∙◌, ap, sym, rules, to_z-of_z, binary_value, as_whole, wholes}
 use mir.Syntax.{w128}
 use mir.Val.{SFits}
-use Rattle.fb_types.specs.Values.{binary_value}
 use Rattle.fb_types.specs.declared.value.Value.TheVariants as value
-use Rattle.fb_st.specs.Required.{as_whole, wholes}
 use Rattle.fb_st.proofs.lemmas.Comes.{again_two}
 use Rattle.fb_st.proofs.operator.binary.Goals as goal
 

@@ -1,9 +1,7 @@
-use Rattle.std.proofs.Common.{◌∙◌, ap, rules, to_z-of_z}
-use Rattle.std.specs.Prelude.{neg_ℤ}
+use Rattle.fb_st.proofs.lemmas.Common.{◌∙◌, ap, rules, to_z-of_z, neg_ℤ, whole, as_whole, wholes}
 use mir.Syntax.{w128}
 use mir.Val.{SFits}
-use Rattle.fb_types.specs.Values.{judged, whole}
-use Rattle.fb_st.specs.Required.{as_whole, wholes}
+use Rattle.fb_types.specs.Values.{judged}
 use Rattle.fb_st.proofs.lemmas.Comes.{again_judged}
 use Rattle.fb_st.proofs.operator.unary.Goals as goal
 

@@ -1,24 +1,11 @@
-use Rattle.std.proofs.Common.{List, length, subst, ◌≡◌, sym, ◌∙◌, ap, not, Bool, ℤ, refl, Result, Ok, Err, false, true, arith, rules, to_z-of_z}
-use Rattle.std.specs.Prelude.{slice_get, slice_set}
+use Rattle.fb_st.proofs.lemmas.Common.{List, length, subst, ◌≡◌, sym, ◌∙◌, ap, not, Bool, ℤ, refl, Result, Ok, Err, false, true, arith, rules, to_z-of_z, slice_get, slice_set, err_from_is_err_and, Name, Stmts, Assign, If, Case, While, Repeat, Types, Values, truth_of, whole, fits, Point, End, Running, Went, Left, Stopped, Step, RunsAll, RunsChoice, RunsBranch, Runs, Advances, passed, Reason, as_whole, CountExpr, CompiledChoice, CompiledStmt, types_in, end_of, number_said, truth_said, fits_truth, fits_number, spot, values_at, name_at, expr_of_number, expr_of_truth, codes_said, code_right, codes_right, arm_right, kinds_truth, kinds_number, ty_or, value_of_word}
+use Rattle.fb_types.proofs.Common.{Returned, Then}
 use mir.Syntax.{w64, w128}
 use mir.Val.{SFits}
-use Rattle.std.proofs.lemmas.Result.{err_from_is_err_and}
-use Rattle.fb_types.specs.Names.{Name}
-use Rattle.fb_types.specs.Syntax.{Stmts, Assign, If, Case, While, Repeat}
-use Rattle.fb_types.specs.Values.{Types, Values, truth_of, whole, fits}
-use Rattle.fb_types.specs.Bodies.{Point, End, Running, Went, Left, Returned, Stopped, Step, Then, RunsAll, RunsChoice, RunsBranch, Runs, Advances, passed}
-use Rattle.fb_types.specs.declared.value.Reason.{Reason}
 use Rattle.fb_types.specs.declared.value.Value.TheVariants as value
-use Rattle.fb_st.specs.Required.{as_whole}
-use Rattle.fb_st.specs.declared.compiled.CountExpr.{CountExpr}
 use Rattle.fb_st.specs.declared.compiled.CompiledBranch.{CompiledBranch}
-use Rattle.fb_st.specs.declared.compiled.CompiledChoice.{CompiledChoice}
-use Rattle.fb_st.specs.declared.compiled.CompiledStmt.{CompiledStmt}
 use Rattle.fb_st.specs.declared.meter.Flow.TheVariants as flow
-use Rattle.fb_st.specs.Frames.{types_in}
-use Rattle.fb_st.specs.Flows.{end_of}
-use Rattle.fb_st.specs.Compiled.{number_said, truth_said, fits_truth, fits_number}
-use Rattle.fb_st.specs.Fitting.{spot, begun, values_at, name_at, expr_of_number, expr_of_truth, code_said, codes_said, arms_said, forks_said, code_right, codes_right, count_right, arm_right, fork_right, kinds_truth, kinds_number, ty_or, value_of_word}
+use Rattle.fb_st.specs.Fitting.{begun, code_said, arms_said, forks_said, count_right, fork_right}
 use Rattle.fb_st.proofs.lemmas.Assigning.{within_slot_there}
 use Rattle.fb_st.proofs.lemmas.Comes.{both_true, condition_comes, number_comes}
 use Rattle.fb_st.proofs.lemmas.Sizes.{statement_size, body_of_arm_size, body_of_for_size, body_of_repeat_size, body_of_while_size}

@@ -1,10 +1,8 @@
-use Rattle.std.proofs.Common.{◌≡◌, ◌≤◌, ◌*◌, ◌+◌, max, drop, length, true, false}
+use Rattle.fb_st.proofs.lemmas.Common.{◌≡◌, ◌≤◌, ◌*◌, ◌+◌, max, drop, length, true, false, truth_of, whole, RunsAll, RunsChoice, RunsBranch, Step, passed, types_in, truth_said, spot, codes_said, codes_right, expr_of_truth, name_at, values_at}
+use Rattle.fb_types.proofs.Common.{Loop}
 use denote.Param.Weighed.{most}
-use Rattle.fb_types.specs.Values.{truth_of, whole}
-use Rattle.fb_types.specs.Bodies.{RunsAll, RunsChoice, RunsBranch, Counts, Loop, Step, passed}
-use Rattle.fb_st.specs.Frames.{types_in}
-use Rattle.fb_st.specs.Compiled.{truth_said}
-use Rattle.fb_st.specs.Fitting.{spot, codes_said, arms_said, forks_said, codes_right, arms_right, forks_right, expr_of_truth, name_at, values_at}
+use Rattle.fb_types.specs.Bodies.{Counts}
+use Rattle.fb_st.specs.Fitting.{arms_said, forks_said, arms_right, forks_right}
 use Rattle.fb_st.proofs.compiled.CompiledStmt.TheLaws as stmt
 use Rattle.fb_st.proofs.compiled.CompiledChoice.TheLaws as choice
 use Rattle.fb_st.proofs.compiled.CompiledBranch.TheLaws as branch

@@ -1,13 +1,7 @@
-use Rattle.std.proofs.Common.{◌≡◌, ◌∙◌, ap, rules, to_z-of_z}
-use Rattle.std.specs.Prelude.{◌+ℤ◌, slice_get, slice_set}
+use Rattle.fb_st.proofs.lemmas.Common.{◌≡◌, ◌∙◌, ap, rules, to_z-of_z, ◌+ℤ◌, slice_get, slice_set, fits, whole, passed, types_in, word_at, name_at, values_at}
 use mir.Syntax.{w64}
 use mir.Val.{SFits}
-use Rattle.fb_types.specs.Values.{fits, whole}
-use Rattle.fb_types.specs.Bodies.{passed}
 use Rattle.fb_types.specs.declared.value.Value.TheVariants as value
-use Rattle.fb_st.specs.Frames.{types_in}
-use Rattle.fb_st.specs.Compiled.{word_at}
-use Rattle.fb_st.specs.Fitting.{name_at, values_at}
 use Rattle.fb_st.proofs.lemmas.Assigning.{advances_to, low_word, within_slot}
 use Rattle.fb_st.proofs.lemmas.CodeRuns.{first_read, first_set}
 use Rattle.fb_st.proofs.lemmas.Words.{word_read, word_type}

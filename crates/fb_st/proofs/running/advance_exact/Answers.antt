@@ -1,13 +1,7 @@
-use Rattle.std.proofs.Common.{sym, ◌∙◌, ap, rules, to_z-of_z}
-use Rattle.std.specs.Prelude.{◌+ℤ◌, slice_get, slice_set}
+use Rattle.fb_st.proofs.lemmas.Common.{sym, ◌∙◌, ap, rules, to_z-of_z, ◌+ℤ◌, slice_get, slice_set, err_from_is_err_and, fits, passed, types_in, name_at, ty_or, value_of_word, values_at}
 use mir.Syntax.{w64, w128}
 use mir.Val.{SFits}
-use Rattle.std.proofs.lemmas.Result.{err_from_is_err_and}
-use Rattle.fb_types.specs.Values.{fits}
-use Rattle.fb_types.specs.Bodies.{passed}
 use Rattle.fb_types.specs.declared.value.Value.TheVariants as value
-use Rattle.fb_st.specs.Frames.{types_in}
-use Rattle.fb_st.specs.Fitting.{name_at, ty_or, value_of_word, values_at}
 use Rattle.fb_st.proofs.lemmas.Assigning.{advances_not, advances_past, advances_to, whole_read, within_slot_there}
 use Rattle.fb_st.proofs.lemmas.CodeRuns.{first_read, first_set, within_there}
 use Rattle.fb_st.proofs.lemmas.Words.{word_type}

@@ -1,13 +1,7 @@
-use Rattle.std.proofs.Common.{◌≡◌, sym, ◌∙◌, ap, length, rules, to_z-of_z}
-use Rattle.std.proofs.lemmas.Result.{err_from_is_err_and}
+use Rattle.fb_st.proofs.lemmas.Common.{◌≡◌, sym, ◌∙◌, ap, length, rules, to_z-of_z, err_from_is_err_and, fits, as_whole, types_in, number_said, fits_number, values_at, name_at, ty_or, value_of_word, kinds_number, expr_of_number}
 use mir.Syntax.{w64, w128}
 use mir.Val.{SFits}
-use Rattle.fb_types.specs.Values.{fits}
 use Rattle.fb_types.specs.declared.value.Value.TheVariants as value
-use Rattle.fb_st.specs.Required.{as_whole}
-use Rattle.fb_st.specs.Frames.{types_in}
-use Rattle.fb_st.specs.Compiled.{number_said, fits_number}
-use Rattle.fb_st.specs.Fitting.{values_at, name_at, ty_or, value_of_word, kinds_number, expr_of_number}
 use Rattle.fb_st.proofs.lemmas.Comes.{both_true, number_comes}
 use Rattle.fb_st.proofs.lemmas.Assigning.{assign_writes, assign_refused, assign_stops, there}
 use Rattle.fb_st.proofs.running.assign_exact.Goals as goal

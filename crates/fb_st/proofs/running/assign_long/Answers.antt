@@ -1,10 +1,7 @@
-use Rattle.std.proofs.Common.{◌∙◌, ap, length, rules, to_z-of_z}
-use Rattle.std.specs.Prelude.{slice_get}
+use Rattle.fb_st.proofs.lemmas.Common.{◌∙◌, ap, length, rules, to_z-of_z, slice_get, as_whole, number_said, fits_number, right_number, kinds_number, expr_of_number}
 use mir.Syntax.{w64}
 use mir.Val.{SFits}
-use Rattle.fb_st.specs.Required.{as_whole}
-use Rattle.fb_st.specs.Compiled.{number_said, fits_number}
-use Rattle.fb_st.specs.Fitting.{is_long_type, right_number, kinds_number, expr_of_number}
+use Rattle.fb_st.specs.Fitting.{is_long_type}
 use Rattle.fb_st.proofs.lemmas.Comes.{both_true, number_comes}
 use Rattle.fb_st.proofs.lemmas.Assigning.{assign_writes, long_slot, long_slot_there}
 use Rattle.fb_st.proofs.running.assign_long.Goals as goal

@@ -1,12 +1,7 @@
-use Rattle.std.proofs.Common.{sym, ◌∙◌, ap, length, rules, to_z-of_z}
-use Rattle.std.specs.Prelude.{slice_get}
-use Rattle.std.proofs.lemmas.Result.{err_from_is_err_and}
+use Rattle.fb_st.proofs.lemmas.Common.{sym, ◌∙◌, ap, length, rules, to_z-of_z, slice_get, err_from_is_err_and, types_in, truth_said, fits_truth, values_at, name_at, is_truth_type, right_truth, kinds_truth, expr_of_truth}
 use mir.Syntax.{w64}
 use mir.Val.{SFits}
 use Rattle.fb_st.specs.Required.{as_bool}
-use Rattle.fb_st.specs.Frames.{types_in}
-use Rattle.fb_st.specs.Compiled.{truth_said, fits_truth}
-use Rattle.fb_st.specs.Fitting.{values_at, name_at, is_truth_type, right_truth, kinds_truth, expr_of_truth}
 use Rattle.fb_st.proofs.lemmas.Comes.{both_true, truth_comes}
 use Rattle.fb_st.proofs.lemmas.Assigning.{assign_writes, assign_stops, truth_slot, truth_slot_within}
 use Rattle.fb_st.proofs.running.assign_truth.Goals as goal

@@ -1,11 +1,7 @@
-use Rattle.std.proofs.Common.{◌∙◌, ap, length, rules, arith, to_z-of_z}
-use Rattle.std.specs.Prelude.{slice_get, ◌≤ℤ◌}
-use Rattle.std.proofs.lemmas.Int.{ints}
+use Rattle.fb_st.proofs.lemmas.Common.{◌∙◌, ap, length, rules, arith, to_z-of_z, slice_get, ints, as_whole, number_said, fits_number, is_within_type, right_number, kinds_number, expr_of_number}
+use Rattle.std.specs.Prelude.{◌≤ℤ◌}
 use mir.Syntax.{w64}
 use mir.Val.{SFits}
-use Rattle.fb_st.specs.Required.{as_whole}
-use Rattle.fb_st.specs.Compiled.{number_said, fits_number}
-use Rattle.fb_st.specs.Fitting.{is_within_type, right_number, kinds_number, expr_of_number}
 use Rattle.fb_st.proofs.lemmas.Comes.{both_true, number_comes}
 use Rattle.fb_st.proofs.lemmas.Assigning.{assign_writes, within_slot, within_slot_there}
 use Rattle.fb_st.proofs.running.assign_within.Goals as goal

@@ -1,8 +1,6 @@
-use Rattle.std.proofs.Common.{◌≡◌, ℤ, false, subst, rules, to_z-of_z}
-use Rattle.std.specs.Prelude.{IfSome}
+use Rattle.fb_types.proofs.Common.{◌≡◌, ℤ, false, subst, rules, to_z-of_z, IfSome, passed}
 use mir.Syntax.{w64}
 use mir.Val.{SFits}
-use Rattle.fb_types.specs.Bodies.{passed}
 use Rattle.fb_st.proofs.running.short_next.Goals as goal
 
 pub returns-clause-goes_on : goal.returns-clause-goes_on

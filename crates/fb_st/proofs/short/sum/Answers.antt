@@ -1,7 +1,5 @@
-use Rattle.std.proofs.Common.{◌≡◌, ◌∙◌, ◌^◌, ℤ, Bool, true, ◌&&◌, Option, Some, None, IfSome, Ok, refl, ap, subst, to_z-of_z, arith}
-use Rattle.std.specs.Prelude.{pos, neg_ℤ, int_le, int_lt, ◌+ℤ◌}
+use Rattle.fb_types.proofs.Common.{◌≡◌, ◌∙◌, ◌^◌, ℤ, Bool, true, ◌&&◌, Option, Some, None, IfSome, Ok, refl, ap, subst, to_z-of_z, arith, pos, neg_ℤ, int_le, int_lt, ◌+ℤ◌, ints}
 use Rattle.std.specs.Option.{SomeIff}
-use Rattle.std.proofs.lemmas.Int.{ints}
 use mir.Syntax.{w64}
 use mir.Val.{SFits}
 use Rattle.fb_types.specs.Values.{judged, within_signed}

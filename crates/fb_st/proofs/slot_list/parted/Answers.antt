@@ -1,7 +1,6 @@
-use Rattle.std.proofs.Common.{◌∙◌, refl, ap, rules, to_z-of_z}
+use Rattle.fb_st.proofs.lemmas.Common.{◌∙◌, refl, ap, rules, to_z-of_z, value_of_word}
 use mir.Syntax.{w64}
 use mir.Val.{SFits}
-use Rattle.fb_st.specs.Fitting.{value_of_word}
 use Rattle.fb_st.proofs.slot_list.parted.Goals as goal
 
 pub returns-in-Some : goal.returns-in-Some

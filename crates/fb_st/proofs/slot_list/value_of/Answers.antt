@@ -1,9 +1,6 @@
-use Rattle.std.proofs.Common.{◌≡◌, ◌∙◌, ◌==◌, ℤ, Bool, not, sym, ap, rules, arith}
-use Rattle.std.proofs.lemmas.Bool.Decides.{nat_tests}
-use Rattle.std.proofs.lemmas.Int.{ints}
+use Rattle.fb_types.proofs.Common.{◌≡◌, ◌∙◌, ◌==◌, ℤ, Bool, not, sym, ap, rules, arith, nat_tests, ints, Ty}
 use mir.Syntax.{w64}
 use mir.Val.{SFits, of_z}
-use Rattle.fb_types.specs.declared.value.Ty.{Ty}
 use Rattle.fb_types.specs.declared.value.Value.TheVariants as value
 use Rattle.fb_st.specs.Compiled.{truth_of_word}
 use Rattle.fb_st.specs.Fitting.{value_of_word}

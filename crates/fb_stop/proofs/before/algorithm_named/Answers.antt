@@ -1,8 +1,4 @@
-use Rattle.std.proofs.Common.{sym, ◌∙◌}
-use Rattle.std.specs.List.{find}
-use Rattle.std.proofs.lemmas.List.{at_drop_all}
-use Rattle.fb_types.specs.Names.{same_name}
-use Rattle.fb_types.specs.declared.library.Algorithm.{Algorithm}
+use Rattle.fb_types.proofs.Common.{sym, ◌∙◌, find, at_drop_all, same_name, Algorithm}
 use Rattle.fb_types.proofs.lemmas.lists.LoopSteps.{found_here, found_later}
 use Rattle.fb_stop.proofs.before.algorithm_named.Goals as goal
 

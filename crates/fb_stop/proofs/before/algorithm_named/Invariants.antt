@@ -1,6 +1,4 @@
-use Rattle.std.proofs.Common.{◌≡◌, drop}
-use Rattle.std.specs.List.{find}
-use Rattle.fb_types.specs.Names.{same_name}
+use Rattle.fb_types.proofs.Common.{◌≡◌, drop, find, same_name}
 use Rattle.fb_stop.proofs.before.algorithm_named.Given as goal
 
 abbrev pub invariant-loop-algorithm : goal.invariant-loop-algorithm

@@ -1,7 +1,4 @@
-use Rattle.std.proofs.Common.{List, sym, ◌∙◌, ap, subst}
-use Rattle.fb_types.specs.Names.{Name}
-use Rattle.fb_types.specs.Blocks.{variables_of}
-use Rattle.fb_types.specs.Repeated.{Twice}
+use Rattle.fb_types.proofs.Common.{List, sym, ◌∙◌, ap, subst, Name, variables_of, Twice}
 use Rattle.fb_st.specs.Frames.{declared_in, names_of, values_of}
 use Rattle.fb_stop.proofs.lemmas.copies.CopiedSlots.{all_copied, declared_copied, names_copied, values_copied}
 use Rattle.fb_stop.proofs.before.copy_of.Goals as goal

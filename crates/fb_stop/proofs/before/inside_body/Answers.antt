@@ -1,6 +1,4 @@
-use Rattle.std.proofs.Common.{◌≡◌, ◌≢◌, ◌-◌, ◌∙◌, ℕ, suc, None, sym, ap, subst, arith}
-use Rattle.fb_types.specs.Bodies.{Point}
-use Rattle.fb_types.specs.Syntax.{body_of}
+use Rattle.fb_types.proofs.Common.{◌≡◌, ◌≢◌, ◌-◌, ◌∙◌, ℕ, suc, None, sym, ap, subst, arith, Point, body_of}
 use Rattle.fb_st.specs.Flows.{point}
 use Rattle.fb_st.specs.Frames.{declared_in, types_in, values_of}
 use Rattle.fb_stop.specs.Blamed.{End, RunsAll, Stopped}

@@ -1,5 +1,4 @@
-use Rattle.std.proofs.Common.{◌∙◌, sym}
-use Rattle.std.proofs.lemmas.Option.{none-some}
+use Rattle.fb_types.proofs.Common.{◌∙◌, sym, none-some}
 use Rattle.fb_st.specs.Frames.{values_of}
 use Rattle.fb_stop.proofs.lemmas.operations.Insides.{in_guard}
 use Rattle.fb_stop.proofs.lemmas.numbers.NothingSaid.{guard_other, if_none_map, no_transition, none_after, nth_there, other_guard}

@@ -1,7 +1,4 @@
-use Rattle.std.proofs.Common.{List, None, subst}
-use Rattle.fb_types.specs.Bodies.{Point}
-use Rattle.fb_types.specs.Syntax.{body_of}
-use Rattle.fb_types.specs.Values.{Types}
+use Rattle.fb_types.proofs.Common.{List, None, subst, Point, body_of, Types}
 use Rattle.fb_types.specs.declared.text.Stmt.{Stmt}
 use Rattle.fb_st.specs.Flows.{all_of, point}
 use Rattle.fb_st.specs.Frames.{declared_in, types_in}

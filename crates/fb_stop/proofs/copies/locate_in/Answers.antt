@@ -1,8 +1,4 @@
-use Rattle.std.proofs.Common.{List, Option, subst}
-use Rattle.std.proofs.lemmas.Result.{IfOk-weaker}
-use Rattle.fb_types.specs.Charts.{Position}
-use Rattle.fb_types.specs.Names.{Name}
-use Rattle.fb_types.specs.Numbers.{event_at}
+use Rattle.fb_types.proofs.Common.{List, Option, subst, IfOk-weaker, Position, Name, event_at}
 use Rattle.fb_types.specs.declared.run.Emission.{Emission}
 use Rattle.fb_ecc.specs.Indexes.{index}
 use Rattle.fb_stop.specs.Copies.{HasLocated, begins_at}

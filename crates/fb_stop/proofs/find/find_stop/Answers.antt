@@ -1,5 +1,4 @@
-use Rattle.std.proofs.Common.{Option, ◌≤◌, ◌^◌}
-use Rattle.std.proofs.lemmas.Result.{IfOk-weaker}
+use Rattle.fb_types.proofs.Common.{Option, ◌≤◌, ◌^◌, IfOk-weaker}
 use Rattle.fb_stop.specs.Found.{Finds}
 use Rattle.fb_stop.specs.declared.found.FoundStop.{FoundStop}
 use Rattle.fb_stop.proofs.find.find_stop.Goals as goal

@@ -1,22 +1,15 @@
 -- Which transition's trial fails.
-use Rattle.std.proofs.Common.{◌≡◌, ℕ, ℤ, zero, suc, ◌-◌, ◌<◌, Bool, true, false, List, [], ◌∷◌, take, Option, Some, None, Result, Ok, Err, refl, sym, ap, subst, ◌∙◌, arith}
-use Rattle.std.specs.Prelude.{pos, neg_ℤ, ◌+ℤ◌, ◌-ℤ◌, ◌*ℤ◌, int_div, if◌then◌else◌}
-use Rattle.fb_types.specs.Names.{Name}
-use Rattle.fb_types.specs.Syntax.{Expr, Whole, Truth, Variable, Unary, Binary, Call, Exprs, no_expr, then_exprs, expr_of}
-use Rattle.fb_types.specs.Values.{Values, and_then, absolute, binary_value, function_named, function_value, judged, modulus, quotient, same_whole, truth, unary_value, value_if_known, value_of, values_of, whole, within_signed}
-use Rattle.fb_types.specs.Charts.{NoneClears, Fails, by_condition, guard_value, is_present, is_true, trial_of}
-use Rattle.fb_types.specs.declared.function.Function.{Function}
+use Rattle.fb_types.proofs.Common.{◌≡◌, ℕ, ℤ, zero, suc, ◌-◌, ◌<◌, Bool, true, false, List, [], ◌∷◌, take, Option, Some, None, Result, Ok, Err, refl, sym, ap, subst, ◌∙◌, arith, pos, neg_ℤ, ◌+ℤ◌, ◌-ℤ◌, if◌then◌else◌, Name, Binary, expr_of, Values, and_then, binary_value, function_named, truth, unary_value, value_if_known, value_of, values_of, whole, NoneClears, Fails, by_condition, is_true, trial_of, Function, Transition, BinaryOperator, UnaryOperator, Reason, Value}
+use Rattle.std.specs.Prelude.{◌*ℤ◌, int_div}
+use Rattle.fb_types.specs.Syntax.{Expr, Whole, Truth, Variable, Unary, Call, Exprs, no_expr, then_exprs}
+use Rattle.fb_types.specs.Values.{absolute, function_value, judged, modulus, quotient, same_whole, within_signed}
+use Rattle.fb_types.specs.Charts.{guard_value, is_present}
 use Rattle.fb_types.specs.declared.function.Function.TheVariants.{Min, Max, Abs, Limit, Sel}
 use Rattle.fb_types.specs.declared.library.Condition.{Condition}
-use Rattle.fb_types.specs.declared.library.Transition.{Transition}
-use Rattle.fb_types.specs.declared.text.BinaryOperator.{BinaryOperator}
 use Rattle.fb_types.specs.declared.text.BinaryOperator.TheVariants.{Or, Xor, And, Equal, NotEqual, Less, Greater, LessOrEqual, GreaterOrEqual, Add, Subtract, Multiply, Divide, Modulo}
 use Rattle.fb_types.specs.declared.text.Expr as read
-use Rattle.fb_types.specs.declared.text.UnaryOperator.{UnaryOperator}
 use Rattle.fb_types.specs.declared.text.UnaryOperator.TheVariants.{Negate, Not}
-use Rattle.fb_types.specs.declared.value.Reason.{Reason}
 use Rattle.fb_types.specs.declared.value.Reason.TheVariants as reason
-use Rattle.fb_types.specs.declared.value.Value.{Value}
 use Rattle.fb_types.specs.declared.value.Value.TheVariants as value
 use Rattle.fb_stop.specs.Links.{failing_index}
 use Rattle.fb_stop.specs.Sites.{FailsAt}

@@ -1,19 +1,9 @@
 -- Where no operation is answered, no expression of the statement of the number lacks a value for the reason.
-use Rattle.std.proofs.Common.{◌≡◌, ◌∙◌, ◌<◌, ◌≤◌, ◌⊎◌, inl, inr, ℕ, max, min, arith, List, Option, Some, IfNone, take, length, refl, sym, ap, subst}
-use Rattle.std.specs.Prelude.{◌-◌, ◌^◌, slice_get}
-use Rattle.std.proofs.lemmas.Option.{slice_get_within}
-use Rattle.fb_types.specs.Names.{Name}
-use Rattle.fb_types.specs.Syntax.{Expr as Said, Stmts, stmt_of}
-use Rattle.fb_types.specs.Values.{Values}
-use Rattle.fb_types.specs.declared.text.Branch.{Branch, out-Branch}
-use Rattle.fb_types.specs.declared.text.Choice.{Choice, out-Choice}
-use Rattle.fb_types.specs.declared.text.Expr.{Expr}
-use Rattle.fb_types.specs.declared.text.Label.{Label}
+use Rattle.fb_types.proofs.Common.{◌≡◌, ◌∙◌, ◌<◌, ◌≤◌, ◌⊎◌, inl, inr, ℕ, max, min, arith, List, Option, Some, IfNone, take, length, refl, sym, ap, subst, ◌-◌, ◌^◌, slice_get, slice_get_within, Name, Stmts, stmt_of, Values, Branch, out-Branch, Choice, out-Choice, Expr, Label, Stmt-F, Reason}
+use Rattle.fb_types.specs.Syntax.{Expr as Said}
 use Rattle.fb_types.specs.declared.text.Stmt as read
-use Rattle.fb_types.specs.declared.text.Stmt.TheOpen.{Stmt-F}
 use Rattle.fb_types.specs.declared.text.Stmt.TheVariants as variants
 use Rattle.fb_types.specs.declared.text.Stmt.TheViews.{out-Stmt, out-roll-Stmt}
-use Rattle.fb_types.specs.declared.value.Reason.{Reason}
 use Rattle.fb_st.specs.Flows.{all_of, branch_of, branches_of, choice_of, choices_of}
 use Rattle.fb_st.proofs.lemmas.Runs.{branch_says, choice_says}
 use Rattle.fb_stop.specs.Numbers.{IsReached, next, after, after_all, after_branches, after_choices}

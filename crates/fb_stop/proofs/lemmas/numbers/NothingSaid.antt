@@ -1,24 +1,9 @@
 -- Where no statement or no operation is said: then no step was left.
-use Rattle.std.proofs.Common.{◌≡◌, ◌∙◌, ◌∷◌, ◌-◌, ◌<◌, ◌≤◌, [], ℕ, zero, suc, Bool, true, false, cond, List, Option, Some, None, Result, Ok, Err, map, length, refl, sym, ap, subst, inl, inr, arith}
-use Rattle.std.specs.Prelude.{IfNone, option_map, slice_get, unwrap_or, if◌then◌else◌}
-use Rattle.std.proofs.lemmas.Option.{slice_get-map}
-use Rattle.std.specs.List.{filter, find, list_all}
-use Rattle.fb_types.specs.Blocks.{among, named, types_of}
-use Rattle.fb_types.specs.Bodies.{End, Point, RunsAll, RunsBody, Went, Left, Returned, Stopped, ended}
-use Rattle.fb_types.specs.Charts.{Acts, Fails, Halts, Moving, NoneClears, Performs, Position, actions_of, algorithm_of, at_point, by_condition, emitting, guard_value, is_present, is_true, leaving, trial_of}
-use Rattle.fb_types.specs.Names.{Name, same_name}
-use Rattle.fb_types.specs.Syntax.{Stmts, body_of, expr_of, no_stmt}
-use Rattle.fb_types.specs.Values.{Types, Values, and_then, truth, value_of}
-use Rattle.fb_types.specs.declared.library.Action.{Action}
-use Rattle.fb_types.specs.declared.library.Algorithm.{Algorithm}
-use Rattle.fb_types.specs.declared.library.BasicType.{BasicType}
+use Rattle.fb_types.proofs.Common.{◌≡◌, ◌∙◌, ◌∷◌, ◌-◌, ◌<◌, ◌≤◌, [], ℕ, zero, suc, Bool, true, false, cond, List, Option, Some, None, Result, Ok, Err, map, length, refl, sym, ap, subst, inl, inr, arith, IfNone, option_map, slice_get, unwrap_or, if◌then◌else◌, slice_get-map, filter, find, list_all, among, named, types_of, End, Point, RunsAll, RunsBody, Went, Left, Returned, Stopped, ended, Acts, Fails, Halts, Moving, NoneClears, Performs, Position, actions_of, algorithm_of, at_point, by_condition, emitting, is_true, leaving, trial_of, Name, same_name, Stmts, body_of, expr_of, no_stmt, Types, Values, and_then, truth, value_of, Action, Algorithm, BasicType, Transition, Expr, Reason, Value}
+use Rattle.fb_types.specs.Charts.{guard_value, is_present}
 use Rattle.fb_types.specs.declared.library.Condition.{Condition}
 use Rattle.fb_types.specs.declared.library.State.{State}
-use Rattle.fb_types.specs.declared.library.Transition.{Transition}
 use Rattle.fb_types.specs.declared.text.Body.{Body}
-use Rattle.fb_types.specs.declared.text.Expr.{Expr}
-use Rattle.fb_types.specs.declared.value.Reason.{Reason}
-use Rattle.fb_types.specs.declared.value.Value.{Value}
 use Rattle.fb_types.proofs.lemmas.determined.BodyLaws.{all-one}
 use Rattle.fb_ecc.specs.Indexes.{IsStateOf, state_at}
 use Rattle.fb_ecc.specs.Sound.{Each, IsSound}

@@ -1,16 +1,9 @@
 -- The first part without a value gives the reason of the whole.
-use Rattle.std.proofs.Common.{ℤ, Bool, ◌≡◌, ◌<◌, ℕ, zero, suc, List, [], ◌∷◌, Option, Some, None, Result, Ok, Err, IfNone, ◌⊎◌, inl, inr, map, refl, sym, ◌∙◌, ap, subst, arith}
-use Rattle.std.specs.Prelude.{slice_get}
-use Rattle.fb_types.specs.Names.{Name}
-use Rattle.fb_types.specs.Syntax.{Unary, expr_of, exprs}
-use Rattle.fb_types.specs.Values.{Values, and_then, binary_value, function_named, unary_value, value_if_known, value_of, values_of}
-use Rattle.fb_types.specs.declared.text.BinaryOperator.{BinaryOperator}
+use Rattle.fb_types.proofs.Common.{ℤ, Bool, ◌≡◌, ◌<◌, ℕ, zero, suc, List, [], ◌∷◌, Option, Some, None, Result, Ok, Err, IfNone, ◌⊎◌, inl, inr, map, refl, sym, ◌∙◌, ap, subst, arith, slice_get, Name, expr_of, exprs, Values, and_then, binary_value, function_named, unary_value, value_if_known, value_of, values_of, BinaryOperator, UnaryOperator, Reason, Value}
+use Rattle.fb_types.specs.Syntax.{Unary}
 use Rattle.fb_types.specs.declared.text.Expr as read
 use Rattle.fb_types.specs.declared.text.Expr.{fold-roll-Expr}
 use Rattle.fb_types.specs.declared.text.Expr.TheVariants as variant
-use Rattle.fb_types.specs.declared.text.UnaryOperator.{UnaryOperator}
-use Rattle.fb_types.specs.declared.value.Reason.{Reason}
-use Rattle.fb_types.specs.declared.value.Value.{Value}
 use Rattle.fb_types.specs.declared.value.Value.TheVariants as value
 use Rattle.fb_st.proofs.lemmas.Says.{binary_is, call_comes, group_comes, truth_comes, variable_comes, whole_comes}
 use Rattle.fb_stop.specs.Operations.{HasNoValue, HasValue, IsCallOtherwise, IsFirstWithout, IsOtherwise, IsWithout}

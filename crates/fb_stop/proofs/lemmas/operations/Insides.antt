@@ -1,19 +1,6 @@
 -- What is inside an action and a guard: the algorithm, its statement, and the operation.
-use Rattle.std.proofs.Common.{◌≡◌, ◌∙◌, ◌∷◌, [], ℕ, zero, suc, Bool, true, false, cond, List, Option, Some, None, IfSome, take, length, sym, ap, subst}
-use Rattle.std.specs.Prelude.{slice_get, option_map, unwrap_or}
-use Rattle.std.specs.List.{filter, find}
-use Rattle.std.proofs.lemmas.Option.{slice_get-map}
-use Rattle.fb_types.specs.Blocks.{types_of}
-use Rattle.fb_types.specs.Charts.{actions_of, leaving}
-use Rattle.fb_types.specs.Names.{Name, same_name}
-use Rattle.fb_types.specs.Values.{Types, Values}
-use Rattle.fb_types.specs.declared.library.Action.{Action}
-use Rattle.fb_types.specs.declared.library.Algorithm.{Algorithm}
-use Rattle.fb_types.specs.declared.library.BasicType.{BasicType}
+use Rattle.fb_types.proofs.Common.{◌≡◌, ◌∙◌, ◌∷◌, [], ℕ, zero, suc, Bool, true, false, cond, List, Option, Some, None, IfSome, take, length, sym, ap, subst, slice_get, option_map, unwrap_or, filter, find, slice_get-map, types_of, actions_of, leaving, Name, same_name, Types, Values, Action, Algorithm, BasicType, Transition, Expr, Reason}
 use Rattle.fb_types.specs.declared.library.State.{State}
-use Rattle.fb_types.specs.declared.library.Transition.{Transition}
-use Rattle.fb_types.specs.declared.text.Expr.{Expr}
-use Rattle.fb_types.specs.declared.value.Reason.{Reason}
 use Rattle.fb_st.specs.Frames.{declared_in, types_in, values_of}
 use Rattle.fb_st.specs.declared.frame.Slot.{Slot}
 use Rattle.fb_ecc.specs.Indexes.{state_at}

@@ -1,12 +1,5 @@
 -- How a run that was looked at event by event ends.
-use Rattle.std.proofs.Common.{◌≡◌, ◌<◌, ℕ, List, [], ◌∷◌, Some, None, refl, sym, ap, subst, ◌∙◌}
-use Rattle.std.specs.Prelude.{option_map}
-use Rattle.fb_types.specs.Headline.{Inputs, system_of, stimuli_of}
-use Rattle.fb_types.specs.Keys.{NoneBelow, Precedes}
-use Rattle.fb_types.specs.Machines.{Each}
-use Rattle.fb_types.specs.Simulation.{AtHorizon, Ending, RestsAt, Taken, TakesLeast, ending_by, ending_of, last, opening}
-use Rattle.fb_types.specs.States.{Config}
-use Rattle.fb_types.specs.declared.key.Key.{Key}
+use Rattle.fb_types.proofs.Common.{◌≡◌, ◌<◌, ℕ, List, [], ◌∷◌, Some, None, refl, sym, ap, subst, ◌∙◌, option_map, Inputs, system_of, stimuli_of, NoneBelow, Precedes, Each, AtHorizon, Ending, RestsAt, Taken, TakesLeast, ending_by, ending_of, last, opening, Config, Key}
 use Rattle.fb_types.specs.declared.run.Event.{Event}
 use Rattle.fb_agenda.specs.Agendas.{Contents, waiting}
 use Rattle.fb_net.specs.Events.{event_of}

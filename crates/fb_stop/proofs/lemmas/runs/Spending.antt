@@ -1,17 +1,7 @@
 -- How the steps of a tick add up.
-use Rattle.std.proofs.Common.{◌≡◌, ◌<◌, ◌∷◌, ◌++◌, ◌∙◌, ℕ, Bool, true, false, List, [], Option, Some, None, length, ◌-◌, ◌+◌, ◌^◌, min, get_or, refl, sym, ap, subst, arith}
-use Rattle.std.specs.Prelude.{slice_get, slice_set, option_map}
-use Rattle.std.proofs.lemmas.List.{length-set}
-use Rattle.std.proofs.lemmas.Option.{slice_get_read}
-use Rattle.fb_types.specs.Headline.{Inputs, system_of, stimuli_of}
-use Rattle.fb_types.specs.Keys.{Precedes}
-use Rattle.fb_types.specs.Simulation.{Taken, after, last, opening}
-use Rattle.fb_types.specs.States.{Config, Event, Meter, State}
+use Rattle.fb_types.proofs.Common.{◌≡◌, ◌<◌, ◌∷◌, ◌++◌, ◌∙◌, ℕ, Bool, true, false, List, [], Option, Some, None, length, ◌-◌, ◌+◌, ◌^◌, min, get_or, refl, sym, ap, subst, arith, slice_get, slice_set, option_map, length-set, slice_get_read, Inputs, system_of, stimuli_of, Precedes, Taken, after, last, opening, Config, Meter, State, System, begun, Key, Reason}
+use Rattle.fb_types.specs.States.{Event}
 use Rattle.fb_types.specs.States as model
-use Rattle.fb_types.specs.Systems.{System}
-use Rattle.fb_types.specs.Takes.{begun}
-use Rattle.fb_types.specs.declared.key.Key.{Key}
-use Rattle.fb_types.specs.declared.value.Reason.{Reason}
 use Rattle.fb_types.proofs.lemmas.lists.ByIndex.{element_at}
 use Rattle.fb_types.specs.declared.run.Event as run
 use Rattle.fb_agenda.specs.Agendas.{Contents, waiting}

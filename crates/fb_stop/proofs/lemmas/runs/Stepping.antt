@@ -1,29 +1,10 @@
 -- The copies after an event, and where it stops.
-use Rattle.std.proofs.Common.{◌≡◌, ◌≢◌, ℕ, zero, suc, ◌<◌, ⊎_elim, Bool, true, false, cond, List, [], ◌∷◌, length, map, Option, Some, None, refl, sym, ap, subst, ◌∙◌, arith}
-use Rattle.std.specs.Prelude.{IfNone, IfSome, slice_get, slice_set}
-use Rattle.std.proofs.lemmas.Bool.{cases_eq}
-use Rattle.std.proofs.lemmas.List.{length-set}
-use Rattle.std.proofs.lemmas.Option.{same_Some, slice_get_within}
-use Rattle.fb_types.specs.Blocks.{Basic, Composite, Event, Kind, bound, inputs_with}
-use Rattle.fb_types.specs.Headline.{Inputs, system_of}
-use Rattle.fb_types.specs.Names.{Port}
-use Rattle.fb_types.specs.Charts.{ChartReacts}
-use Rattle.fb_types.specs.Numbers.{event_at, line_of, path_at, port_of, ports_at}
-use Rattle.fb_types.specs.declared.library.EventPort.{EventPort}
-use Rattle.fb_types.specs.declared.library.Ports.{Ports}
-use Rattle.fb_types.specs.declared.value.Reason.TheVariants.{Steps}
+use Rattle.fb_types.proofs.Common.{◌≡◌, ◌≢◌, ℕ, zero, suc, ◌<◌, ⊎_elim, Bool, true, false, cond, List, [], ◌∷◌, length, map, Option, Some, None, refl, sym, ap, subst, ◌∙◌, arith, IfNone, IfSome, slice_get, slice_set, cases_eq, length-set, same_Some, slice_get_within, Basic, Composite, Event, Kind, bound, inputs_with, Inputs, system_of, Port, ChartReacts, event_at, line_of, path_at, port_of, ports_at, EventPort, Ports, Steps, Block, Meter, State, System, Effect, Takes, agenda_after, begun, Key, BasicType, Line, Target, Reason}
 use Rattle.fb_types.proofs.lemmas.lists.ByIndex.{element_at}
 use Rattle.fb_net.specs.Worlds.{BasicRepresents}
 use Rattle.fb_net.proofs.lemmas.values.Sampling.{ports-of_kind}
-use Rattle.fb_types.specs.States.{Block, Event as AnEvent, Meter, State}
+use Rattle.fb_types.specs.States.{Event as AnEvent}
 use Rattle.fb_types.specs.States as model
-use Rattle.fb_types.specs.Systems.{System}
-use Rattle.fb_types.specs.Takes.{Effect, Takes, agenda_after, begun}
-use Rattle.fb_types.specs.declared.key.Key.{Key}
-use Rattle.fb_types.specs.declared.library.BasicType.{BasicType}
-use Rattle.fb_types.specs.declared.run.Line.{Line}
-use Rattle.fb_types.specs.declared.run.Target.{Target}
-use Rattle.fb_types.specs.declared.value.Reason.{Reason}
 use Rattle.fb_ecc.specs.declared.state.BasicState.{BasicState}
 use Rattle.fb_net.specs.declared.resource.Forest.{Forest}
 use Rattle.fb_resource.specs.Counts.{meter_of}

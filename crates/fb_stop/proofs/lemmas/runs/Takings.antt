@@ -1,23 +1,8 @@
 -- What taking one event does to the memory of a basic block.
-use Rattle.std.proofs.Common.{◌≡◌, ℕ, zero, suc, Bool, true, false, cond, List, [], ◌∷◌, map, Option, Some, None, refl, sym, ap, subst, ◌∙◌}
-use Rattle.std.specs.Prelude.{if◌then◌else◌}
-use Rattle.std.proofs.lemmas.Option.{same_Some}
-use Rattle.fb_types.specs.Blocks.{Basic, Composite, Event, Kind, bound, inputs_with, is_event_input, ports_of}
-use Rattle.fb_types.specs.Charts.{ChartReacts, Position}
+use Rattle.fb_types.proofs.Common.{◌≡◌, ℕ, zero, suc, Bool, true, false, cond, List, [], ◌∷◌, map, Option, Some, None, refl, sym, ap, subst, ◌∙◌, if◌then◌else◌, same_Some, Basic, Composite, Event, Kind, bound, inputs_with, is_event_input, ports_of, ChartReacts, Position, Path, Port, same_path, Outcome, Reacts, ReactsAt, World, answered, crossing_in, crossing_out, emissions, expires, memory_of, remembered, sampled, settled, silent, start_of, state_of, taking, with_values, Block, InState, Meter, State, Stimulated, Expired, Arrived, Raised, path_of, System, Effect, Takes, TakesWith, begun, effect_of, world_of, Values, EventKind, Key, BasicType, Ports, Reason, Steps}
 use Rattle.fb_types.specs.EventBlocks as blocks
-use Rattle.fb_types.specs.Names.{Path, Port, same_path}
 use Rattle.fb_types.specs.Posted.{emission_line}
-use Rattle.fb_types.specs.Reactions.{Outcome, Reacts, ReactsAt, World, answered, crossing_in, crossing_out, emissions, expires, memory_of, remembered, sampled, settled, silent, start_of, state_of, taking, with_values}
-use Rattle.fb_types.specs.States.{Block, Event as AnEvent, InState, Line, Memory, Meter, State, Stimulated, Expired, Arrived, Raised, path_of}
-use Rattle.fb_types.specs.Systems.{System}
-use Rattle.fb_types.specs.Takes.{Effect, Takes, TakesWith, begun, effect_of, world_of}
-use Rattle.fb_types.specs.Values.{Values}
-use Rattle.fb_types.specs.declared.event_kind.EventKind.{EventKind}
-use Rattle.fb_types.specs.declared.key.Key.{Key}
-use Rattle.fb_types.specs.declared.library.BasicType.{BasicType}
-use Rattle.fb_types.specs.declared.library.Ports.{Ports}
-use Rattle.fb_types.specs.declared.value.Reason.{Reason}
-use Rattle.fb_types.specs.declared.value.Reason.TheVariants.{Steps}
+use Rattle.fb_types.specs.States.{Event as AnEvent, Line, Memory}
 use Rattle.fb_types.proofs.lemmas.names.PathLaws.{same_path_is, same_path_itself}
 use Rattle.fb_types.proofs.lemmas.events.ReactionLaws.{emitted_all-lines, emitted_all-publishes, emitted_all-stop}
 use Rattle.fb_laws.proofs.lemmas.takings.OneBlockChanges.{reacts_stays}

@@ -1,7 +1,4 @@
-use Rattle.std.proofs.Common.{◌≡◌, ◌∙◌, ℕ, List, Some, map, take, refl, sym, ap, subst}
-use Rattle.std.specs.Prelude.{slice_get}
-use Rattle.std.proofs.lemmas.Option.{slice_get-get_or}
-use Rattle.fb_types.specs.Values.{Values}
+use Rattle.fb_types.proofs.Common.{◌≡◌, ◌∙◌, ℕ, List, Some, map, take, refl, sym, ap, subst, slice_get, slice_get-get_or, Values}
 use Rattle.fb_types.specs.declared.text.Expr as read
 use Rattle.fb_st.specs.Frames.{values_of}
 use Rattle.fb_stop.specs.Numbers.{next}

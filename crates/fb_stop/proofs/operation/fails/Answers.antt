@@ -1,9 +1,6 @@
-use Rattle.std.proofs.Common.{◌≡◌, ◌∙◌, Result, Ok, Err, sym, ap}
-use Rattle.std.proofs.lemmas.Bool.{false≢true}
+use Rattle.fb_types.proofs.Common.{◌≡◌, ◌∙◌, Result, Ok, Err, sym, ap, false≢true, Reason, Value}
 use denote.Enum.Bare.{same_false, same_true}
 use Rattle.fb_types.specs.contracts.value.Reason.{the_type}
-use Rattle.fb_types.specs.declared.value.Reason.{Reason}
-use Rattle.fb_types.specs.declared.value.Value.{Value}
 use Rattle.fb_stop.proofs.operation.fails.Goals as goal
 
 not_both : (v : Value) (r : Reason) → ◌≡◌ {A = Result Value Reason} (Ok v) (Err r) → ⊥

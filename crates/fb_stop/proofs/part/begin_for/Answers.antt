@@ -1,8 +1,4 @@
-use Rattle.std.proofs.Common.{List, suc, subst, sym, ◌∙◌, refl}
-use Rattle.std.proofs.lemmas.Result.{err_from_is_err_and}
-use Rattle.fb_types.specs.Names.{Name}
-use Rattle.fb_types.specs.Syntax.{For, expr_of, step_of}
-use Rattle.fb_types.specs.Values.{Types, whole}
+use Rattle.fb_types.proofs.Common.{List, suc, subst, sym, ◌∙◌, refl, err_from_is_err_and, Name, For, expr_of, step_of, Types, whole}
 use Rattle.fb_types.specs.declared.value.Reason.TheVariants as reason
 use Rattle.fb_st.specs.declared.frame.Slot.{Slot}
 use Rattle.fb_st.specs.Frames.{declared_in, types_in, values_of}

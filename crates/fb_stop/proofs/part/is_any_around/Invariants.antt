@@ -1,6 +1,4 @@
-use Rattle.std.proofs.Common.{◌≡◌, ◌&&◌, drop}
-use Rattle.std.specs.Prelude.{int_le}
-use Rattle.std.specs.List.{list_any}
+use Rattle.fb_types.proofs.Common.{◌≡◌, ◌&&◌, drop, int_le, list_any}
 use Rattle.fb_stop.proofs.part.is_any_around.Given as goal
 
 abbrev pub invariant-loop-label : goal.invariant-loop-label

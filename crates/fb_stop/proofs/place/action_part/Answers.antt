@@ -1,6 +1,4 @@
-use Rattle.std.proofs.Common.{Option, refl, sym, subst}
-use Rattle.fb_types.specs.Names.{Name}
-use Rattle.fb_types.specs.declared.library.Action.{Action}
+use Rattle.fb_types.proofs.Common.{Option, refl, sym, subst, Name, Action}
 use Rattle.fb_types.specs.declared.library.State.{State}
 use Rattle.fb_read_positions.specs.declared.position.BasicPart.{BasicPart}
 use Rattle.fb_read_positions.specs.declared.position.BasicPart.TheVariants as part

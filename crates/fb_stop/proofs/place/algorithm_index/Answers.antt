@@ -1,7 +1,4 @@
-use Rattle.std.proofs.Common.{◌≡◌, ◌∙◌, ℕ, List, Some, sym, ap, subst}
-use Rattle.std.specs.Prelude.{slice_get}
-use Rattle.std.proofs.lemmas.Option.{slice_get-get_or}
-use Rattle.fb_types.specs.declared.library.Algorithm.{Algorithm}
+use Rattle.fb_types.proofs.Common.{◌≡◌, ◌∙◌, ℕ, List, Some, sym, ap, subst, slice_get, slice_get-get_or, Algorithm}
 use Rattle.fb_stop.proofs.place.algorithm_index.Goals as goal
 
 pub returns-then-is : goal.returns-then-is

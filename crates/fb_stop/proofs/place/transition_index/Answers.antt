@@ -1,10 +1,5 @@
-use Rattle.std.proofs.Common.{◌≡◌, ◌≢◌, ◌<◌, ◌+◌, ◌-◌, ◌∙◌, ℕ, Bool, true, false, cond, List, Some, length, take, get_or, sym, ap, subst, arith}
-use Rattle.std.specs.Prelude.{slice_get}
-use Rattle.std.specs.List.{filter}
+use Rattle.fb_types.proofs.Common.{◌≡◌, ◌≢◌, ◌<◌, ◌+◌, ◌-◌, ◌∙◌, ℕ, Bool, true, false, cond, List, Some, length, take, get_or, sym, ap, subst, arith, slice_get, filter, slice_get-get_or, same_name, Transition}
 use Rattle.std.proofs.lemmas.List.Filters.{length-filter_more}
-use Rattle.std.proofs.lemmas.Option.{slice_get-get_or}
-use Rattle.fb_types.specs.Names.{same_name}
-use Rattle.fb_types.specs.declared.library.Transition.{Transition}
 use Rattle.fb_stop.proofs.place.transition_index.Goals as goal
 use Rattle.fb_stop.proofs.place.transition_index.Goals.{then-is+else-left-eq0, else-is}
 

@@ -1,6 +1,4 @@
-use Rattle.std.proofs.Common.{◌≡◌, ◌+◌, length, take}
-use Rattle.std.specs.List.{filter}
-use Rattle.fb_types.specs.Names.{same_name}
+use Rattle.fb_types.proofs.Common.{◌≡◌, ◌+◌, length, take, filter, same_name}
 use Rattle.fb_stop.proofs.place.transition_index.Given as goal
 
 abbrev pub invariant-loop-index : goal.invariant-loop-index

@@ -1,11 +1,7 @@
-use Rattle.std.proofs.Common.{◌∙◌, ℕ, List, refl, sym, ap, subst}
-use Rattle.std.specs.Prelude.{IfSome, option_map}
-use Rattle.fb_types.specs.Charts.{leaving}
-use Rattle.fb_types.specs.Numbers.{event_at}
+use Rattle.fb_types.proofs.Common.{◌∙◌, ℕ, List, refl, sym, ap, subst, IfSome, option_map, leaving, event_at, Values}
 use Rattle.fb_st.specs.Frames.{values_of}
 use Rattle.fb_st.specs.declared.frame.Slot.{Slot}
 use Rattle.fb_ecc.specs.Indexes.{index, state_at}
-use Rattle.fb_types.specs.Values.{Values}
 use Rattle.fb_stop.specs.Sites.{FailsAt, FailsInGuard, IsGuardOtherwise}
 use Rattle.fb_stop.proofs.lemmas.copies.Failing.{fails_at}
 use Rattle.fb_stop.proofs.lemmas.numbers.NothingSaid.{guard_alone, if_none_map}

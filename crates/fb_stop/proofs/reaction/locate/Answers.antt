@@ -1,8 +1,4 @@
-use Rattle.std.proofs.Common.{◌≡◌, ◌∙◌, zero, ℕ, None, ap, subst}
-use Rattle.std.specs.Prelude.{option_map}
-use Rattle.fb_types.specs.Charts.{ChartReacts, Position}
-use Rattle.fb_types.specs.Numbers.{event_at}
-use Rattle.fb_types.specs.Values.{Values}
+use Rattle.fb_types.proofs.Common.{◌≡◌, ◌∙◌, zero, ℕ, None, ap, subst, option_map, ChartReacts, Position, event_at, Values}
 use Rattle.fb_st.specs.Frames.{values_of}
 use Rattle.fb_ecc.specs.Indexes.{index, sampled}
 use Rattle.fb_stop.specs.Links.{GoesOn}

@@ -1,7 +1,4 @@
-use Rattle.std.proofs.Common.{◌<◌, length, IfSome, None}
-use Rattle.std.specs.Prelude.{option_map}
-use Rattle.fb_types.specs.Charts.{ChartReacts, Position}
-use Rattle.fb_types.specs.Numbers.{event_at}
+use Rattle.fb_types.proofs.Common.{◌<◌, length, IfSome, None, option_map, ChartReacts, Position, event_at}
 use Rattle.fb_st.specs.Frames.{values_of}
 use Rattle.fb_ecc.specs.Indexes.{IsBlockOf, index, sampled}
 use Rattle.fb_ecc.specs.Links.{Chain}

@@ -1,5 +1,4 @@
-use Rattle.std.proofs.Common.{◌≡◌, ◌≤◌, take, None}
-use Rattle.fb_types.specs.Charts.{Acts, actions_of}
+use Rattle.fb_types.proofs.Common.{◌≡◌, ◌≤◌, take, None, Acts, actions_of}
 use Rattle.fb_ecc.specs.Indexes.{IsBlockOf, index, state_at}
 use Rattle.fb_stop.proofs.reaction.perform.Given as goal
 

@@ -1,11 +1,8 @@
-use Rattle.std.proofs.Common.{◌≡◌, ◌≤◌, ◌*◌, ◌+◌, max, drop, false, Some}
+use Rattle.fb_types.proofs.Common.{◌≡◌, ◌≤◌, ◌*◌, ◌+◌, max, drop, false, Some, expr_of, whole, passed}
 use denote.Param.Weighed.{most}
 use Rattle.fb_types.proofs.text.Branch.TheLaws as branch
 use Rattle.fb_types.proofs.text.Choice.TheLaws as choice
 use Rattle.fb_types.proofs.text.Stmt.TheLaws as stmt
-use Rattle.fb_types.specs.Syntax.{expr_of}
-use Rattle.fb_types.specs.Values.{whole}
-use Rattle.fb_types.specs.Bodies.{passed}
 use Rattle.fb_st.specs.Frames.{declared_in, types_in, values_of}
 use Rattle.fb_st.specs.Flows.{point, all_of, choices_of, branches_of}
 use Rattle.fb_st.specs.Known.{AllKnown, ChoicesKnown, BranchesKnown}

@@ -1,5 +1,4 @@
-use Rattle.std.proofs.Common.{◌≡◌, ◌∙◌, ℕ, Option, Some, None, refl}
-use Rattle.std.specs.Prelude.{unwrap_or}
+use Rattle.fb_types.proofs.Common.{◌≡◌, ◌∙◌, ℕ, Option, Some, None, refl, unwrap_or}
 use Rattle.fb_stop.specs.Blamed.{blamed}
 use Rattle.fb_stop.proofs.running.blamed.Goals as goal
 

@@ -1,5 +1,4 @@
-use Rattle.std.proofs.Common.{◌≡◌, ◌≢◌, ◌∙◌, ◌==◌, ℕ, Bool, true, false, ◌&&◌, sym, ap, arith}
-use Rattle.std.proofs.lemmas.Bool.Decides.{nat_tests}
+use Rattle.fb_types.proofs.Common.{◌≡◌, ◌≢◌, ◌∙◌, ◌==◌, ℕ, Bool, true, false, ◌&&◌, sym, ap, arith, nat_tests}
 use Rattle.fb_stop.proofs.spent.is_there.Goals as goal
 
 same_number : (a b : ℕ) → a ≡ b → (a == b) ≡ true

@@ -1,6 +1,5 @@
-use Rattle.std.proofs.Common.{◌≡◌, ◌≢◌, ◌∙◌, ◌==◌, ℕ, Bool, true, false, cond, Option, Some, sym, ap, arith}
-use Rattle.std.proofs.lemmas.Bool.Decides.{nat_tests}
-use Rattle.fb_types.specs.Takes.{begun, is_tick}
+use Rattle.fb_types.proofs.Common.{◌≡◌, ◌≢◌, ◌∙◌, ◌==◌, ℕ, Bool, true, false, cond, Option, Some, sym, ap, arith, nat_tests, begun}
+use Rattle.fb_types.specs.Takes.{is_tick}
 use Rattle.fb_resource.specs.Counts.{meter_of}
 use Rattle.fb_resource.specs.declared.tick_counts.TickCounts.{TickCounts}
 use Rattle.fb_stop.proofs.spent.left_at.Goals as goal

@@ -1,6 +1,5 @@
-use Rattle.std.proofs.Common.{◌≡◌, ◌<◌, ◌≤◌, ◌+◌, ℕ, List, Some, below_more, get_or, arith}
-use Rattle.std.specs.Prelude.{slice_get}
-use Rattle.std.proofs.lemmas.Option.{IfSome_then, get_or_from_slice_get, slice_get-get_or}
+use Rattle.fb_types.proofs.Common.{◌≡◌, ◌<◌, ◌≤◌, ◌+◌, ℕ, List, Some, below_more, get_or, arith, slice_get, get_or_from_slice_get, slice_get-get_or}
+use Rattle.std.proofs.lemmas.Option.{IfSome_then}
 use Rattle.fb_stop.proofs.spent.most.Goals as goal
 use Rattle.fb_stop.proofs.spent.most.Goals.{then-spent-index, else-spent-index}
 

@@ -1,5 +1,4 @@
-use Rattle.std.proofs.Common.{◌≡◌, ◌<◌, ◌≤◌, ℕ, Some, slice_get}
-use Rattle.std.specs.Prelude.{IfSome}
+use Rattle.fb_types.proofs.Common.{◌≡◌, ◌<◌, ◌≤◌, ℕ, Some, slice_get, IfSome}
 use Rattle.fb_stop.proofs.spent.most.Given as goal
 
 abbrev pub invariant-loop-index : goal.invariant-loop-index

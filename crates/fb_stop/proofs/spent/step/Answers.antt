@@ -1,7 +1,4 @@
-use Rattle.std.proofs.Common.{◌∙◌, ℕ, refl, sym, subst, true, false, arith}
-use Rattle.fb_types.specs.Headline.{system_of}
-use Rattle.fb_types.specs.Keys.{without}
-use Rattle.fb_types.specs.Takes.{agenda_after}
+use Rattle.fb_types.proofs.Common.{◌∙◌, ℕ, refl, sym, subst, true, false, arith, system_of, without, agenda_after}
 use Rattle.fb_net.specs.Events.{event_of}
 use Rattle.fb_stop.specs.Spent.{Charges, ChargesEvent}
 use Rattle.fb_stop.proofs.lemmas.runs.Spending.{counts_at, has_spent, instance_there, left_as}

@@ -1,10 +1,5 @@
-use Rattle.std.proofs.Common.{◌≡◌, ◌∙◌, ◌<◌, ℕ, List, Some, arith, sym, ap, subst}
-use Rattle.std.specs.Prelude.{slice_get}
-use Rattle.std.proofs.lemmas.Option.{slice_get-get_or}
-use Rattle.fb_types.specs.declared.text.Branch.{Branch}
-use Rattle.fb_types.specs.declared.text.Choice.{Choice}
+use Rattle.fb_types.proofs.Common.{◌≡◌, ◌∙◌, ◌<◌, ℕ, List, Some, arith, sym, ap, subst, slice_get, slice_get-get_or, Branch, Choice, Stmt-F}
 use Rattle.fb_types.specs.declared.text.Stmt as read
-use Rattle.fb_types.specs.declared.text.Stmt.TheOpen.{Stmt-F}
 use Rattle.fb_types.specs.declared.text.Stmt.TheViews.{out-Stmt}
 use Rattle.fb_st.specs.Flows.{all_of, branches_of, choices_of}
 use Rattle.fb_st.specs.Frames.{values_of}

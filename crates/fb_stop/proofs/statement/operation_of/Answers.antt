@@ -1,5 +1,4 @@
-use Rattle.std.proofs.Common.{List, IfSome, subst}
-use Rattle.std.specs.Prelude.{IfNone}
+use Rattle.fb_types.proofs.Common.{List, IfSome, subst, IfNone}
 use Rattle.fb_types.specs.declared.text.Stmt as read
 use Rattle.fb_st.specs.Frames.{values_of}
 use Rattle.fb_stop.specs.Statements.{IsInList, IsListOtherwise}

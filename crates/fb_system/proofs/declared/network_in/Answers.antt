@@ -1,9 +1,4 @@
-use Rattle.std.proofs.Common.{Option, Some, ap, sym, ◌∙◌}
-use Rattle.std.specs.Prelude.{option_and_then, option_map}
-use Rattle.fb_types.specs.Flat.{kind_of, network_of}
-use Rattle.fb_types.specs.declared.library.BlockType.{BlockType}
-use Rattle.fb_check_names.specs.Numbers.{kind_of_number}
-use Rattle.fb_check_names.specs.declared.numbers.TypeNumber.{TypeNumber}
+use Rattle.fb_system.proofs.lemmas.Common.{Option, Some, ap, sym, ◌∙◌, option_and_then, option_map, kind_of, network_of, BlockType, kind_of_number, TypeNumber}
 use Rattle.fb_system.proofs.lemmas.values.DeclaredInstances.{network_inside, network_outermost}
 use Rattle.fb_system.proofs.declared.network_in.Goals as goal
 

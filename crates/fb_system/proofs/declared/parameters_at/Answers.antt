@@ -1,5 +1,4 @@
-use Rattle.std.proofs.Common.{ap}
-use Rattle.fb_check_names.specs.declared.numbers.NetworkNumbers.{NetworkNumbers}
+use Rattle.fb_system.proofs.lemmas.Common.{ap, NetworkNumbers}
 use Rattle.fb_system.proofs.lemmas.values.DeclaredInstances.{got, none_got, none_last, parameters_of_instance, parameters_there}
 use Rattle.fb_system.proofs.lemmas.networks.Wired.{parent_within}
 use Rattle.fb_system.proofs.declared.parameters_at.Goals as goal

@@ -1,6 +1,4 @@
-use Rattle.std.proofs.Common.{◌≡◌, ℕ, ◌+◌, List, ◌++◌, ◌∷◌, [], length, length-append, ap, arith, subst, sym}
-use Rattle.fb_system.specs.PortRows.{IsPortRowAt}
-use Rattle.fb_system.specs.RowRanges.{HasRows, Keeps}
+use Rattle.fb_system.proofs.lemmas.Common.{◌≡◌, ℕ, ◌+◌, List, ◌++◌, ◌∷◌, [], length, length-append, ap, arith, subst, sym, IsPortRowAt, HasRows, Keeps}
 use Rattle.fb_system.specs.declared.port_row.PortRow.{PortRow}
 use Rattle.fb_system.proofs.lemmas.rows.InRanges.{keeps_push, rows_push}
 use Rattle.fb_system.proofs.ends_of.add_ports.Goals as goal

@@ -1,6 +1,4 @@
-use Rattle.std.specs.Prelude.{◌≡◌, ◌+◌, length}
-use Rattle.fb_system.specs.PortRows.{IsPortRowAt}
-use Rattle.fb_system.specs.RowRanges.{HasRows, Keeps}
+use Rattle.fb_system.proofs.lemmas.Common.{◌≡◌, ◌+◌, length, IsPortRowAt, HasRows, Keeps}
 use Rattle.fb_system.proofs.ends_of.add_ports.Given as goal
 
 abbrev pub invariant-loop-event : goal.invariant-loop-event

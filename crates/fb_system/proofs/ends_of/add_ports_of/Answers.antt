@@ -1,8 +1,5 @@
-use Rattle.std.proofs.Common.{List, [], ◌∷◌, ◌++◌, subst, sym, ◌∙◌}
-use Rattle.std.proofs.lemmas.Result.{on_ok_weaker}
-use Rattle.fb_system.specs.PortRows.{IsPortRowAt}
-use Rattle.fb_system.specs.RowRanges.{AreInRanges}
-use Rattle.fb_system.specs.declared.row_ranges.RowRanges.{RowRanges}
+use Rattle.fb_system.proofs.lemmas.Common.{List, [], ◌∷◌, ◌++◌, subst, sym, ◌∙◌, IsPortRowAt, AreInRanges, RowRanges}
+use Rattle.fb_types.proofs.Common.{on_ok_weaker}
 use Rattle.fb_system.proofs.lemmas.rows.InRanges.{capped, instance_in_ranges}
 use Rattle.fb_system.proofs.ends_of.add_ports_of.Goals as goal
 

@@ -1,7 +1,4 @@
-use Rattle.std.specs.Prelude.{◌≡◌, ◌+◌, length}
-use Rattle.fb_types.specs.Headline.{system_of}
-use Rattle.fb_system.specs.Ends.{IsSourceRowAt}
-use Rattle.fb_system.specs.RowRanges.{HasRows, Keeps}
+use Rattle.fb_system.proofs.lemmas.Common.{◌≡◌, ◌+◌, length, system_of, IsSourceRowAt, HasRows, Keeps}
 use Rattle.fb_system.proofs.ends_of.add_sources.Given as goal
 
 abbrev pub invariant-loop-variable : goal.invariant-loop-variable

@@ -1,9 +1,5 @@
-use Rattle.std.proofs.Common.{List, [], ◌∷◌, ◌++◌, subst, sym, ◌∙◌}
-use Rattle.std.proofs.lemmas.Result.{on_ok_weaker}
-use Rattle.fb_types.specs.Headline.{system_of}
-use Rattle.fb_system.specs.Ends.{IsSourceRowAt}
-use Rattle.fb_system.specs.RowRanges.{AreInRanges}
-use Rattle.fb_system.specs.declared.row_ranges.RowRanges.{RowRanges}
+use Rattle.fb_system.proofs.lemmas.Common.{List, [], ◌∷◌, ◌++◌, subst, sym, ◌∙◌, system_of, IsSourceRowAt, AreInRanges, RowRanges}
+use Rattle.fb_types.proofs.Common.{on_ok_weaker}
 use Rattle.fb_system.proofs.lemmas.rows.InRanges.{capped, instance_in_ranges}
 use Rattle.fb_system.proofs.ends_of.add_sources_of.Goals as goal
 

@@ -1,5 +1,4 @@
-use Rattle.std.proofs.Common.{take}
-use Rattle.fb_types.specs.Blocks.{variables_with}
+use Rattle.fb_types.proofs.Common.{take, variables_with}
 use Rattle.fb_system.specs.IndexLists.{AreIndexes}
 use Rattle.fb_system.proofs.event_block_with_indexes.indexes_with.Given as goal
 

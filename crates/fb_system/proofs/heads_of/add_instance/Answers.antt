@@ -1,10 +1,5 @@
-use Rattle.std.proofs.Common.{◌≡◌, List, [], ◌∷◌, ◌++◌, length, arith, subst, sym, ◌∙◌}
-use Rattle.std.proofs.lemmas.List.{length-map}
-use Rattle.std.proofs.lemmas.Result.{on_ok_weaker}
-use Rattle.fb_types.specs.Headline.{system_of}
-use Rattle.fb_system.specs.Heads.{IsRowAt}
-use Rattle.fb_system.specs.RowRanges.{AreInRanges}
-use Rattle.fb_system.specs.declared.row_ranges.RowRanges.{RowRanges}
+use Rattle.fb_system.proofs.lemmas.Common.{◌≡◌, List, [], ◌∷◌, ◌++◌, length, arith, subst, sym, ◌∙◌, length-map, system_of, IsRowAt, AreInRanges, RowRanges}
+use Rattle.fb_types.proofs.Common.{on_ok_weaker}
 use Rattle.fb_system.proofs.lemmas.rows.InRanges.{capped, instance_in_ranges}
 use Rattle.fb_system.proofs.heads_of.add_instance.Goals as goal
 

@@ -1,7 +1,4 @@
-use Rattle.std.proofs.Common.{◌≡◌, ℕ, ◌+◌, List, ◌++◌, ◌∷◌, [], length, length-append, ap, arith, subst, sym}
-use Rattle.fb_types.specs.Headline.{system_of}
-use Rattle.fb_system.specs.Heads.{IsRowAt}
-use Rattle.fb_system.specs.RowRanges.{HasRows, Keeps}
+use Rattle.fb_system.proofs.lemmas.Common.{◌≡◌, ℕ, ◌+◌, List, ◌++◌, ◌∷◌, [], length, length-append, ap, arith, subst, sym, system_of, IsRowAt, HasRows, Keeps}
 use Rattle.fb_system.specs.declared.heads.Head.{Head}
 use Rattle.fb_system.proofs.lemmas.rows.InRanges.{keeps_push, rows_push}
 use Rattle.fb_system.proofs.heads_of.add_rows.Goals as goal

@@ -1,7 +1,4 @@
-use Rattle.std.specs.Prelude.{◌≡◌, ◌+◌, length}
-use Rattle.fb_types.specs.Headline.{system_of}
-use Rattle.fb_system.specs.Heads.{IsRowAt}
-use Rattle.fb_system.specs.RowRanges.{HasRows, Keeps}
+use Rattle.fb_system.proofs.lemmas.Common.{◌≡◌, ◌+◌, length, system_of, IsRowAt, HasRows, Keeps}
 use Rattle.fb_system.proofs.heads_of.add_rows.Given as goal
 
 abbrev pub invariant-loop-event : goal.invariant-loop-event

@@ -1,6 +1,4 @@
-use Rattle.std.proofs.Common.{◌++◌, ap, codes, sym, ◌∙◌}
-use Rattle.std.specs.Option.{option_copied}
-use Rattle.fb_types.specs.Names.{Name}
+use Rattle.fb_types.proofs.Common.{◌++◌, ap, codes, sym, ◌∙◌, option_copied, Name}
 use Rattle.fb_system.proofs.lemmas.rows.KeptHeads.{first_named}
 use Rattle.fb_system.proofs.heads_of.name_at_first.Goals as goal
 

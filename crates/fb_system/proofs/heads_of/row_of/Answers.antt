@@ -1,6 +1,4 @@
-use Rattle.std.proofs.Common.{List, ℕ, [], ◌++◌, ap, sym, ◌∙◌}
-use Rattle.std.proofs.lemmas.Option.{unwrap_or-slice_get}
-use Rattle.fb_types.specs.Headline.{system_of}
+use Rattle.fb_types.proofs.Common.{List, ℕ, [], ◌++◌, ap, sym, ◌∙◌, unwrap_or-slice_get, system_of}
 use Rattle.fb_system.specs.Heads.{first_text, head_text, head_variables}
 use Rattle.fb_system.proofs.lemmas.rows.KeptHeads.{first_added}
 use Rattle.fb_system.proofs.heads_of.row_of.Goals as goal

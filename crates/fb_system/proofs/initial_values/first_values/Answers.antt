@@ -1,9 +1,4 @@
-use Rattle.std.proofs.Common.{List, ◌++◌, [], ◌∷◌, map, take, sym, ap, ◌∙◌, arith}
-use Rattle.std.proofs.lemmas.Grind.{take_at_read}
-use Rattle.std.proofs.lemmas.List.{map-append, take_all}
-use Rattle.fb_types.specs.Blocks.{initial_of}
-use Rattle.fb_types.specs.declared.library.Variable.{Variable}
-use Rattle.fb_types.specs.declared.value.Value.{Value}
+use Rattle.fb_types.proofs.Common.{List, ◌++◌, [], ◌∷◌, map, take, sym, ap, ◌∙◌, arith, take_at_read, map-append, take_all, initial_of, Variable, Value}
 use Rattle.fb_system.proofs.initial_values.first_values.Goals as goal
 
 pub loop-variable-preserved : goal.loop-variable-preserved

@@ -1,5 +1,4 @@
-use Rattle.std.proofs.Common.{◌≡◌, map, take}
-use Rattle.fb_types.specs.Blocks.{initial_of}
+use Rattle.fb_types.proofs.Common.{◌≡◌, map, take, initial_of}
 use Rattle.fb_system.proofs.initial_values.first_values.Given as goal
 
 abbrev pub invariant-loop-variable : goal.invariant-loop-variable

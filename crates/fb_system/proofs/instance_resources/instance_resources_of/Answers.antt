@@ -1,10 +1,5 @@
-use Rattle.std.proofs.Common.{◌≡◌, ◌++◌, ◌∷◌, [], ap, rules, sym, ◌∙◌}
-use Rattle.std.specs.Prelude.{slice_get}
-use Rattle.std.specs.Option.{option_copied}
-use Rattle.fb_types.specs.Flat.{resource_of}
-use Rattle.fb_types.specs.declared.deploy.Plan.{Plan}
-use Rattle.fb_system.specs.Layouts.{path_of}
-use Rattle.fb_system.specs.Linking.{IsLinked}
+use Rattle.fb_system.proofs.lemmas.Common.{◌≡◌, ◌++◌, ◌∷◌, [], ap, sym, ◌∙◌, slice_get, option_copied, Plan, path_of, IsLinked}
+use Rattle.fb_types.proofs.Common.{rules, resource_of}
 use Rattle.fb_system.proofs.lemmas.networks.HoldingResource.{first_there, instance_resources_next, resource_by_index}
 use Rattle.fb_system.proofs.instance_resources.instance_resources_of.Goals as goal
 use Rattle.fb_system.proofs.instance_resources.instance_resources_of.Goals.{in-None, in-Some}

@@ -1,9 +1,6 @@
-use Rattle.std.proofs.Common.{length, refl, sym, subst, arith}
-use Rattle.std.proofs.lemmas.Option.{slice_get_read}
-use Rattle.fb_types.specs.declared.library.Ports.{Ports}
+use Rattle.fb_system.proofs.lemmas.Common.{length, refl, sym, subst, arith, slice_get_read, Ports, AreWithIndexes}
 use Rattle.fb_check_names.specs.declared.catalog.BlockIndexes.{BlockIndexes}
 use Rattle.fb_system.specs.Lookups.{IsIndexed}
-use Rattle.fb_system.specs.IndexLists.{AreWithIndexes}
 use Rattle.fb_system.proofs.lemmas.types.BlockNames.{blocks_more}
 use Rattle.fb_system.proofs.interfaces.of_blocks.Goals as goal
 

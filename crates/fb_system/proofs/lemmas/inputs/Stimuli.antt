@@ -1,27 +1,10 @@
 -- The stimuli by number, for the inputs that a system represents.
-use Rattle.std.proofs.Common.{◌≡◌, ℕ, ◌<◌, false, All, List, [], ◌∷◌, map, length, Option, Some, None, refl, sym, ◌∙◌, ap, subst, arith}
-use Rattle.std.specs.Prelude.{option_map, slice_get, unwrap_or}
+use Rattle.fb_system.proofs.lemmas.Common.{◌≡◌, ℕ, ◌<◌, false, List, [], ◌∷◌, map, length, Option, Some, None, refl, sym, ◌∙◌, ap, subst, arith, option_map, slice_get, unwrap_or, length-map, same_Some, slice_get-map, slice_get_within, Name, Path, Kind, event_names, ports, ports_of, kind_at, paths_of, Inputs, system_of, path_at, ports_at, EventPort, Instance, Library, Ports, AreNumbers, path_of, inputs_of, AreTables, Whole}
+use Rattle.fb_types.proofs.Common.{All, event_at, stimulus_of, Stimulus, InputValue}
 use Rattle.std.specs.Borrow.{Bor}
-use Rattle.std.proofs.lemmas.List.{length-map}
-use Rattle.std.proofs.lemmas.Option.{same_Some, slice_get-map, slice_get_within}
-use Rattle.fb_types.specs.Names.{Name, Path}
-use Rattle.fb_types.specs.Blocks.{Kind, event_names, ports, ports_of}
-use Rattle.fb_types.specs.Flat.{kind_at, paths_of}
-use Rattle.fb_types.specs.Headline.{Inputs, system_of}
-use Rattle.fb_types.specs.Numbers.{event_at, path_at, ports_at}
-use Rattle.fb_types.specs.Simulation.{stimulus_of}
-use Rattle.fb_types.specs.declared.deploy.Stimulus.{Stimulus}
-use Rattle.fb_types.specs.declared.library.EventPort.{EventPort}
-use Rattle.fb_types.specs.declared.library.Instance.{Instance}
-use Rattle.fb_types.specs.declared.library.Library.{Library}
-use Rattle.fb_types.specs.declared.library.Ports.{Ports}
-use Rattle.fb_system.specs.Layouts.{AreNumbers, path_of}
 use Rattle.fb_system.specs.Rows.{AreRows, IsRow, set_at}
-use Rattle.fb_types.specs.declared.run.InputValue.{InputValue}
 use Rattle.fb_system.specs.declared.rows.StimulusRow.{StimulusRow}
 use Rattle.fb_system.specs.Stimuli.{IsRowOf, IsStimulusAt, set_of}
-use Rattle.fb_system.specs.Systems.{inputs_of, AreTables}
-use Rattle.fb_system.specs.declared.whole.Whole.{Whole}
 use Rattle.fb_types.proofs.lemmas.lists.ByIndex.{all_at, element_at}
 
 -- ---- The rows

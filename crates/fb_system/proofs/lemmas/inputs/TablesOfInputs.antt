@@ -1,39 +1,16 @@
 -- What the tables say of the inputs that a system represents.
-use Rattle.std.proofs.Common.{◌≡◌, ℕ, ◌<◌, ◌≤◌, ◌+◌, List, [], length, get_or, Option, Some, None, Ok, refl, sym, ◌∙◌, ap, subst, inl, inr}
-use Rattle.std.specs.Prelude.{IfOk, IfSome, IsTrue, ◌↔◌, Result, option_map, slice_get}
-use Rattle.std.proofs.lemmas.Bool.{cases_lt}
-use Rattle.std.proofs.lemmas.List.{length-map}
-use Rattle.std.proofs.lemmas.Option.{slice_get-get_or}
-use Rattle.fb_types.specs.Flat.{kind_at, latency_at, link_between, number_of, paths_of, source_of, targets_of}
-use Rattle.fb_types.specs.Headline.{AreAccepted, Inputs, system_of, inputs}
-use Rattle.fb_types.specs.Joined.{TooHigh}
-use Rattle.fb_types.specs.Numbers.{port_of}
-use Rattle.fb_types.specs.Repeated.{NameTwice}
-use Rattle.fb_types.specs.Text.{path_text}
-use Rattle.fb_types.specs.Unknown.{NameUnknown}
-use Rattle.fb_types.specs.declared.deploy.Link.{Link}
-use Rattle.fb_types.specs.declared.deploy.Plan.{Plan}
-use Rattle.fb_types.specs.declared.deploy.ResourceEntry.{ResourceEntry}
-use Rattle.fb_types.specs.declared.deploy.Stimulus.{Stimulus}
-use Rattle.fb_types.specs.declared.library.Library.{Library}
-use Rattle.fb_types.specs.declared.library.Ports.{Ports}
-use Rattle.fb_types.specs.declared.run.Target.{Target}
-use Rattle.fb_check_names.specs.Numbers.{kind_of_number}
-use Rattle.fb_check_names.specs.declared.numbers.TypeNumber.{TypeNumber}
-use Rattle.fb_system.specs.Layouts.{AreComponents, AreNumbers, IsParent, path_of, route_to}
+use Rattle.fb_system.proofs.lemmas.Common.{◌≡◌, ℕ, ◌<◌, ◌≤◌, ◌+◌, List, [], length, get_or, Option, Some, None, refl, sym, ◌∙◌, ap, subst, inl, inr, IfSome, IsTrue, ◌↔◌, option_map, slice_get, length-map, slice_get-get_or, kind_at, paths_of, source_of, targets_of, Inputs, system_of, NameTwice, NameUnknown, Plan, Library, Ports, Target, InstanceVariable, kind_of_number, TypeNumber, AreComponents, AreNumbers, path_of, route_to, NetlistTarget, IsLinked, inputs_of, AreTables, Whole}
+use Rattle.fb_types.proofs.Common.{Ok, IfOk, Result, cases_lt, latency_at, AreAccepted, inputs, TooHigh, port_of, path_text, Link, ResourceEntry, Stimulus, ArePortsOfKinds}
+use Rattle.fb_types.specs.Flat.{link_between, number_of}
+use Rattle.fb_system.specs.Layouts.{IsParent}
 use Rattle.fb_system.specs.Netlists as netlist
-use Rattle.fb_system.specs.declared.netlist_target.NetlistTarget.{NetlistTarget}
-use Rattle.fb_types.specs.declared.run.InstanceVariable.{InstanceVariable}
 use Rattle.fb_system.specs.Tables.{AreInterfaces}
 use Rattle.fb_system.specs.declared.interfaces.Interfaces.{Interfaces}
-use Rattle.fb_types.specs.EventPorts.{ArePortsOfKinds}
 use Rattle.fb_system.specs.Rows.{AreRows}
 use Rattle.fb_system.specs.declared.rows.StimulusRow.{StimulusRow}
-use Rattle.fb_system.specs.Linking.{AreInstanceResources, IsLinked, Linked, link_at, receiver_at, sender_at}
+use Rattle.fb_system.specs.Linking.{AreInstanceResources, Linked, link_at, receiver_at, sender_at}
 use Rattle.fb_system.specs.Ports.{IsPort, IsSource, IsTarget, IsVariable, variable_of}
-use Rattle.fb_system.specs.Systems.{inputs_of, AreTables}
 use Rattle.fb_system.specs.declared.kept.Kept.{Kept}
-use Rattle.fb_system.specs.declared.whole.Whole.{Whole}
 
 -- ---- What acceptance says
 

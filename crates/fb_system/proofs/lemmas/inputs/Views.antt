@@ -1,18 +1,7 @@
 -- What the tables say of the declaration that a netlist represents.
-use Rattle.std.proofs.Common.{◌≡◌, ℕ, ◌<◌, ◌≤◌, List, length, Option, None, Some, ◌+◌, sym, ◌∙◌, ap, subst}
-use Rattle.fb_types.specs.Flat.{instance_at, kind_at, number_of, paths_of, source_of, targets_of}
-use Rattle.fb_types.specs.declared.library.Instance.{Instance}
-use Rattle.fb_types.specs.declared.library.Library.{Library}
-use Rattle.fb_check_names.specs.Numbers.{kind_of_number, parameter_numbers}
-use Rattle.fb_system.specs.Layouts.{AreComponents, IsRow, path_of}
-use Rattle.fb_system.specs.declared.layout.InstanceRow.{InstanceRow}
-use Rattle.fb_types.specs.declared.run.Target.{Target}
-use Rattle.fb_types.specs.declared.run.InstanceVariable.{InstanceVariable}
-use Rattle.fb_system.specs.Netlists.{IsPort, IsVariable, port_of, variable_of}
-use Rattle.fb_system.specs.declared.netlist_target.NetlistTarget.{NetlistTarget}
-use Rattle.fb_types.specs.Names.{Port}
-use Rattle.fb_check_names.specs.declared.numbers.ConnectionEnd.{ConnectionEnd}
-use Rattle.std.specs.Prelude.{IfSome, IsTrue, ◌↔◌, option_map, slice_get}
+use Rattle.fb_system.proofs.lemmas.Common.{◌≡◌, ℕ, ◌<◌, ◌≤◌, List, length, Option, None, Some, ◌+◌, sym, ◌∙◌, ap, subst, instance_at, kind_at, paths_of, source_of, targets_of, Instance, Library, Target, InstanceVariable, Port, IfSome, IsTrue, ◌↔◌, option_map, slice_get, kind_of_number, parameter_numbers, AreComponents, IsRow, path_of, InstanceRow, port_of, variable_of, NetlistTarget, ConnectionEnd}
+use Rattle.fb_types.specs.Flat.{number_of}
+use Rattle.fb_system.specs.Netlists.{IsPort, IsVariable}
 use Rattle.fb_system.specs.Networks.{IsNetlist}
 use Rattle.fb_system.specs.declared.tables.Tables.{Tables}
 

@@ -1,6 +1,5 @@
 -- Parts of a list, and what holds of each element at its index.
-use Rattle.std.proofs.Common.{◌≡◌, ◌⊎◌, ℕ, zero, suc, ◌+◌, List, [], ◌∷◌, ◌++◌, length, Some, refl, ◌∙◌, ap, subst, inl, inr, arith}
-use Rattle.std.specs.Prelude.{slice_get}
+use Rattle.fb_types.proofs.Common.{◌≡◌, ◌⊎◌, ℕ, zero, suc, ◌+◌, List, [], ◌∷◌, ◌++◌, length, Some, refl, ◌∙◌, ap, subst, inl, inr, arith, slice_get}
 use Rattle.fb_types.proofs.lemmas.lists.ByIndex.{slice_get-append_left}
 
 -- ---- Elements of lists put together

@@ -1,7 +1,5 @@
 -- The first element with a name, in a list that grows.
-use Rattle.std.proofs.Common.{◌≡◌, true, false, cond, List, [], ◌∷◌, ◌++◌, map, Some, None, Contains, refl, ◌∙◌, ap, subst}
-use Rattle.fb_types.specs.Names.{Name, same_name}
-use Rattle.fb_types.specs.Blocks.{named}
+use Rattle.fb_types.proofs.Common.{◌≡◌, true, false, cond, List, [], ◌∷◌, ◌++◌, map, Some, None, Contains, refl, ◌∙◌, ap, subst, Name, same_name, named}
 use Rattle.fb_types.proofs.lemmas.lists.Elements.{Contains-here, Contains-there}
 use Rattle.fb_types.proofs.lemmas.names.NameLaws.{same_name-itself, same_name-apart}
 

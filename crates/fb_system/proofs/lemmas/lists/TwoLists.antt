@@ -1,8 +1,5 @@
 -- Two lists that are made side by side, one by number and the other by name.
-use Rattle.std.proofs.Common.{◌≡◌, ℕ, zero, suc, Bool, true, false, cond, List, [], ◌∷◌, ◌++◌, map, length, Option, Some, None, refl, sym, ◌∙◌, ap, subst, append-nil}
-use Rattle.std.specs.Prelude.{slice_get}
-use Rattle.std.specs.List.{filter}
-use Rattle.fb_types.specs.Flat.{first_of}
+use Rattle.fb_types.proofs.Common.{◌≡◌, ℕ, zero, suc, Bool, true, false, cond, List, [], ◌∷◌, ◌++◌, map, length, Option, Some, None, refl, sym, ◌∙◌, ap, subst, append-nil, slice_get, filter, first_of}
 use Rattle.fb_check_names.specs.Numbers.{each_or_none}
 use Rattle.fb_check_names.proofs.lemmas.Each.{each_parts}
 

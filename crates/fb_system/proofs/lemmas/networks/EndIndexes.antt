@@ -1,18 +1,5 @@
 -- What the numbers of a connection's end represent, in the network at a path.
-use Rattle.std.proofs.Common.{◌≡◌, ◌&&◌, ℕ, suc, true, false, List, [], ◌∷◌, map, length, Option, Some, None, refl, sym, ◌∙◌, ap, subst, inl, inr, arith}
-use Rattle.std.specs.Prelude.{slice_get, option_map, option_and_then, position, nat_eq}
-use Rattle.std.proofs.lemmas.Bool.{cases_eq, ne_eqb, eq-eqb, false_from_ne_true, true≢false}
-use Rattle.std.proofs.lemmas.Option.{same_Some}
-use Rattle.fb_types.specs.Names.{Name, Path, Port, same_name, same_path, same_port}
-use Rattle.fb_types.specs.Blocks.{Kind, Basic, Event, Composite, ports_of}
-use Rattle.fb_types.specs.Flat.{kind_at, kind_of_instance, network_at, instance_in, port_in}
-use Rattle.fb_types.specs.Repeated.{Twice, instance_names}
-use Rattle.fb_types.specs.declared.library.Library.{Library}
-use Rattle.fb_types.specs.declared.library.CompositeType.{CompositeType}
-use Rattle.fb_types.specs.declared.library.Instance.{Instance}
-use Rattle.fb_types.specs.declared.library.Network.{Network}
-use Rattle.fb_types.specs.declared.library.PortName.{PortName}
-use Rattle.fb_types.specs.declared.library.Ports.{Ports}
+use Rattle.fb_types.proofs.Common.{◌≡◌, ◌&&◌, ℕ, suc, true, false, List, [], ◌∷◌, map, length, Option, Some, None, refl, sym, ◌∙◌, ap, subst, inl, inr, arith, slice_get, option_map, option_and_then, position, nat_eq, cases_eq, ne_eqb, eq-eqb, false_from_ne_true, true≢false, same_Some, Name, Path, Port, same_name, same_path, same_port, Kind, Basic, Event, Composite, ports_of, kind_at, kind_of_instance, network_at, instance_in, port_in, Twice, instance_names, Library, CompositeType, Instance, Network, PortName, Ports}
 use Rattle.fb_types.proofs.lemmas.names.NameLaws.{same_from_same_name, same_name-itself}
 use Rattle.fb_types.proofs.lemmas.lists.Positions.{named-position, position_is, position_of_once}
 use Rattle.fb_types.proofs.lemmas.names.PathLaws.{same_path_is, same_path_itself}

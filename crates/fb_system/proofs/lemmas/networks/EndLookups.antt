@@ -1,33 +1,12 @@
 -- Lookups at an end of a connection.
-use Rattle.std.proofs.Common.{◌≡◌, ℕ, ◌+◌, ◌-◌, ◌<◌, ◌≤◌, ◌^◌, Bool, true, false, not, List, [], ◌∷◌, map, length, get_or, Option, Some, None, refl, sym, ◌∙◌, ap, subst, arith}
-use Rattle.std.specs.Prelude.{slice_get, option_map, option_and_then, unwrap_or, is_none, is_some, IsTrue, nat_lt, ◌↔◌}
-use Rattle.std.specs.List.{filter}
-use Rattle.std.proofs.lemmas.Bool.{lt-ltb, ltb-true}
-use Rattle.std.proofs.lemmas.List.{length-map}
-use Rattle.std.proofs.lemmas.Option.{same_Some, slice_get_within, slice_get-get_or, slice_get_read, slice_get_past}
-use Rattle.fb_types.specs.Names.{Name, Path, Port, same_port}
-use Rattle.fb_types.specs.Blocks.{Kind, Basic, Event, Composite, ports, ports_of}
-use Rattle.fb_types.specs.Counts.{IsNarrow}
-use Rattle.fb_types.specs.Flat.{kind_of, kind_at, kind_of_instance, type_named, inside, instance_at, network_at, network_of, paths_of, events_inside, data_inside}
-use Rattle.fb_types.specs.Repeated.{NameTwice}
-use Rattle.fb_types.specs.Unknown.{event_ins, event_outs, data_ins, data_outs}
-use Rattle.fb_types.specs.declared.library.Library.{Library}
-use Rattle.fb_types.specs.declared.library.BlockType.{BlockType}
-use Rattle.fb_types.specs.declared.library.CompositeType.{CompositeType}
-use Rattle.fb_types.specs.declared.library.Instance.{Instance}
-use Rattle.fb_types.specs.declared.library.Network.{Network}
-use Rattle.fb_types.specs.declared.library.Ports.{Ports}
-use Rattle.fb_types.specs.declared.deploy.Plan.{Plan}
-use Rattle.fb_check_names.specs.declared.numbers.ConnectionEnd.{ConnectionEnd}
-use Rattle.fb_check_names.specs.declared.numbers.NetworkNumbers.{NetworkNumbers}
-use Rattle.fb_check_names.specs.declared.numbers.TypeNumber.{TypeNumber}
+use Rattle.fb_system.proofs.lemmas.Common.{◌≡◌, ℕ, ◌+◌, ◌-◌, ◌<◌, ◌≤◌, Bool, true, false, List, [], ◌∷◌, map, length, get_or, Option, Some, None, refl, sym, ◌∙◌, ap, subst, arith, slice_get, option_map, option_and_then, unwrap_or, IsTrue, ◌↔◌, filter, length-map, same_Some, slice_get_within, slice_get-get_or, slice_get_read, Name, Path, Port, Kind, Basic, Event, Composite, ports, ports_of, kind_of, kind_at, kind_of_instance, type_named, inside, instance_at, network_at, network_of, paths_of, NameTwice, event_ins, event_outs, data_ins, data_outs, Library, BlockType, CompositeType, Instance, Network, Ports, Plan, ConnectionEnd, NetworkNumbers, TypeNumber, kind_of_number, type_number, same_end, AreComponents, path_of, port_of, variable_of, AreNarrow, IsEndOf, IsThere, IsWired, side}
+use Rattle.fb_types.proofs.Common.{◌^◌, not, is_some, nat_lt, lt-ltb, ltb-true, slice_get_past, same_port, IsNarrow, events_inside, data_inside}
+use Rattle.std.specs.Prelude.{is_none}
 use Rattle.fb_check_names.specs.declared.numbers.TypeNumber.TheVariants as number
-use Rattle.fb_check_names.specs.Numbers.{kind_of_number, type_number}
 use Rattle.fb_check_names.proofs.lemmas.numbers.Lookups.{type_named-number}
-use Rattle.fb_system.specs.Wirings.{same_end, source_in, targets_in}
-use Rattle.fb_system.specs.Layouts.{AreComponents, path_of}
-use Rattle.fb_system.specs.Netlists.{IsCompositeHere, IsPort, IsVariable, ports_here, port_of, variable_of}
-use Rattle.fb_system.specs.Networks.{AreNarrow, IsEndOf, IsThere, IsWired, side, source_along, targets_along}
+use Rattle.fb_system.specs.Wirings.{source_in, targets_in}
+use Rattle.fb_system.specs.Netlists.{IsCompositeHere, IsPort, IsVariable, ports_here}
+use Rattle.fb_system.specs.Networks.{source_along, targets_along}
 use Rattle.fb_system.proofs.lemmas.networks.Leading.{sources_there, targets_there}
 use Rattle.fb_system.proofs.lemmas.lists.TwoLists.{first_pair, no_first, none_at, pair_at, same_length}
 use Rattle.fb_types.proofs.lemmas.lists.ByIndex.{all_at}

@@ -1,8 +1,5 @@
 -- The first link from one resource to another, one link at a time.
-use Rattle.std.proofs.Common.{◌≡◌, ℕ, ◌<◌, ◌+◌, Bool, cond, List, [], ◌∷◌, ◌++◌, length, take, get_or, Option, Some, None, refl, sym, ◌∙◌, ap, arith}
-use Rattle.std.specs.Prelude.{position, is_some}
-use Rattle.std.proofs.lemmas.List.{take_more, length-take}
-use Rattle.fb_types.specs.Keys.{or_else}
+use Rattle.fb_types.proofs.Common.{◌≡◌, ℕ, ◌<◌, ◌+◌, Bool, cond, List, [], ◌∷◌, ◌++◌, length, take, get_or, Option, Some, None, refl, sym, ◌∙◌, ap, arith, position, is_some, take_more, length-take, or_else}
 use Rattle.fb_types.proofs.lemmas.lists.Positions.{position-append_old, position-push_new, is_some-position}
 use Rattle.fb_check_names.specs.declared.numbers.LinkEnds.{LinkEnds}
 use Rattle.fb_system.specs.Linking.{AreWays, first_between, joins, way_between}

@@ -1,24 +1,13 @@
 -- The resource that holds an instance is that of the application's instance on the path to it.
-use Rattle.std.proofs.Common.{◌≡◌, ℕ, ◌<◌, List, [], ◌∷◌, ◌++◌, map, length, get_or, Option, Some, None, Contains, refl, sym, ◌∙◌, ap, subst, inl, inr, append_assoc, ◌+◌, below_more, length-append}
-use Rattle.std.specs.Prelude.{flat_map, position, slice_get, unwrap_or}
-use Rattle.std.proofs.lemmas.List.Elements.{Contains-append_cases}
-use Rattle.std.proofs.lemmas.Option.{same_Some, slice_get-get_or, slice_get_within, get_or_from_slice_get}
-use Rattle.fb_types.specs.Flat.{holder, inside, paths_of, resource_of}
-use Rattle.fb_types.specs.Headline.{Inputs}
-use Rattle.fb_types.specs.Names.{Name, Path, same_name}
-use Rattle.fb_types.specs.declared.deploy.Plan.{Plan}
-use Rattle.fb_types.specs.declared.library.Instance.{Instance}
-use Rattle.fb_types.specs.declared.library.Library.{Library}
+use Rattle.fb_system.proofs.lemmas.Common.{◌≡◌, ℕ, ◌<◌, List, [], ◌∷◌, ◌++◌, map, length, get_or, Option, Some, None, Contains, refl, sym, ◌∙◌, ap, subst, inl, inr, append_assoc, ◌+◌, length-append, flat_map, position, slice_get, unwrap_or, same_Some, slice_get-get_or, slice_get_within, inside, paths_of, Inputs, Name, Path, same_name, Plan, Instance, Library, path_of, index_at, route_to, IsLinked, inputs_of, AreTables, Whole}
+use Rattle.fb_types.proofs.Common.{below_more, Contains-append_cases, get_or_from_slice_get, holder, resource_of}
 use Rattle.fb_types.proofs.lemmas.lists.ByIndex.{element_of_index, slice_get-append_here, slice_get-append_left}
 use Rattle.fb_types.proofs.lemmas.lists.Positions.{is_some-position, position_is}
 use Rattle.fb_types.proofs.lemmas.lists.Elements.{Contains-cons_cases, Contains-here, Contains-nil, Contains-there, Contains-map}
 use Rattle.fb_types.proofs.lemmas.names.NameLaws.{any_from_contains}
 use Rattle.fb_system.proofs.lemmas.networks.Distinct.{below, below_through, IsThrough, paths_from}
-use Rattle.fb_system.specs.Layouts.{path_of, index_at, route_to}
 use Rattle.fb_types.proofs.lemmas.lists.Options.{some_from_is_some}
-use Rattle.fb_system.specs.Linking.{holder_at, IsLinked, Linked}
-use Rattle.fb_system.specs.Systems.{inputs_of, AreTables}
-use Rattle.fb_system.specs.declared.whole.Whole.{Whole}
+use Rattle.fb_system.specs.Linking.{holder_at, Linked}
 
 -- ---- Every path leads through an instance of the application
 

@@ -1,27 +1,14 @@
 -- What is inside an instance: a network of the declaration, with its numbers.
-use Rattle.std.proofs.Common.{◌≡◌, ℕ, [], map, Option, Some, None, Contains, refl, sym, ◌∙◌, ap, subst}
-use Rattle.std.specs.Prelude.{slice_get, option_map, option_and_then, position, flat_map}
-use Rattle.fb_types.specs.Names.{Name, same_name}
-use Rattle.fb_types.specs.Blocks.{Kind, Basic, Event, Composite, named, event_blocks}
-use Rattle.fb_types.specs.Flat.{kind_of, type_name, type_named, network_of, inside, kind_of_instance}
-use Rattle.fb_types.specs.Repeated.{networks, networks_in}
-use Rattle.fb_types.specs.declared.library.Library.{Library}
-use Rattle.fb_types.specs.declared.library.BlockType.{BlockType}
+use Rattle.fb_system.proofs.lemmas.Common.{◌≡◌, ℕ, [], map, Option, Some, None, Contains, refl, sym, ◌∙◌, ap, subst, slice_get, option_map, option_and_then, position, flat_map, Name, same_name, Kind, Basic, Event, Composite, named, kind_of, type_named, network_of, inside, kind_of_instance, networks, networks_in, Library, BlockType, CompositeType, Instance, Network, Plan, IsResolved, index_of, type_number, kind_of_number, TypeNumber, NetworkNumbers, Resolved, network_inside}
+use Rattle.fb_types.proofs.Common.{event_blocks, type_name}
 use Rattle.fb_types.specs.declared.library.BlockType.TheVariants as block
-use Rattle.fb_types.specs.declared.library.CompositeType.{CompositeType}
-use Rattle.fb_types.specs.declared.library.Instance.{Instance}
-use Rattle.fb_types.specs.declared.library.Network.{Network}
-use Rattle.fb_types.specs.declared.deploy.Plan.{Plan}
 use Rattle.fb_types.proofs.lemmas.lists.Positions.{named-position, position_is}
 use Rattle.fb_types.proofs.lemmas.lists.Elements.{Contains-here, Contains-there, Contains-flat_map}
-use Rattle.fb_check_names.specs.Numbers.{IsNetwork, IsResolved, index_of, type_number, kind_of_number}
-use Rattle.fb_check_names.specs.declared.numbers.TypeNumber.{TypeNumber}
+use Rattle.fb_check_names.specs.Numbers.{IsNetwork}
 use Rattle.fb_check_names.specs.declared.numbers.TypeNumber.TheVariants as number
-use Rattle.fb_check_names.specs.declared.numbers.NetworkNumbers.{NetworkNumbers}
 use Rattle.fb_types.proofs.lemmas.lists.Options.{and_then_parts, map_parts}
 use Rattle.fb_types.proofs.lemmas.names.NameLaws.{named-Contains}
-use Rattle.fb_check_names.specs.declared.numbers.Resolved.{Resolved}
-use Rattle.fb_system.specs.Layers.{network_inside, network_of_block}
+use Rattle.fb_system.specs.Layers.{network_of_block}
 
 -- ---- Composite types
 

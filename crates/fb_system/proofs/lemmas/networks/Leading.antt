@@ -1,27 +1,12 @@
 -- Where connections lead, and where they come from.
-use Rattle.std.proofs.Common.{◌≡◌, ℕ, false, List, [], ◌∷◌, map, Option, Some, None, Contains, refl, sym, ◌∙◌, ap, subst}
-use Rattle.std.specs.Prelude.{slice_get, option_map}
-use Rattle.std.specs.List.{filter}
-use Rattle.std.proofs.lemmas.Bool.{false_from_ne_true}
-use Rattle.std.proofs.lemmas.Option.{same_Some}
-use Rattle.fb_types.specs.Names.{Name, Path, Port, same_port}
-use Rattle.fb_types.specs.Blocks.{Kind, ports_of}
-use Rattle.fb_types.specs.Flat.{kind_at, network_at, parent, port_in, pairs_in, first_of, events_inside, data_inside, targets_of, source_of}
-use Rattle.fb_types.specs.Repeated.{NameTwice, OwnedNetwork}
-use Rattle.fb_types.specs.Unknown.{event_ins, event_outs, data_ins, data_outs}
-use Rattle.fb_types.specs.declared.library.Library.{Library}
-use Rattle.fb_types.specs.declared.library.Connection.{Connection}
-use Rattle.fb_types.specs.declared.library.Network.{Network}
-use Rattle.fb_types.specs.declared.library.Ports.{Ports}
-use Rattle.fb_types.specs.declared.deploy.Plan.{Plan}
+use Rattle.fb_system.proofs.lemmas.Common.{◌≡◌, ℕ, false, List, [], ◌∷◌, map, Option, Some, None, Contains, refl, sym, ◌∙◌, ap, subst, slice_get, option_map, filter, false_from_ne_true, same_Some, Name, Path, Port, Kind, ports_of, kind_at, network_at, parent, targets_of, source_of, NameTwice, OwnedNetwork, event_ins, event_outs, data_ins, data_outs, Library, Network, Ports, Plan, ConnectionEnd, NetworkNumbers, same_end, IsEndOf, IsWired, side}
+use Rattle.fb_types.proofs.Common.{same_port, port_in, pairs_in, first_of, events_inside, data_inside, Connection}
 use Rattle.fb_types.proofs.lemmas.names.PathLaws.{same_port_is}
-use Rattle.fb_check_names.specs.declared.numbers.ConnectionEnd.{ConnectionEnd}
 use Rattle.fb_check_names.specs.declared.numbers.NumberedConnection.{NumberedConnection}
-use Rattle.fb_check_names.specs.declared.numbers.NetworkNumbers.{NetworkNumbers}
 use Rattle.fb_check_names.specs.Numbers.{both_ends, data_wire, end_number, event_wire}
 use Rattle.fb_types.proofs.lemmas.lists.ByIndex.{element_of_index}
-use Rattle.fb_system.specs.Wirings.{same_end, targets_in}
-use Rattle.fb_system.specs.Networks.{IsEndOf, IsWired, composite_of, side, source_along, targets_along}
+use Rattle.fb_system.specs.Wirings.{targets_in}
+use Rattle.fb_system.specs.Networks.{composite_of, source_along, targets_along}
 use Rattle.fb_types.proofs.lemmas.lists.Options.{and_then_parts, map_parts}
 use Rattle.fb_system.proofs.lemmas.types.Differing.{flip, kind_apart}
 use Rattle.fb_system.proofs.lemmas.networks.EndIndexes.{AreApart, at_boundary, at_component, end_there, ends_there}

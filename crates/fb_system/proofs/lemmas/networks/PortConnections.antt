@@ -1,23 +1,9 @@
 -- All connections of a port: those around its instance and those inside.
-use Rattle.std.proofs.Common.{◌≡◌, ℕ, ◌<◌, Bool, true, false, cond, List, [], length, Option, Some, None, refl, sym, ◌∙◌, ap, subst, arith}
-use Rattle.std.specs.Prelude.{slice_get, unwrap_or}
-use Rattle.std.proofs.lemmas.List.{length-map}
-use Rattle.fb_types.specs.Names.{Name, Path, Port}
-use Rattle.fb_types.specs.Blocks.{Kind, ports, ports_of}
-use Rattle.fb_types.specs.Flat.{parent, paths_of, last_of, events_inside, data_inside, targets_of, source_of}
-use Rattle.fb_types.specs.Unknown.{event_ins, event_outs, data_ins, data_outs}
-use Rattle.fb_types.specs.declared.library.Library.{Library}
-use Rattle.fb_types.specs.declared.library.Ports.{Ports}
-use Rattle.fb_types.specs.declared.run.Target.{Target}
-use Rattle.fb_check_names.specs.declared.numbers.ConnectionEnd.{ConnectionEnd}
-use Rattle.fb_check_names.specs.declared.numbers.NetworkNumbers.{NetworkNumbers}
+use Rattle.fb_system.proofs.lemmas.Common.{◌≡◌, ℕ, ◌<◌, Bool, true, false, cond, List, [], length, Option, Some, None, refl, sym, ◌∙◌, ap, subst, arith, slice_get, unwrap_or, length-map, Name, Path, Port, Kind, ports, ports_of, parent, paths_of, last_of, targets_of, source_of, event_ins, event_outs, data_ins, data_outs, Library, Ports, Target, InstanceVariable, ConnectionEnd, NetworkNumbers, IsRow, path_of, Layout, InstanceRow, port_of, variable_of, IsEndOf, IsThere, side}
+use Rattle.fb_types.proofs.Common.{events_inside, data_inside}
 use Rattle.fb_types.proofs.lemmas.lists.ByIndex.{element_of_index, element_at}
-use Rattle.fb_system.specs.Layouts.{IsRow, path_of}
-use Rattle.fb_system.specs.declared.layout.Layout.{Layout}
-use Rattle.fb_system.specs.declared.layout.InstanceRow.{InstanceRow}
-use Rattle.fb_types.specs.declared.run.InstanceVariable.{InstanceVariable}
-use Rattle.fb_system.specs.Netlists.{IsPort, IsVariable, ports_here, port_of, variable_of, event_input, event_output, data_input, data_output}
-use Rattle.fb_system.specs.Networks.{AreTables, IsEndOf, IsThere, path_around, side, source_along, targets_along}
+use Rattle.fb_system.specs.Netlists.{IsPort, IsVariable, ports_here, event_input, event_output, data_input, data_output}
+use Rattle.fb_system.specs.Networks.{AreTables, path_around, source_along, targets_along}
 use Rattle.fb_system.proofs.lemmas.networks.Leading.{MayBeWired, input_source, input_targets, output_source, output_targets}
 use Rattle.fb_system.proofs.lemmas.networks.Wired.{around_wired, last_of_route, parent_around, parent_within, stands_there}
 

@@ -1,29 +1,12 @@
 -- The networks that the tables have, and the rows of instances.
-use Rattle.std.proofs.Common.{◌≡◌, ℕ, zero, suc, ◌<◌, ◌-◌, List, [], ◌∷◌, ◌++◌, map, length, get_or, Bor, Option, Some, None, Contains, MatchOption, refl, sym, ◌∙◌, ap, subst, arith}
-use Rattle.std.specs.Prelude.{slice_get, option_map, option_and_then, flat_map}
-use Rattle.std.specs.Option.{option_copied}
-use Rattle.std.proofs.lemmas.List.{length-map}
-use Rattle.std.proofs.lemmas.Option.{same_Some, slice_get_within, slice_get-map, slice_get_read}
-use Rattle.fb_types.specs.Names.{Name, Path}
-use Rattle.fb_types.specs.Blocks.{Kind, Composite}
-use Rattle.fb_types.specs.Flat.{kind_of, kind_at, kind_of_instance, network_at, network_of, inside, instance_at, paths_of, parent, last_of}
-use Rattle.fb_types.specs.Repeated.{networks_in}
-use Rattle.fb_types.specs.declared.library.Library.{Library}
-use Rattle.fb_types.specs.declared.library.BlockType.{BlockType}
+use Rattle.fb_system.proofs.lemmas.Common.{◌≡◌, ℕ, zero, suc, ◌<◌, ◌-◌, List, [], ◌∷◌, ◌++◌, map, length, get_or, Bor, Option, Some, None, Contains, refl, sym, ◌∙◌, ap, subst, arith, slice_get, option_map, option_and_then, flat_map, option_copied, length-map, same_Some, slice_get_within, slice_get-map, slice_get_read, Name, Path, Kind, Composite, kind_of, kind_at, kind_of_instance, network_at, network_of, inside, instance_at, paths_of, parent, last_of, networks_in, Library, BlockType, CompositeType, Instance, Network, EventKind, NetworkNumbers, TypeNumber, kind_of_number, AreComponents, AreNumbers, IsRow, path_of, index_at, route_to, Layout, InstanceRow, IsThere, IsWired}
+use Rattle.fb_types.proofs.Common.{MatchOption}
 use Rattle.fb_types.specs.declared.library.BlockType.TheVariants as block
-use Rattle.fb_types.specs.declared.library.CompositeType.{CompositeType}
-use Rattle.fb_types.specs.declared.library.Instance.{Instance}
-use Rattle.fb_types.specs.declared.library.Network.{Network}
-use Rattle.fb_types.specs.declared.event_kind.EventKind.{EventKind}
 use Rattle.fb_types.proofs.lemmas.lists.Elements.{Contains-here, Contains-there}
-use Rattle.fb_check_names.specs.declared.numbers.NetworkNumbers.{NetworkNumbers}
-use Rattle.fb_check_names.specs.declared.numbers.TypeNumber.{TypeNumber}
 use Rattle.fb_check_names.specs.declared.numbers.TypeNumber.TheVariants as number
-use Rattle.fb_check_names.specs.Numbers.{IsNetwork, kind_of_number}
-use Rattle.fb_system.specs.Layouts.{AreComponents, AreNumbers, IsParent, IsInNetwork, IsRow, path_of, index_at, route_to}
-use Rattle.fb_system.specs.declared.layout.Layout.{Layout}
-use Rattle.fb_system.specs.declared.layout.InstanceRow.{InstanceRow}
-use Rattle.fb_system.specs.Networks.{AreTables, IsAround, IsThere, IsWired, composite_of, path_around}
+use Rattle.fb_check_names.specs.Numbers.{IsNetwork}
+use Rattle.fb_system.specs.Layouts.{IsParent, IsInNetwork}
+use Rattle.fb_system.specs.Networks.{AreTables, IsAround, composite_of, path_around}
 use Rattle.fb_types.proofs.lemmas.lists.ByIndex.{element_at, all_at}
 use Rattle.fb_system.proofs.lemmas.types.Differing.{instances_once}
 

@@ -1,7 +1,5 @@
 -- Rows that are found by their ranges: how they are found, and how rows are added.
-use Rattle.std.proofs.Common.{◌≡◌, ℕ, zero, suc, Bool, true, false, ◌<◌, ◌+◌, List, [], ◌∷◌, ◌++◌, length, length-append, get_or, Some, ◌⊎◌, inl, inr, refl, sym, ◌∙◌, ap, subst, arith}
-use Rattle.std.specs.Prelude.{min, slice_get}
-use Rattle.std.proofs.lemmas.Option.{same_Some, slice_get-get_or, slice_get_within}
+use Rattle.fb_types.proofs.Common.{◌≡◌, ℕ, zero, suc, Bool, true, false, ◌<◌, ◌+◌, List, [], ◌∷◌, ◌++◌, length, length-append, get_or, Some, ◌⊎◌, inl, inr, refl, sym, ◌∙◌, ap, subst, arith, min, slice_get, same_Some, slice_get-get_or, slice_get_within}
 use Rattle.fb_types.proofs.lemmas.lists.ByIndex.{slice_get-append_here, slice_get-append_left, slice_get-push}
 use Rattle.fb_system.specs.RowRanges.{AreAt, AreInRanges, HasRow, HasRows, Keeps, end_of, first_of}
 use Rattle.fb_system.specs.declared.row_ranges.RowRanges.{RowRanges}

@@ -1,10 +1,5 @@
 -- Rows of event ports and of sources: what is read from them.
-use Rattle.std.proofs.Common.{◌≡◌, ℕ, Option, Some, Bor, sym, subst}
-use Rattle.std.specs.Prelude.{IfSome}
-use Rattle.fb_types.specs.Headline.{Inputs, system_of}
-use Rattle.fb_types.specs.Systems.{System}
-use Rattle.fb_types.specs.declared.run.InstanceVariable.{InstanceVariable}
-use Rattle.fb_types.specs.declared.run.Target.{Target}
+use Rattle.fb_types.proofs.Common.{◌≡◌, ℕ, Option, Some, Bor, sym, subst, IfSome, Inputs, system_of, System, InstanceVariable, Target}
 use Rattle.fb_system.specs.Ends.{ComesFrom, LeadsTo}
 use Rattle.fb_system.specs.PortRows.{IsPortRow}
 use Rattle.fb_system.specs.declared.ends.SourceRow.{SourceRow}

@@ -1,12 +1,10 @@
 -- The rows that a system keeps: how contracts see them, and what a system is made of.
-use Rattle.std.proofs.Common.{◌≡◌, refl, sym, ◌∙◌, ap, subst}
-use Rattle.fb_types.specs.Headline.{Inputs, system_of}
-use Rattle.fb_system.specs.Ends.{AreSources, IsSourceRowAt}
-use Rattle.fb_system.specs.PortRows.{ArePortRows, IsPortRowAt}
-use Rattle.fb_system.specs.Heads.{AreHeads, IsRowAt}
-use Rattle.fb_system.specs.Systems.{HaveRows, inputs_of, IsBare, IsKept, AreTables}
+use Rattle.fb_system.proofs.lemmas.Common.{◌≡◌, refl, sym, ◌∙◌, ap, subst, Inputs, system_of, IsSourceRowAt, IsPortRowAt, IsRowAt, inputs_of, AreTables, Whole}
+use Rattle.fb_system.specs.Ends.{AreSources}
+use Rattle.fb_system.specs.PortRows.{ArePortRows}
+use Rattle.fb_system.specs.Heads.{AreHeads}
+use Rattle.fb_system.specs.Systems.{HaveRows, IsBare, IsKept}
 use Rattle.fb_system.specs.declared.kept.Kept.{Kept}
-use Rattle.fb_system.specs.declared.whole.Whole.{Whole}
 use Rattle.fb_system.proofs.lemmas.rows.InRanges.{none_in_ranges}
 
 -- ---- The rows of the inputs that a system represents

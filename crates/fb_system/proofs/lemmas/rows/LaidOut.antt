@@ -1,29 +1,11 @@
 -- What is laid out has the rows of all instances at their numbers.
-use Rattle.std.proofs.Common.{◌≡◌, ℕ, zero, suc, ◌+◌, ◌<◌, ◌≤◌, List, [], ◌∷◌, ◌++◌, map, length, get_or, Option, Some, None, Contains, refl, sym, ◌∙◌, ap, subst, inl, arith}
-use Rattle.std.specs.Prelude.{slice_get, option_and_then, unwrap_or, flat_map}
-use Rattle.std.proofs.lemmas.List.{length-append}
-use Rattle.std.proofs.lemmas.List.Elements.{All-cons, All-nil}
-use Rattle.std.proofs.lemmas.Option.{slice_get_within, slice_get-get_or}
-use Rattle.fb_types.specs.Names.{Path}
-use Rattle.fb_types.specs.Flat.{inside, network_at, kind_at, kind_of_instance, paths_inside, paths_of, parent, number_of}
-use Rattle.fb_types.specs.Joined.{TooHigh}
-use Rattle.fb_types.specs.Repeated.{NameTwice, networks, networks_in}
-use Rattle.fb_types.specs.Text.{path_text}
-use Rattle.fb_types.specs.declared.library.Library.{Library}
-use Rattle.fb_types.specs.declared.library.CompositeType.{CompositeType}
-use Rattle.fb_types.specs.declared.library.Instance.{Instance}
-use Rattle.fb_types.specs.declared.library.Network.{Network}
-use Rattle.fb_types.specs.declared.deploy.Plan.{Plan}
+use Rattle.fb_system.proofs.lemmas.Common.{◌≡◌, ℕ, zero, suc, ◌+◌, ◌<◌, ◌≤◌, List, [], ◌∷◌, ◌++◌, map, length, get_or, Option, Some, None, Contains, refl, sym, ◌∙◌, ap, subst, inl, arith, slice_get, option_and_then, unwrap_or, flat_map, length-append, slice_get_within, slice_get-get_or, Path, inside, network_at, kind_at, kind_of_instance, paths_of, parent, NameTwice, networks, networks_in, Library, CompositeType, Instance, Network, Plan, IsResolved, each_or_none, type_number, NetworkNumbers, Resolved, TypeNumber, InstanceRow, Layout, layer, network_inside, path_of, index_at, route_to, AreNumbers, AreComponents, IsRow}
+use Rattle.fb_types.proofs.Common.{All-cons, All-nil, paths_inside, TooHigh, path_text}
+use Rattle.fb_types.specs.Flat.{number_of}
 use Rattle.fb_types.proofs.lemmas.lists.Elements.{Contains-here}
 use Rattle.fb_check_names.proofs.lemmas.Each.{each_parts}
-use Rattle.fb_check_names.specs.Numbers.{IsResolved, each_or_none, type_number}
-use Rattle.fb_check_names.specs.declared.numbers.NetworkNumbers.{NetworkNumbers}
-use Rattle.fb_check_names.specs.declared.numbers.Resolved.{Resolved}
-use Rattle.fb_check_names.specs.declared.numbers.TypeNumber.{TypeNumber}
-use Rattle.fb_system.specs.declared.layout.InstanceRow.{InstanceRow}
-use Rattle.fb_system.specs.declared.layout.Layout.{Layout}
-use Rattle.fb_system.specs.Layers.{Around, Layer, layer_of, layer_inside, layer_among, layer, network_inside, row_under, with_components}
-use Rattle.fb_system.specs.Layouts.{path_of, index_at, route_to, AreNumbers, AreComponents, IsRow, IsLayout}
+use Rattle.fb_system.specs.Layers.{Around, Layer, layer_of, layer_inside, layer_among, row_under, with_components}
+use Rattle.fb_system.specs.Layouts.{IsLayout}
 use Rattle.fb_types.proofs.lemmas.lists.ByIndex.{element_of_index}
 use Rattle.fb_system.proofs.lemmas.networks.InsideInstances.{IsFound, found_inside, type_by_number, kind_known, network_known}
 use Rattle.fb_system.proofs.lemmas.networks.Distinct.{AreOnce, below, paths_from, paths_once, position_of_path}

@@ -1,16 +1,7 @@
 -- A network laid out instance by instance: what is laid out so far, and what is left.
-use Rattle.std.proofs.Common.{◌≡◌, ℕ, zero, suc, ◌+◌, ◌≤◌, ◌<◌, List, [], ◌∷◌, ◌++◌, length, get_or, drop, Option, Some, None, refl, sym, ◌∙◌, ap, subst, arith, append_assoc}
-use Rattle.std.specs.Prelude.{slice_get}
-use Rattle.std.proofs.lemmas.Option.{slice_get_read}
-use Rattle.std.proofs.lemmas.List.{length-append, append-nil}
-use Rattle.fb_types.specs.declared.library.Library.{Library}
-use Rattle.fb_types.specs.declared.library.Instance.{Instance}
-use Rattle.fb_types.specs.declared.library.Network.{Network}
-use Rattle.fb_check_names.specs.declared.numbers.NetworkNumbers.{NetworkNumbers}
-use Rattle.fb_check_names.specs.declared.numbers.Resolved.{Resolved}
-use Rattle.fb_check_names.specs.declared.numbers.TypeNumber.{TypeNumber}
-use Rattle.fb_system.specs.declared.layout.InstanceRow.{InstanceRow}
-use Rattle.fb_system.specs.Layers.{Around, Layer, no_layer, layer_of, layer_inside, layer_among, layer, network_inside, row_under, with_components}
+use Rattle.fb_system.proofs.lemmas.Common.{◌≡◌, ℕ, zero, suc, ◌+◌, ◌≤◌, ◌<◌, List, [], ◌∷◌, ◌++◌, length, get_or, Option, Some, None, refl, sym, ◌∙◌, ap, subst, arith, append_assoc, slice_get, slice_get_read, length-append, append-nil, Library, Instance, Network, NetworkNumbers, Resolved, TypeNumber, InstanceRow, layer, network_inside}
+use Rattle.fb_types.proofs.Common.{drop}
+use Rattle.fb_system.specs.Layers.{Around, Layer, no_layer, layer_of, layer_inside, layer_among, row_under, with_components}
 
 -- ---- The rest of a list
 

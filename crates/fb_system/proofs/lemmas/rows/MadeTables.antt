@@ -1,16 +1,9 @@
 -- The tables that are made of a declaration and its numbers.
-use Rattle.std.proofs.Common.{◌≡◌, ◌≤◌, List, length, Ok, Option, None, sym, ◌∙◌, ap, subst}
-use Rattle.std.specs.Prelude.{IfOk, Result, slice_get}
-use Rattle.fb_types.specs.Flat.{paths_of}
-use Rattle.fb_types.specs.Repeated.{NameTwice}
-use Rattle.fb_types.specs.declared.library.Library.{Library}
-use Rattle.fb_types.specs.declared.deploy.Plan.{Plan}
-use Rattle.fb_check_names.specs.Numbers.{IsNetwork, IsResolved}
-use Rattle.fb_check_names.specs.declared.numbers.NetworkNumbers.{NetworkNumbers}
-use Rattle.fb_check_names.specs.declared.numbers.Resolved.{Resolved}
+use Rattle.fb_system.proofs.lemmas.Common.{◌≡◌, ◌≤◌, List, length, Option, None, sym, ◌∙◌, ap, subst, slice_get, paths_of, NameTwice, Library, Plan, IsResolved, NetworkNumbers, Resolved, Layout, AreNarrow}
+use Rattle.fb_types.proofs.Common.{Ok, IfOk, Result}
+use Rattle.fb_check_names.specs.Numbers.{IsNetwork}
 use Rattle.fb_system.specs.Layouts.{IsLayout}
-use Rattle.fb_system.specs.declared.layout.Layout.{Layout}
-use Rattle.fb_system.specs.Networks.{AreNarrow, AreTables}
+use Rattle.fb_system.specs.Networks.{AreTables}
 
 -- what a result that is Ok guarantees
 pub ok_read : {A E : Type 0} (r : Result A E) (P : A → Type 0) (a : A) → IfOk r P → r ≡ Ok a → P a

@@ -1,8 +1,5 @@
 -- What the tables say of an event port.
-use Rattle.std.proofs.Common.{◌≡◌, ◌<◌, ℕ, List, [], ◌∷◌, length, get_or, arith}
-use Rattle.fb_types.specs.Names.{Name}
-use Rattle.fb_types.specs.declared.library.Variable.{Variable}
-use Rattle.fb_system.specs.IndexLists.{AreIndexes}
+use Rattle.fb_system.proofs.lemmas.Common.{◌≡◌, ◌<◌, ℕ, List, [], ◌∷◌, length, get_or, arith, Name, Variable, AreIndexes}
 
 -- no index
 pub no_index : (vs : List Variable) (names : List Name) (indexes : List ℕ) → length indexes < 1 → AreIndexes vs names indexes → AreIndexes vs names []

@@ -1,12 +1,8 @@
 -- Tables of the ends of wires, one wire at a time.
-use Rattle.std.proofs.Common.{◌≡◌, ℕ, ◌<◌, ◌+◌, Bool, true, false, cond, List, [], ◌∷◌, ◌++◌, length, map, take, get_or, refl, sym, ◌∙◌, ap}
-use Rattle.std.specs.List.{filter}
-use Rattle.std.proofs.lemmas.List.{map-append, append-nil}
+use Rattle.fb_system.proofs.lemmas.Common.{◌≡◌, ℕ, ◌<◌, ◌+◌, Bool, true, false, cond, List, [], ◌∷◌, ◌++◌, length, map, take, get_or, refl, sym, ◌∙◌, ap, filter, map-append, append-nil, ConnectionEnd, same_end}
 use Rattle.std.proofs.lemmas.List.Elements.{filter_more}
-use Rattle.fb_check_names.specs.declared.numbers.ConnectionEnd.{ConnectionEnd}
 use Rattle.fb_check_names.specs.declared.numbers.NumberedConnection.{NumberedConnection}
 use Rattle.fb_system.specs.NetworkTables.{ends_at}
-use Rattle.fb_system.specs.Wirings.{same_end}
 use Rattle.fb_system.specs.declared.connection_table.ConnectionTable.{ConnectionTable}
 
 -- the results of a function for the elements that pass a test, with one element more

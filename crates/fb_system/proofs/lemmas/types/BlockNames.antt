@@ -1,23 +1,8 @@
 -- What a catalog and known names guarantee of each block type: its variables follow each other among all names, and its
 -- WITH lists name variables, each once.
-use Rattle.std.proofs.Common.{◌≡◌, ◌⊎◌, ℕ, ◌+◌, true, false, List, [], ◌∷◌, ◌++◌, length, map, Some, Contains, Bor, refl, sym, ◌∙◌, ap, subst, inl, inr, length-append, append_assoc}
-use Rattle.std.specs.Prelude.{slice_get, position, option_map, flat_map}
-use Rattle.std.specs.List.{list_any}
-use Rattle.std.specs.BTreeMap.{BTreeMap}
-use Rattle.std.proofs.lemmas.Bool.{true≢false}
-use Rattle.std.proofs.lemmas.List.Elements.{Contains-append_left, Contains-append_right}
-use Rattle.std.proofs.lemmas.Option.{slice_get-map, same_Some}
-use Rattle.fb_types.specs.Names.{Name, same_name}
-use Rattle.fb_types.specs.Blocks.{event_names, variable_names, ports_of}
-use Rattle.fb_types.specs.Flat.{kind_of}
-use Rattle.fb_types.specs.Repeated.{Twice, NameTwice, networks, basics, interfaces, internals_of, with_lists}
-use Rattle.fb_types.specs.Unknown.{NameUnknown, Required, all_of, required, required_types, required_withs, required_chart, required_parameters, required_deployment}
-use Rattle.fb_types.specs.declared.library.Library.{Library}
-use Rattle.fb_types.specs.declared.library.BlockType.{BlockType}
+use Rattle.fb_system.proofs.lemmas.Common.{◌≡◌, ◌⊎◌, ℕ, ◌+◌, true, false, List, [], ◌∷◌, ◌++◌, length, map, Some, Contains, Bor, refl, sym, ◌∙◌, ap, subst, inl, inr, length-append, append_assoc, slice_get, position, option_map, flat_map, list_any, Contains-append_left, Contains-append_right, slice_get-map, same_Some, Name, same_name, event_names, variable_names, ports_of, kind_of, Twice, NameTwice, networks, NameUnknown, Library, BlockType, EventPort, Variable, Plan, WithIndexes, AreWithIndexes}
+use Rattle.fb_types.proofs.Common.{BTreeMap, true≢false, basics, interfaces, internals_of, with_lists, Required, all_of, required, required_types, required_withs, required_chart, required_parameters, required_deployment}
 use Rattle.fb_types.specs.declared.library.BlockType.TheVariants as block
-use Rattle.fb_types.specs.declared.library.EventPort.{EventPort}
-use Rattle.fb_types.specs.declared.library.Variable.{Variable}
-use Rattle.fb_types.specs.declared.deploy.Plan.{Plan}
 use Rattle.fb_check_names.specs.Catalog.{IsCatalog, IsBlock}
 use Rattle.fb_check_names.specs.GivenTwice.{TwiceIn, BlockTwice}
 use Rattle.fb_check_names.specs.Indexes.{IsIndex}
@@ -30,8 +15,6 @@ use Rattle.fb_types.proofs.lemmas.lists.TwiceLaws.{Twice-append_left, Twice-appe
 use Rattle.fb_check_names.proofs.lemmas.twice.NameTwice.{block_twice}
 use Rattle.fb_types.proofs.lemmas.lists.ByIndex.{slice_get-append_left, slice_get-push, slice_get-after, element_of_index}
 use Rattle.fb_system.specs.Lookups.{AreIndexedFrom, AreEvents, IsIndexed}
-use Rattle.fb_system.specs.declared.with_indexes.WithIndexes.{WithIndexes}
-use Rattle.fb_system.specs.IndexLists.{AreWithIndexes}
 use Rattle.fb_system.specs.Tables.{AreBlocks, AreOfBlocksUpTo}
 
 -- ---- Lists

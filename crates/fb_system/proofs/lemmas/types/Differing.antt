@@ -1,25 +1,11 @@
 -- The names of the ports of a type differ, and so do the names of the instances of a network.
-use Rattle.std.proofs.Common.{◌≡◌, List, [], ◌∷◌, ◌++◌, map, Some, None, Contains, refl, sym, ◌∙◌, ap, subst, inl, inr}
-use Rattle.std.specs.Prelude.{slice_get, option_map, option_and_then, flat_map}
-use Rattle.std.proofs.lemmas.List.{append_assoc}
-use Rattle.std.proofs.lemmas.List.Elements.{Contains-append_left, Contains-append_right}
-use Rattle.fb_types.specs.Names.{Name, Path}
-use Rattle.fb_types.specs.Blocks.{Kind, Event, variable_names, ports_of, ports_of_event_block}
-use Rattle.fb_types.specs.Flat.{kind_of, type_named, kind_at, kind_of_instance, instance_at, resource_names_of}
-use Rattle.fb_types.specs.Repeated.{Twice, OwnedNetwork, NameTwice, networks, port_names, internals_of, name_spaces, block_type_names, algorithm_names, state_names, basics, instance_names, with_lists, interfaces, parameter_lists}
-use Rattle.fb_types.specs.Unknown.{event_ins, event_outs, data_ins, data_outs}
-use Rattle.fb_types.specs.declared.library.Library.{Library}
-use Rattle.fb_types.specs.declared.library.BlockType.{BlockType}
-use Rattle.fb_types.specs.declared.library.Ports.{Ports}
-use Rattle.fb_types.specs.declared.event_kind.EventKind.{EventKind}
-use Rattle.fb_types.specs.declared.deploy.Plan.{Plan}
+use Rattle.fb_system.proofs.lemmas.Common.{◌≡◌, List, [], ◌∷◌, ◌++◌, map, Some, None, Contains, refl, sym, ◌∙◌, ap, subst, inl, inr, slice_get, option_map, option_and_then, flat_map, append_assoc, Contains-append_left, Contains-append_right, Name, Path, Kind, Event, variable_names, ports_of, ports_of_event_block, kind_of, type_named, kind_at, kind_of_instance, instance_at, Twice, OwnedNetwork, NameTwice, networks, instance_names, event_ins, event_outs, data_ins, data_outs, Library, BlockType, Ports, EventKind, Plan, TypeNumber, type_number, kind_of_number}
+use Rattle.fb_types.proofs.Common.{resource_names_of, port_names, internals_of, name_spaces, block_type_names, algorithm_names, state_names, basics, with_lists, interfaces, parameter_lists}
 use Rattle.fb_types.proofs.lemmas.lists.TwiceLaws.{Twice-append_left, Twice-append_right}
 use Rattle.fb_types.proofs.lemmas.lists.Elements.{Contains-nil, Contains-cons_cases, Contains-there, Contains-map}
 use Rattle.fb_types.proofs.lemmas.lists.ByIndex.{element_of_index}
 use Rattle.fb_types.proofs.lemmas.events.EventNames.{ports_once}
-use Rattle.fb_check_names.specs.declared.numbers.TypeNumber.{TypeNumber}
 use Rattle.fb_check_names.specs.declared.numbers.TypeNumber.TheVariants as number
-use Rattle.fb_check_names.specs.Numbers.{type_number, kind_of_number}
 use Rattle.fb_check_names.proofs.lemmas.numbers.Lookups.{type_named-number}
 
 -- ---- Parts of a list in which nothing occurs twice

@@ -1,31 +1,15 @@
 -- What accepted names guarantee of an instance: the variables of its type differ, and its parameters name inputs, each
 -- once.
-use Rattle.std.proofs.Common.{◌≡◌, ◌⊎◌, ℕ, List, [], ◌∷◌, ◌++◌, Option, Some, None, Contains, refl, sym, ◌∙◌, ap, subst, inl, inr, append_assoc}
-use Rattle.std.specs.Prelude.{flat_map, option_map, option_and_then}
-use Rattle.std.proofs.lemmas.List.Elements.{Contains-append_right}
-use Rattle.std.proofs.lemmas.Option.{same_Some}
-use Rattle.fb_types.specs.Names.{Name, Path}
-use Rattle.fb_types.specs.Blocks.{Kind, Event, named, event_blocks, event_names, ports_of, variable_names}
-use Rattle.fb_types.specs.Flat.{kind_of, type_name, type_named, network_of, instance_in, kind_of_instance, inside, network_at, instance_at}
-use Rattle.fb_types.specs.Repeated.{Twice, OwnedNetwork, NameTwice, networks, networks_in, internals_of, port_names, parameter_lists}
-use Rattle.fb_types.specs.Unknown.{NameUnknown, Required, all_of, data_ins, required_parameters, required_types}
-use Rattle.fb_types.specs.declared.event_kind.EventKind.{EventKind}
-use Rattle.fb_types.specs.declared.deploy.Plan.{Plan}
-use Rattle.fb_types.specs.declared.library.BlockType.{BlockType}
+use Rattle.fb_system.proofs.lemmas.Common.{◌≡◌, ◌⊎◌, ℕ, List, [], ◌∷◌, ◌++◌, Option, Some, None, Contains, refl, sym, ◌∙◌, ap, subst, inl, inr, append_assoc, flat_map, option_map, option_and_then, Contains-append_right, same_Some, Name, Path, Kind, Event, named, event_names, ports_of, variable_names, kind_of, type_named, network_of, instance_in, kind_of_instance, inside, network_at, instance_at, Twice, OwnedNetwork, NameTwice, networks, networks_in, NameUnknown, data_ins, EventKind, Plan, BlockType, Instance, Library, Network, Ports, each_or_none, index_of, parameter_numbers, parameter_names}
+use Rattle.fb_types.proofs.Common.{event_blocks, type_name, internals_of, port_names, parameter_lists, Required, all_of, required_parameters, required_types}
 use Rattle.fb_types.specs.declared.library.BlockType.TheVariants as block
-use Rattle.fb_types.specs.declared.library.Instance.{Instance}
-use Rattle.fb_types.specs.declared.library.Library.{Library}
-use Rattle.fb_types.specs.declared.library.Network.{Network}
-use Rattle.fb_types.specs.declared.library.Ports.{Ports}
 use Rattle.fb_check_names.specs.GivenTwice.{NetworkTwice}
 use Rattle.fb_types.proofs.lemmas.lists.TwiceLaws.{Twice-append_left, Twice-append_right}
 use Rattle.fb_types.proofs.lemmas.names.NameLaws.{named-Contains}
 use Rattle.fb_types.proofs.lemmas.lists.Elements.{Contains-here, Contains-there, Contains-map, Contains-flat_map}
 use Rattle.fb_types.proofs.lemmas.events.EventNames.{variables_once as event_variables_once}
 use Rattle.fb_check_names.proofs.lemmas.twice.NameTwice.{block_twice, network_twice}
-use Rattle.fb_check_names.specs.Numbers.{each_or_none, index_of, parameter_numbers}
 use Rattle.fb_check_names.proofs.lemmas.unknown.Resolving.{of_network}
-use Rattle.fb_system.specs.Begins.{parameter_names}
 
 -- ---- The variables of a type
 

@@ -1,14 +1,8 @@
 -- Rising indexes are those of a filter: indexes in ascending order, each once, keep the names that a test passes, in the
 -- order of the list.
-use Rattle.std.proofs.Common.{◌≡◌, ◌⊎◌, ℕ, suc, ◌<◌, ◌≤◌, ◌+◌, Bool, true, false, cond, List, [], ◌∷◌, length, map, Some, Contains, refl, sym, ◌∙◌, ap, subst, inl, inr, arith}
-use Rattle.std.specs.Prelude.{IsPermutation, sum_by, slice_get}
-use Rattle.std.specs.Bool.{Decides}
-use Rattle.std.specs.List.{filter}
+use Rattle.fb_types.proofs.Common.{◌≡◌, ◌⊎◌, ℕ, suc, ◌<◌, ◌≤◌, ◌+◌, Bool, true, false, cond, List, [], ◌∷◌, length, map, Some, Contains, refl, sym, ◌∙◌, ap, subst, inl, inr, arith, IsPermutation, sum_by, slice_get, Decides, filter, cases_eq, cases_lt, sum_by-cons, Name}
 use Rattle.std.specs.List.Sorted.{IsNonDecreasing}
-use Rattle.std.proofs.lemmas.Bool.{cases_eq, cases_lt}
-use Rattle.std.proofs.lemmas.List.Sums.{sum_by-cons}
 use Rattle.std.proofs.lemmas.List.Sorted.{sum_by-IsPermutation}
-use Rattle.fb_types.specs.Names.{Name}
 use Rattle.fb_types.proofs.lemmas.lists.Elements.{Contains-nil, Contains-cons_cases, Contains-here, Contains-there}
 
 -- ---- How often an index is in a list

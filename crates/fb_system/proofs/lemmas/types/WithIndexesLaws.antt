@@ -1,22 +1,7 @@
 -- The interfaces of types, for the inputs that a system represents.
-use Rattle.std.proofs.Common.{◌≡◌, ℕ, ◌<◌, List, [], length, get_or, Option, Some, None, refl, sym, ◌∙◌, ap, subst, arith}
-use Rattle.std.specs.Prelude.{option_map, slice_get}
-use Rattle.std.proofs.lemmas.Option.{same_Some, slice_get_read}
-use Rattle.fb_types.specs.Blocks.{Kind, inputs_with, outputs_with, ports, ports_of}
-use Rattle.fb_types.specs.Flat.{kind_at, kind_of}
-use Rattle.fb_types.specs.Headline.{Inputs, system_of}
-use Rattle.fb_types.specs.Numbers.{event_at, path_at, ports_at}
-use Rattle.fb_types.specs.declared.library.BlockType.{BlockType}
-use Rattle.fb_types.specs.declared.library.Library.{Library}
-use Rattle.fb_types.specs.declared.library.Ports.{Ports}
-use Rattle.fb_check_names.specs.Numbers.{kind_of_number}
-use Rattle.fb_check_names.specs.declared.numbers.TypeNumber.{TypeNumber}
+use Rattle.fb_system.proofs.lemmas.Common.{◌≡◌, ℕ, ◌<◌, List, [], length, get_or, Option, Some, None, refl, sym, ◌∙◌, ap, subst, arith, option_map, slice_get, same_Some, slice_get_read, Kind, ports, ports_of, kind_at, kind_of, Inputs, system_of, path_at, ports_at, BlockType, Library, Ports, kind_of_number, TypeNumber, path_of, AreIndexes, AreWithIndexes, WithIndexes, inputs_of, Whole}
+use Rattle.fb_types.proofs.Common.{inputs_with, outputs_with, event_at}
 use Rattle.fb_check_names.specs.declared.numbers.TypeNumber.TheVariants as number
-use Rattle.fb_system.specs.Layouts.{path_of}
-use Rattle.fb_system.specs.IndexLists.{AreIndexes, AreWithIndexes}
-use Rattle.fb_system.specs.declared.with_indexes.WithIndexes.{WithIndexes}
-use Rattle.fb_system.specs.Systems.{inputs_of}
-use Rattle.fb_system.specs.declared.whole.Whole.{Whole}
 use Rattle.fb_system.proofs.lemmas.inputs.TablesOfInputs.{library_seen}
 use Rattle.fb_types.proofs.lemmas.lists.Options.{map_parts}
 

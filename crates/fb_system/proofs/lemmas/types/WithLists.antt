@@ -1,21 +1,10 @@
 -- The indexes of the variables that a WITH list names, and those of the variables WITH an event.
-use Rattle.std.proofs.Common.{◌≡◌, ℕ, zero, suc, ◌<◌, ◌+◌, Bool, true, false, ◌&&◌, ◌||◌, List, [], ◌∷◌, length, map, get_or, Option, Some, None, Contains, Bor, refl, sym, ◌∙◌, ap, subst, inl, inr, arith}
-use Rattle.std.specs.Prelude.{IsPermutation, slice_get, unwrap_or, option_map, position, IsSorted}
-use Rattle.std.specs.Bool.{Decides}
-use Rattle.std.specs.List.{filter, list_any}
+use Rattle.fb_types.proofs.Common.{◌≡◌, ℕ, zero, suc, ◌<◌, ◌+◌, Bool, true, false, ◌&&◌, ◌||◌, List, [], ◌∷◌, length, map, get_or, Option, Some, None, Contains, Bor, refl, sym, ◌∙◌, ap, subst, inl, inr, arith, IsPermutation, slice_get, unwrap_or, option_map, position, Decides, filter, list_any, nat_cmp, BTreeMap, false_from_ne_true, length-map, Contains-get_or, slice_get-map, slice_get_within, same_Some, Name, same_name, among, event_names, variable_names, variables_with, Twice, EventPort, Variable}
+use Rattle.std.specs.Prelude.{IsSorted}
 use Rattle.std.specs.List.Sorted.{IsNonDecreasing}
-use Rattle.std.specs.Ordering.{nat_cmp}
-use Rattle.std.specs.BTreeMap.{BTreeMap}
-use Rattle.std.proofs.lemmas.Bool.{false_from_ne_true}
-use Rattle.std.proofs.lemmas.List.{length-map}
-use Rattle.std.proofs.lemmas.List.Elements.{filter_agree, Contains-get_or}
+use Rattle.std.proofs.lemmas.List.Elements.{filter_agree}
 use Rattle.std.proofs.lemmas.List.Sorted.{Contains-permutation, IsPermutation-sym, IsNonDecreasingBy-from_sort}
-use Rattle.std.proofs.lemmas.Option.{slice_get-map, slice_get_within, slice_get_cases, same_Some}
-use Rattle.fb_types.specs.Names.{Name, same_name}
-use Rattle.fb_types.specs.Blocks.{among, event_names, variable_names, variables_with}
-use Rattle.fb_types.specs.Repeated.{Twice}
-use Rattle.fb_types.specs.declared.library.EventPort.{EventPort}
-use Rattle.fb_types.specs.declared.library.Variable.{Variable}
+use Rattle.std.proofs.lemmas.Option.{slice_get_cases}
 use Rattle.fb_check_names.specs.Indexes.{index_in}
 use Rattle.fb_types.proofs.lemmas.lists.Positions.{is_some-position, position_is, position_of_once, slice_get-Contains}
 use Rattle.fb_types.proofs.lemmas.lists.Elements.{Contains-here, Contains-there, Contains-map, map-Contains}

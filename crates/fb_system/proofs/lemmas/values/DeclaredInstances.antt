@@ -1,20 +1,8 @@
 -- Instances as they are declared, and their parameters by number.
-use Rattle.std.proofs.Common.{◌≡◌, ℕ, ◌<◌, List, length, Bor, Option, Some, None, sym, ◌∙◌, ap}
-use Rattle.std.specs.Prelude.{slice_get, option_and_then}
-use Rattle.std.specs.Option.{option_copied}
-use Rattle.std.proofs.lemmas.Option.{same_Some}
-use Rattle.fb_types.specs.Flat.{instance_at, instance_in, last_of, network_at, network_of, paths_of}
-use Rattle.fb_types.specs.declared.library.Instance.{Instance}
-use Rattle.fb_types.specs.declared.library.Library.{Library}
-use Rattle.fb_types.specs.declared.library.Network.{Network}
+use Rattle.fb_system.proofs.lemmas.Common.{◌≡◌, ℕ, ◌<◌, List, length, Bor, Option, Some, None, sym, ◌∙◌, ap, slice_get, option_and_then, option_copied, same_Some, instance_at, instance_in, last_of, network_at, network_of, paths_of, Instance, Library, Network, kind_of_number, parameter_numbers, NetworkNumbers, IsRow, path_of, Layout, InstanceRow, IsWired}
 use Rattle.fb_types.proofs.lemmas.lists.Positions.{named_of_once}
-use Rattle.fb_check_names.specs.Numbers.{kind_of_number, parameter_numbers}
-use Rattle.fb_check_names.specs.declared.numbers.NetworkNumbers.{NetworkNumbers}
 use Rattle.fb_check_names.proofs.lemmas.Each.{each_at}
-use Rattle.fb_system.specs.Layouts.{IsRow, path_of}
-use Rattle.fb_system.specs.declared.layout.Layout.{Layout}
-use Rattle.fb_system.specs.declared.layout.InstanceRow.{InstanceRow}
-use Rattle.fb_system.specs.Networks.{AreTables, IsWired, path_around}
+use Rattle.fb_system.specs.Networks.{AreTables, path_around}
 use Rattle.fb_system.proofs.lemmas.networks.Wired.{around_wired, last_of_route, network_by_kind, parent_around, parent_within}
 
 -- ---- Networks

@@ -1,25 +1,11 @@
 -- The initial values of the variables of an instance, for the inputs that a system represents.
-use Rattle.std.proofs.Common.{◌≡◌, ℕ, List, [], map, Option, Some, None, refl, sym, ◌∙◌, ap, subst}
-use Rattle.std.specs.Prelude.{option_and_then}
-use Rattle.fb_types.specs.Names.{Path}
-use Rattle.fb_types.specs.Blocks.{Kind, initial_of, ports, ports_of, variable_names}
-use Rattle.fb_types.specs.Flat.{initial_at, instance_at, kind_at, kind_of_instance}
-use Rattle.fb_types.specs.Headline.{AreAccepted, Inputs, system_of}
-use Rattle.fb_types.specs.Numbers.{path_at, ports_at}
-use Rattle.fb_types.specs.Repeated.{Twice}
-use Rattle.fb_types.specs.Unknown.{data_ins}
-use Rattle.fb_types.specs.declared.library.Instance.{Instance}
-use Rattle.fb_types.specs.declared.library.Library.{Library}
-use Rattle.fb_types.specs.declared.library.Parameter.{Parameter}
-use Rattle.fb_types.specs.declared.library.Ports.{Ports}
-use Rattle.fb_check_names.specs.Numbers.{each_or_none, parameter_numbers, index_of}
-use Rattle.fb_system.specs.Layouts.{path_of}
-use Rattle.fb_system.specs.Begins.{begins_with, parameter_names}
+use Rattle.fb_system.proofs.lemmas.Common.{◌≡◌, ℕ, List, [], map, Option, Some, None, refl, sym, ◌∙◌, ap, subst, option_and_then, Path, Kind, initial_of, ports, ports_of, variable_names, instance_at, kind_at, kind_of_instance, Inputs, system_of, path_at, ports_at, Twice, data_ins, Instance, Library, Ports, each_or_none, parameter_numbers, index_of, path_of, parameter_names, inputs_of, Whole}
+use Rattle.fb_types.proofs.Common.{AreAccepted, Parameter}
+use Rattle.fb_types.specs.Flat.{initial_at}
+use Rattle.fb_system.specs.Begins.{begins_with}
 use Rattle.fb_system.proofs.lemmas.values.InitialValues.{inputs_begin, outputs_begin}
 use Rattle.fb_system.proofs.lemmas.types.Naming.{inputs_once, parameters_once, parameters_placed}
 use Rattle.fb_system.specs.Stimuli.{initial_inputs, initial_outputs}
-use Rattle.fb_system.specs.Systems.{inputs_of}
-use Rattle.fb_system.specs.declared.whole.Whole.{Whole}
 use Rattle.fb_system.proofs.lemmas.inputs.TablesOfInputs.{known_of, library_seen, once_of}
 
 abbrev ports_from : Option Kind → Ports

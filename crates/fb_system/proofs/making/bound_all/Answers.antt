@@ -1,9 +1,4 @@
-use Rattle.std.proofs.Common.{rules, subst}
-use Rattle.fb_types.specs.Blocks.{ports_of}
-use Rattle.fb_types.specs.Counts.{IsNarrow}
-use Rattle.fb_types.specs.Flat.{kind_of}
-use Rattle.fb_types.specs.declared.library.BlockType.{BlockType}
-use Rattle.fb_types.specs.declared.library.Ports.{Ports}
+use Rattle.fb_types.proofs.Common.{rules, subst, ports_of, IsNarrow, kind_of, BlockType, Ports}
 use Rattle.fb_types.proofs.lemmas.lists.LoopSteps.{all_next, all_of_taken}
 use Rattle.fb_system.proofs.making.bound_all.Goals as goal
 

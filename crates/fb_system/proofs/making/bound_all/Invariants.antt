@@ -1,5 +1,4 @@
-use Rattle.std.proofs.Common.{take}
-use Rattle.fb_system.specs.Networks.{AreNarrow}
+use Rattle.fb_system.proofs.lemmas.Common.{take, AreNarrow}
 use Rattle.fb_system.proofs.making.bound_all.Given as goal
 
 abbrev pub invariant-loop-block : goal.invariant-loop-block

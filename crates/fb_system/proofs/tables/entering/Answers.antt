@@ -1,5 +1,4 @@
-use Rattle.std.proofs.Common.{ap, ◌∙◌}
-use Rattle.fb_types.specs.Flat.{last_of}
+use Rattle.fb_types.proofs.Common.{ap, ◌∙◌, last_of}
 use Rattle.fb_system.proofs.lemmas.networks.PortConnections.{comes_around, comes_inside, data_input_end, data_output_end}
 use Rattle.fb_system.proofs.lemmas.networks.Wired.{parent_within, row_there}
 use Rattle.fb_system.proofs.tables.entering.Goals as goal

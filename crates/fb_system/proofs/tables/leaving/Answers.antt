@@ -1,5 +1,4 @@
-use Rattle.std.proofs.Common.{ap, ◌∙◌}
-use Rattle.fb_types.specs.Flat.{last_of}
+use Rattle.fb_types.proofs.Common.{ap, ◌∙◌, last_of}
 use Rattle.fb_system.proofs.lemmas.networks.PortConnections.{input_end, leads_around, leads_inside, output_end}
 use Rattle.fb_system.proofs.lemmas.networks.Wired.{parent_within, row_there}
 use Rattle.fb_system.proofs.tables.leaving.Goals as goal

@@ -1,7 +1,4 @@
-use Rattle.std.proofs.Common.{Some, sym, ap, ◌∙◌}
-use Rattle.std.specs.Prelude.{option_map}
-use Rattle.fb_types.specs.Names.{Port}
-use Rattle.fb_system.specs.Netlists.{variable_of}
+use Rattle.fb_system.proofs.lemmas.Common.{Some, sym, ap, ◌∙◌, option_map, Port, variable_of}
 use Rattle.fb_system.proofs.lemmas.networks.EndLookups.{composite_around, index_is, index_small, index_within, named_end, some_tested, source_end, source_none}
 use Rattle.fb_system.proofs.tables.source_in.Goals as goal
 

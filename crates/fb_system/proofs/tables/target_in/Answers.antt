@@ -1,9 +1,4 @@
-use Rattle.std.proofs.Common.{Some, List, length, sym, ap, ◌∙◌}
-use Rattle.std.specs.Prelude.{option_map}
-use Rattle.fb_types.specs.Names.{Port}
-use Rattle.fb_check_names.specs.declared.numbers.ConnectionEnd.{ConnectionEnd}
-use Rattle.fb_system.specs.Netlists.{port_of}
-use Rattle.fb_system.specs.declared.netlist_target.NetlistTarget.{NetlistTarget}
+use Rattle.fb_system.proofs.lemmas.Common.{Some, List, length, sym, ap, ◌∙◌, option_map, Port, ConnectionEnd, port_of, NetlistTarget}
 use Rattle.fb_system.proofs.lemmas.networks.EndLookups.{composite_around, more_follow, named_end, none_tested, past_all, read_at, target_end, target_is, target_past, target_small, target_within, targets_counted}
 use Rattle.fb_system.proofs.tables.target_in.Goals as goal
 

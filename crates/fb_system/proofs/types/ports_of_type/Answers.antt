@@ -1,11 +1,5 @@
-use Rattle.std.proofs.Common.{◌≡◌, ◌<◌, ℕ, List, Some, length, refl, sym, ap, subst, ◌∙◌}
-use Rattle.std.specs.Prelude.{option_map, slice_get}
-use Rattle.std.proofs.lemmas.Option.{slice_get_read, slice_get_within}
-use Rattle.fb_types.specs.Blocks.{ports_of, ports_of_event_block}
-use Rattle.fb_types.specs.EventPorts.{kind_index}
-use Rattle.fb_types.specs.declared.library.Ports.{Ports}
-use Rattle.fb_check_names.specs.Numbers.{kind_of_number}
-use Rattle.fb_check_names.specs.declared.numbers.TypeNumber.{TypeNumber}
+use Rattle.fb_system.proofs.lemmas.Common.{◌≡◌, ◌<◌, ℕ, List, Some, length, refl, sym, ap, subst, ◌∙◌, option_map, slice_get, slice_get_read, slice_get_within, ports_of, ports_of_event_block, Ports, kind_of_number, TypeNumber}
+use Rattle.fb_types.proofs.Common.{kind_index}
 use Rattle.fb_system.proofs.types.ports_of_type.Goals as goal
 
 pub bounds-as_slice-index : goal.bounds-as_slice-index

@@ -1,8 +1,5 @@
-use Rattle.std.proofs.Common.{◌≡◌, map, take}
-use Rattle.std.specs.List.{filter}
-use Rattle.fb_check_names.specs.declared.numbers.ConnectionEnd.{ConnectionEnd}
+use Rattle.fb_system.proofs.lemmas.Common.{◌≡◌, map, take, filter, ConnectionEnd, same_end}
 use Rattle.fb_system.specs.NetworkTables.{ends_at}
-use Rattle.fb_system.specs.Wirings.{same_end}
 use Rattle.fb_system.proofs.wiring.sources_of.Given as goal
 
 abbrev pub invariant-loop-wire : goal.invariant-loop-wire

@@ -1,7 +1,4 @@
-use Rattle.std.proofs.Common.{◌≡◌, ℕ, ◌+◌, ◌-◌, ◌++◌, ◌∷◌, [], List, Some, None, map, take, sym, ◌∙◌, ap, subst, arith}
-use Rattle.std.specs.List.{filter}
-use Rattle.std.proofs.lemmas.List.{take_all}
-use Rattle.fb_types.specs.Blocks.{among, variable_names}
+use Rattle.fb_types.proofs.Common.{◌≡◌, ℕ, ◌+◌, ◌-◌, ◌++◌, ◌∷◌, [], List, Some, None, map, take, sym, ◌∙◌, ap, subst, arith, filter, take_all, among, variable_names}
 use Rattle.fb_types.proofs.lemmas.lists.LoopSteps.{map_take_more}
 use Rattle.fb_system.specs.IndexLists.{AreIndexes}
 use Rattle.fb_system.proofs.lemmas.types.WithLists.{own_index, found_index, list_indexes}

@@ -1,9 +1,4 @@
-use Rattle.std.proofs.Common.{List, length, refl, sym, subst}
-use Rattle.std.specs.List.{filter}
-use Rattle.std.proofs.lemmas.Option.{slice_get_read}
-use Rattle.fb_types.specs.Names.{Name}
-use Rattle.fb_types.specs.Blocks.{among, variable_names}
-use Rattle.fb_system.specs.IndexLists.{AreIndexes}
+use Rattle.fb_system.proofs.lemmas.Common.{List, length, refl, sym, subst, filter, slice_get_read, Name, among, variable_names, AreIndexes}
 use Rattle.fb_system.specs.Lookups.{IsList}
 use Rattle.fb_system.proofs.lemmas.types.EventBlocks.{each_more}
 use Rattle.fb_system.proofs.lemmas.types.WithLists.{with_event}

@@ -1,5 +1,4 @@
-use Rattle.std.proofs.Common.{◌-◌, ◌≤◌, length, take}
-use Rattle.std.specs.Io.KnownBytes.{Appends}
+use Rattle.fb_types.proofs.Common.{◌-◌, ◌≤◌, length, take, Appends}
 use Rattle.fb_trace.proofs.front.write_front.Given as goal
 
 abbrev pub invariant-loop-taken : goal.invariant-loop-taken

@@ -1,6 +1,4 @@
-use Rattle.std.proofs.Common.{[], ◌∷◌, codes}
-use Rattle.fb_types.specs.Headline.{system_of}
-use Rattle.fb_types.specs.Text.{tick_and_resource_text, reason_text}
+use Rattle.fb_types.proofs.Common.{[], ◌∷◌, codes, system_of, tick_and_resource_text, reason_text}
 use Rattle.fb_trace.proofs.lemmas.lines.PutPieces.{Puts-more, Fails-first, Fails-after, Gathers-after, Gathers-passed}
 use Rattle.fb_trace.proofs.last.put_last.Goals as goal
 

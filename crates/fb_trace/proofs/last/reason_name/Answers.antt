@@ -1,5 +1,4 @@
-use Rattle.std.proofs.Common.{sym, ap}
-use Rattle.fb_types.specs.Text.{reason_text}
+use Rattle.fb_types.proofs.Common.{sym, ap, reason_text}
 use Rattle.fb_trace.proofs.last.reason_name.Goals as goal
 
 pub returns-in-Divide : goal.returns-in-Divide

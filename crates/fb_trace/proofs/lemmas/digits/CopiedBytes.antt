@@ -1,7 +1,6 @@
 -- Four bytes of a text replace those of another, and eight by twice four.
-use Rattle.std.proofs.Common.{◌≡◌, ℕ, suc, ◌+◌, ◌≤◌, List, [], ◌∷◌, ◌++◌, length, take, drop, get_or, set, refl, sym, ap, ◌∙◌, arith, append-nil, length-append, length-drop, take-append-drop}
-use Rattle.std.proofs.lemmas.List.{drop_all, drop_more, length-take-le, take_all, take-take}
-use lib.Seq.{sets, sets-eq, take-append-le}
+use Rattle.fb_types.proofs.Common.{◌≡◌, ℕ, suc, ◌+◌, ◌≤◌, List, [], ◌∷◌, ◌++◌, length, take, drop, get_or, set, refl, sym, ap, ◌∙◌, arith, append-nil, length-append, length-drop, take-append-drop, drop_all, drop_more, length-take-le, take_all, take-take, take-append-le}
+use lib.Seq.{sets, sets-eq}
 
 four_read : (from : List ℕ) (i : ℕ) → i + 4 ≤ length from
     → take 4 (drop i from) ≡ get_or from i 0 ∷ get_or from (i + 1) 0 ∷ get_or from (i + 2) 0 ∷ get_or from (i + 3) 0 ∷ []

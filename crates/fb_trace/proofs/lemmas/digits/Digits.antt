@@ -1,8 +1,7 @@
 -- The digits of a number, written from the last to the first.
-use Rattle.std.proofs.Common.{◌≡◌, ℕ, ◌+◌, ◌-◌, ◌/◌, ◌%◌, ◌^◌, ◌<◌, ◌≤◌, List, [], ◌∷◌, ◌++◌, length, drop, set, decimal, ap, ◌∙◌, arith, append_assoc, append-nil, length-append, length-drop, length-set, sym, take, inl, inr}
-use Rattle.std.proofs.lemmas.Fmt.{decimal_digit, decimal_step, decimal_step_wide, length-decimal-le_wide}
-use Rattle.std.proofs.lemmas.List.{drop-set, drop_all, take_all, take_at, take_more_set}
-use Rattle.std.proofs.lemmas.Bool.{cases_lt}
+use Rattle.fb_types.proofs.Common.{◌≡◌, ℕ, ◌+◌, ◌-◌, ◌/◌, ◌%◌, ◌^◌, ◌<◌, ◌≤◌, List, [], ◌∷◌, ◌++◌, length, drop, set, decimal, ap, ◌∙◌, arith, append_assoc, append-nil, length-append, length-drop, length-set, sym, take, inl, inr, decimal_digit, drop_all, take_all, take_at, cases_lt}
+use Rattle.std.proofs.lemmas.Fmt.{decimal_step, decimal_step_wide, length-decimal-le_wide}
+use Rattle.std.proofs.lemmas.List.{drop-set, take_more_set}
 
 -- The digits from an index on, with those of the rest before them, are the digits of the number.
 pub record Follow (number rest start : ℕ) (digits : List ℕ) : Type 0 where

@@ -1,7 +1,5 @@
 -- Rows that begin with the digits of small numbers.
-use Rattle.std.proofs.Common.{◌≡◌, ℕ, ◌+◌, ◌/◌, ◌%◌, ◌<◌, ◌≤◌, List, [], ◌∷◌, ◌++◌, length, replicate, set, get_or, decimal, ap, sym, subst, ◌∙◌, arith, length-set, get_or-set_other, get_or-set_same, inl, inr}
-use Rattle.std.proofs.lemmas.Bool.{cases_eq}
-use Rattle.std.proofs.lemmas.Fmt.{decimal_digit}
+use Rattle.fb_types.proofs.Common.{◌≡◌, ℕ, ◌+◌, ◌/◌, ◌%◌, ◌<◌, ◌≤◌, List, [], ◌∷◌, ◌++◌, length, replicate, set, get_or, decimal, ap, sym, subst, ◌∙◌, arith, length-set, get_or-set_other, get_or-set_same, inl, inr, cases_eq, decimal_digit}
 use Rattle.std.proofs.lemmas.List.{get_or-replicate, length-replicate}
 use Rattle.fb_trace.specs.DigitRows.{AreRows, IsRowOf}
 use Rattle.fb_trace.specs.declared.digit_rows.DigitRow.{DigitRow}

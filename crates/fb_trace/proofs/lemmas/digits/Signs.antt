@@ -1,9 +1,6 @@
 -- The text of a whole number, by its sign.
-use Rattle.std.proofs.Common.{◌≡◌, ◌++◌, true, false, ℤ, pos, negsuc, refl, sym, ◌∙◌, true≢false, arith}
-use Rattle.std.specs.Prelude.{codes, decimal, unsigned_abs}
+use Rattle.fb_types.proofs.Common.{◌≡◌, ◌++◌, true, false, ℤ, pos, negsuc, refl, sym, ◌∙◌, true≢false, arith, codes, decimal, unsigned_abs, le-ltb, value_text}
 use Rattle.std.specs.Int.Signed.{lt_z}
-use Rattle.std.proofs.lemmas.Bool.{le-ltb}
-use Rattle.fb_types.specs.Text.{value_text}
 use Rattle.fb_types.specs.declared.value.Value.TheVariants as value
 
 pub value_text-negative : (z : ℤ) → lt_z z (pos 0) ≡ true → value_text (value.Whole z) ≡ codes "-" ++ decimal (unsigned_abs z)

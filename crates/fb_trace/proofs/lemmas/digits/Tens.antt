@@ -1,8 +1,7 @@
 -- Two numbers of one ten: their digits, and a row that goes from the one to the other.
-use Rattle.std.proofs.Common.{◌≡◌, ℕ, ◌+◌, ◌-◌, ◌/◌, ◌%◌, ◌^◌, ◌<◌, ◌≤◌, List, [], ◌∷◌, ◌++◌, length, take, set, get_or, decimal, ap, sym, ◌∙◌, arith, append_assoc, length-append, length-set, inl, inr}
-use Rattle.std.proofs.lemmas.Fmt.{decimal_digit, decimal_step_wide}
-use Rattle.std.proofs.lemmas.List.{get_or-set_other, get_or-take, get_or_push, length-take-le, take-take, take_at, take_more, take_more_set}
-use Rattle.std.proofs.lemmas.Bool.{cases_lt}
+use Rattle.fb_types.proofs.Common.{◌≡◌, ℕ, ◌+◌, ◌-◌, ◌/◌, ◌%◌, ◌^◌, ◌<◌, ◌≤◌, List, [], ◌∷◌, ◌++◌, length, take, set, get_or, decimal, ap, sym, ◌∙◌, arith, append_assoc, length-append, length-set, inl, inr, decimal_digit, get_or-set_other, get_or-take, length-take-le, take-take, take_at, take_more, cases_lt}
+use Rattle.std.proofs.lemmas.Fmt.{decimal_step_wide}
+use Rattle.std.proofs.lemmas.List.{get_or_push, take_more_set}
 
 -- All their digits but the last are the same.
 pub record AreOfOneTen (n m : ℕ) : Type 0 where

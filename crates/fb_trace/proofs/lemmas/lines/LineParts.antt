@@ -1,10 +1,7 @@
 -- The pieces of a line, and what follows each.
-use Rattle.std.proofs.Common.{◌≡◌, refl, append_assoc}
-use Rattle.std.specs.Prelude.{ℕ, List, [], ◌∷◌, ◌++◌, codes, if◌then◌else◌}
-use Rattle.fb_types.specs.Systems.{System}
+use Rattle.fb_types.proofs.Common.{◌≡◌, refl, append_assoc, ℕ, List, [], ◌∷◌, ◌++◌, codes, if◌then◌else◌, System, tick_and_resource_text, path_text, values_text, Form}
 use Rattle.fb_types.specs.States.{Line}
-use Rattle.fb_types.specs.Text.{key_text, tick_and_resource_text, path_text, values_text}
-use Rattle.fb_types.specs.declared.run.Form.{Form}
+use Rattle.fb_types.specs.Text.{key_text}
 
 -- the sign of an event
 abbrev pub sign_text : Line → List ℕ

@@ -1,10 +1,5 @@
 -- What a writer has got in the end, of all that was put from an empty page on.
-use Rattle.std.proofs.Common.{◌≡◌, ℕ, List, [], ◌++◌, length, Option, Result, Ok, Err, IfErr, sym, ap, subst, ◌∙◌, arith, refl, append-nil, length-append}
-use Rattle.std.specs.Prelude.{OnOk}
-use Rattle.std.specs.Result.{IsErrAnd}
-use Rattle.std.specs.Io.KnownBytes.{Appends}
-use Rattle.std.proofs.KnownBytes.{Appends-trans}
-use Rattle.std.proofs.lemmas.List.{take_at}
+use Rattle.fb_types.proofs.Common.{◌≡◌, ℕ, List, [], ◌++◌, length, Option, Result, Ok, Err, IfErr, sym, ap, subst, ◌∙◌, arith, refl, append-nil, length-append, OnOk, IsErrAnd, Appends, Appends-trans, take_at}
 use Rattle.fb_trace.specs.declared.fault.WriteError.{WriteError}
 use Rattle.fb_trace.specs.Page.{Page}
 use Rattle.fb_trace.specs.Progress.{Puts, Fails, Gathers, IsPartWritten}

@@ -1,13 +1,9 @@
 -- Lists of lines from which the early lines are taken, tick after tick.
-use Rattle.std.proofs.Common.{◌≡◌, ℕ, suc, ◌+◌, ◌<◌, ◌≤◌, Bool, true, false, cond, Option, Some, None, List, [], ◌∷◌, ◌++◌, length, map, filter, refl, sym, ap, ◌∙◌, subst, ⊎_elim, arith, IsPermutation, Vec, append-nil, append_assoc}
-use Rattle.std.specs.Prelude.{slice_get, nat_lt, IfSome}
-use Rattle.std.proofs.lemmas.Bool.{cases_eq, cases_lt, cond_both, cond-true, cond-false, ltb-true, ltb-false, lt-ltb, le-ltb}
-use Rattle.std.proofs.lemmas.List.{length-append}
+use Rattle.fb_types.proofs.Common.{◌≡◌, ℕ, suc, ◌+◌, ◌<◌, ◌≤◌, Bool, true, false, cond, Option, Some, None, List, [], ◌∷◌, ◌++◌, length, map, refl, sym, ap, ◌∙◌, subst, ⊎_elim, arith, IsPermutation, append-nil, append_assoc, slice_get, nat_lt, IfSome, cases_eq, cases_lt, cond-true, cond-false, ltb-true, ltb-false, lt-ltb, le-ltb, length-append, Global, Each, Line}
+use Rattle.std.proofs.Common.{filter, Vec}
+use Rattle.std.proofs.lemmas.Bool.{cond_both}
 use Rattle.std.proofs.lemmas.List.Sorted.{IsPermutation-refl, IsPermutation-trans, IsPermutation-append_left, IsPermutation-append_right, IsPermutation-append_comm, length_permutation}
-use Rattle.std.specs.declared.alloc.Global.{Global}
-use Rattle.fb_types.specs.Machines.{Each}
 use Rattle.fb_types.proofs.lemmas.lists.EachLaws.{each_map, each_both, each_append}
-use Rattle.fb_types.specs.declared.run.Line.{Line}
 use Rattle.fb_trace.specs.Merging.{Lists, tick_of, Rises, AreRising, AreMerged, flat}
 use Rattle.fb_trace.specs.Fronts.{lesser, tick_at, early, late, before, present, joint, all_early, all_late, BeginsFrom, IsEmpty, IsLeast}
 use Rattle.fb_trace.proofs.lemmas.order.Sorting.{filter_nothing, filter_joined, rises_append, tie, tie_less, tie_apart}

@@ -1,14 +1,8 @@
 -- Merged lines are, as the system names them, a merge of the definitions.
-use Rattle.std.proofs.Common.{◌≡◌, ℕ, zero, suc, ◌<◌, ◌==◌, Bool, true, false, cond, Some, List, [], ◌∷◌, length, map, filter, refl, sym, ap, ◌∙◌, Vec, arith}
-use Rattle.std.specs.Prelude.{slice_get}
-use Rattle.std.specs.declared.alloc.Global.{Global}
-use Rattle.fb_types.specs.Machines.{Each}
+use Rattle.fb_types.proofs.Common.{◌≡◌, ℕ, zero, suc, ◌<◌, ◌==◌, Bool, true, false, cond, Some, List, [], ◌∷◌, length, map, refl, sym, ap, ◌∙◌, arith, slice_get, Global, Each, line_of, machine, System, Line}
+use Rattle.std.proofs.Common.{filter, Vec}
 use Rattle.fb_types.specs.Merges as merges
-use Rattle.fb_types.specs.Numbers.{line_of}
-use Rattle.fb_types.specs.Parts.{machine}
 use Rattle.fb_types.specs.States as model
-use Rattle.fb_types.specs.Systems.{System}
-use Rattle.fb_types.specs.declared.run.Line.{Line}
 use Rattle.fb_trace.specs.Merging.{Lists, NotAfter, IsInOrder, AreMerged}
 
 filter_map : {X Y : Type 0} (p : Y → Bool) (f : X → Y) (xs : List X) → filter p (map f xs) ≡ map f (filter (λ x. p (f x)) xs)

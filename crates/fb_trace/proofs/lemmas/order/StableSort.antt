@@ -1,13 +1,8 @@
 -- The lists one after another, and what a stable sort by tick makes of them.
-use Rattle.std.proofs.Common.{◌≡◌, ℕ, zero, suc, ◌+◌, ◌<◌, ◌≤◌, ◌==◌, Bool, List, [], ◌∷◌, ◌++◌, length, filter, refl, sym, ap, ◌∙◌, subst, ⊎_elim, arith, All, IsPermutation, Vec, Some, append-nil, append_assoc, eq-eqb, ne_eqb}
-use Rattle.std.proofs.lemmas.Bool.{cases_eq, cond-true, cond-false}
-use Rattle.std.specs.Prelude.{slice_get, if◌then◌else◌}
+use Rattle.fb_types.proofs.Common.{◌≡◌, ℕ, zero, suc, ◌+◌, ◌<◌, ◌≤◌, ◌==◌, Bool, List, [], ◌∷◌, ◌++◌, length, refl, sym, ap, ◌∙◌, subst, ⊎_elim, arith, All, IsPermutation, Some, append-nil, append_assoc, eq-eqb, ne_eqb, cases_eq, cond-true, cond-false, slice_get, if◌then◌else◌, All-permutation, Global, Each, Line}
+use Rattle.std.proofs.Common.{filter, Vec}
 use Rattle.std.proofs.lemmas.List.Elements.{All-from_recursion, recursion_from_All}
-use Rattle.std.proofs.lemmas.List.Sorted.{All-permutation}
-use Rattle.std.specs.declared.alloc.Global.{Global}
-use Rattle.fb_types.specs.Machines.{Each}
 use Rattle.fb_types.proofs.lemmas.lists.EachLaws.{each_map, each_append}
-use Rattle.fb_types.specs.declared.run.Line.{Line}
 use Rattle.fb_trace.specs.Merging.{Lists, tick_of, resource_of, Rises, AreRising, flat, AreMerged}
 use Rattle.fb_trace.proofs.lemmas.order.Sorting.{filter_all, filter_nothing, filter_joined, filter_swap, rises_kept, rises_append, tie, same_of, order_of}
 

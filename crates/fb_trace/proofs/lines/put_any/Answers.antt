@@ -1,5 +1,4 @@
-use Rattle.fb_types.specs.Headline.{system_of}
-use Rattle.fb_types.specs.Numbers.{line_of}
+use Rattle.fb_types.proofs.Common.{system_of, line_of}
 use Rattle.fb_trace.proofs.lemmas.lines.LineStarts.{with_key}
 use Rattle.fb_trace.proofs.lemmas.lines.PutPieces.{Fails-before, Gathers-after, Gathers-passed}
 use Rattle.fb_trace.proofs.lines.put_any.Goals as goal

@@ -1,8 +1,4 @@
-use Rattle.std.proofs.Common.{List, length, sym, ap, subst, ◌∙◌}
-use Rattle.std.proofs.lemmas.List.{length-map}
-use Rattle.fb_types.specs.Names.{Name}
-use Rattle.fb_types.specs.Numbers.{pair_up}
-use Rattle.fb_types.specs.Text.{values_text}
+use Rattle.fb_types.proofs.Common.{List, length, sym, ap, subst, ◌∙◌, length-map, Name, pair_up, values_text}
 use Rattle.fb_system.specs.IndexLists.{variable_at}
 use Rattle.fb_trace.specs.Progress.{Gathers}
 use Rattle.fb_trace.proofs.lines.put_bindings.Goals as goal

@@ -1,5 +1,4 @@
-use Rattle.std.proofs.Common.{◌++◌, ◌∷◌, [], ap, codes, decimal}
-use Rattle.fb_types.specs.Headline.{system_of}
+use Rattle.fb_types.proofs.Common.{◌++◌, ◌∷◌, [], ap, codes, decimal, system_of}
 use Rattle.fb_system.specs.Heads.{head_text}
 use Rattle.fb_trace.specs.Progress.{Puts}
 use Rattle.fb_trace.specs.Starts.{first_value, head_of_line}

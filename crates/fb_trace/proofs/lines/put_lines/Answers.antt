@@ -1,7 +1,4 @@
-use Rattle.std.proofs.Common.{◌≡◌, ℕ, ◌+◌, List, take, drop, map, Option, subst}
-use Rattle.fb_types.specs.Headline.{system_of}
-use Rattle.fb_types.specs.Numbers.{line_of}
-use Rattle.fb_types.specs.Text.{lines_text}
+use Rattle.fb_types.proofs.Common.{◌≡◌, ℕ, ◌+◌, List, take, drop, map, Option, subst, system_of, line_of, lines_text}
 use Rattle.fb_trace.specs.Page.{Page}
 use Rattle.fb_trace.specs.Progress.{Puts, Fails}
 use Rattle.fb_trace.proofs.lemmas.lines.PutPieces.{Puts-appended, Puts-more, Fails-before, Fails-after, Gathers-passed}

@@ -1,7 +1,4 @@
-use Rattle.std.proofs.Common.{take, map}
-use Rattle.fb_types.specs.Headline.{system_of}
-use Rattle.fb_types.specs.Numbers.{line_of}
-use Rattle.fb_types.specs.Text.{lines_text}
+use Rattle.fb_types.proofs.Common.{take, map, system_of, line_of, lines_text}
 use Rattle.fb_trace.specs.Progress.{Puts}
 use Rattle.fb_trace.proofs.lines.put_lines.Given as goal
 

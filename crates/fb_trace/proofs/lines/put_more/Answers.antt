@@ -1,9 +1,5 @@
-use Rattle.std.proofs.Common.{List, ℕ, ◌<◌, append-nil, drop, length, sym, ap, subst, ◌∙◌}
-use Rattle.std.proofs.lemmas.List.{length-map}
+use Rattle.fb_types.proofs.Common.{List, ℕ, ◌<◌, append-nil, drop, length, sym, ap, subst, ◌∙◌, length-map, system_of, line_of, values_text}
 use Rattle.std.proofs.lemmas.List.Elements.{All-drop, All-take}
-use Rattle.fb_types.specs.Headline.{system_of}
-use Rattle.fb_types.specs.Numbers.{line_of}
-use Rattle.fb_types.specs.Text.{values_text}
 use Rattle.fb_system.specs.IndexLists.{variable_at}
 use Rattle.fb_trace.specs.Progress.{Fails, Gathers, Puts}
 use Rattle.fb_trace.proofs.lemmas.lines.LineStarts.{others_counted, others_sliced}

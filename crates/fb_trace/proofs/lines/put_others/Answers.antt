@@ -1,7 +1,4 @@
-use Rattle.std.proofs.Common.{◌≡◌, [], List, ℕ, ap, arith, drop, length, subst, sym}
-use Rattle.fb_types.specs.Headline.{system_of}
-use Rattle.fb_types.specs.Numbers.{line_of}
-use Rattle.fb_types.specs.Text.{values_text}
+use Rattle.fb_types.proofs.Common.{◌≡◌, [], List, ℕ, ap, arith, drop, length, subst, sym, system_of, line_of, values_text}
 use Rattle.fb_system.specs.Lines.{line_variables}
 use Rattle.fb_trace.specs.Progress.{Puts}
 use Rattle.fb_trace.proofs.lemmas.lines.LineStarts.{no_others}

@@ -1,9 +1,4 @@
-use Rattle.std.proofs.Common.{◌+◌, ◌≤◌, List, Bor, take, drop, map, length, arith}
-use Rattle.std.proofs.lemmas.List.{length-map, take_all}
-use Rattle.fb_types.specs.Headline.{system_of}
-use Rattle.fb_types.specs.Numbers.{line_of}
-use Rattle.fb_types.specs.Text.{lines_text}
-use Rattle.fb_types.specs.declared.run.Line.{Line}
+use Rattle.fb_types.proofs.Common.{◌+◌, ◌≤◌, List, Bor, take, drop, map, length, arith, length-map, take_all, system_of, line_of, lines_text, Line}
 use Rattle.fb_trace.specs.Fronts.{joint}
 use Rattle.fb_trace.proofs.lemmas.lines.WriterEnds.{part_flushed, part_passed, whole_flushed}
 use Rattle.fb_trace.proofs.lemmas.lines.PutPieces.{Puts-more, Fails-before, Fails-after}

@@ -1,5 +1,4 @@
-use Rattle.std.proofs.Common.{length, All}
-use Rattle.fb_types.specs.Headline.{system_of}
+use Rattle.fb_types.proofs.Common.{length, All, system_of}
 use Rattle.fb_system.specs.Lines.{BelongsTo}
 use Rattle.fb_trace.proofs.lemmas.lines.MarkedRuns.{IsMarkedTo}
 use Rattle.fb_trace.proofs.marks.marked_text.Given as goal

@@ -1,6 +1,4 @@
-use Rattle.std.proofs.Common.{◌≡◌, ◌++◌, [], sym, ap, ◌∙◌, arith}
-use Rattle.std.proofs.lemmas.Bool.{eqb-true}
-use Rattle.std.proofs.lemmas.List.{nil_from_length}
+use Rattle.fb_types.proofs.Common.{◌≡◌, ◌++◌, [], sym, ap, ◌∙◌, arith, eqb-true, nil_from_length}
 use Rattle.fb_trace.proofs.lemmas.order.StableSort.{flat_snoc}
 use Rattle.fb_trace.proofs.merging.joined.Goals as goal
 

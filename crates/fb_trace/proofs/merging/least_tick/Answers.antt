@@ -1,5 +1,4 @@
-use Rattle.std.proofs.Common.{◌≡◌, ◌+◌, ◌++◌, [], ◌∷◌, map, take, sym, ap, ◌∙◌, subst}
-use Rattle.std.proofs.lemmas.List.{map_push, take_more}
+use Rattle.fb_types.proofs.Common.{◌≡◌, ◌+◌, ◌++◌, [], ◌∷◌, map, take, sym, ap, ◌∙◌, subst, map_push, take_more}
 use Rattle.fb_trace.specs.Fronts.{IsLeast, lesser}
 use Rattle.fb_trace.proofs.lemmas.order.EarlyLines.{least_more}
 use Rattle.fb_trace.proofs.merging.least_tick.Goals as goal

@@ -1,7 +1,4 @@
-use Rattle.std.proofs.Common.{◌≡◌, ◌++◌, [], ◌∷◌, map, length, sym, ap, ◌∙◌}
-use Rattle.std.specs.Prelude.{vec_len}
-use Rattle.std.proofs.lemmas.Bool.{eqb-true, eqb-false}
-use Rattle.std.proofs.lemmas.List.{map_push, nil_from_length}
+use Rattle.fb_types.proofs.Common.{◌≡◌, ◌++◌, [], ◌∷◌, map, length, sym, ap, ◌∙◌, vec_len, eqb-true, eqb-false, map_push, nil_from_length}
 use Rattle.fb_trace.specs.Fronts.{present}
 use Rattle.fb_trace.proofs.lemmas.order.EarlyLines.{present_kept, present_passed}
 use Rattle.fb_trace.proofs.merging.queues.Goals as goal

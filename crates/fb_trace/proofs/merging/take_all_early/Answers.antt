@@ -1,6 +1,4 @@
-use Rattle.std.proofs.Common.{◌≡◌, ◌++◌, [], ◌∷◌, map, length, sym, ap, ◌∙◌, append_assoc, deque_len}
-use Rattle.std.proofs.lemmas.Bool.{eqb-true, eqb-false}
-use Rattle.std.proofs.lemmas.List.{map_push, nil_from_length}
+use Rattle.fb_types.proofs.Common.{◌≡◌, ◌++◌, [], ◌∷◌, map, length, sym, ap, ◌∙◌, append_assoc, deque_len, eqb-true, eqb-false, map_push, nil_from_length}
 use Rattle.fb_trace.specs.Fronts.{early, late, all_early, all_late}
 use Rattle.fb_trace.proofs.lemmas.order.EarlyLines.{early_more, late_kept, late_passed}
 use Rattle.fb_trace.proofs.merging.take_all_early.Goals as goal

@@ -1,5 +1,4 @@
-use Rattle.std.proofs.Common.{Bool, ◌++◌, sym, ap, ◌∙◌}
-use Rattle.std.specs.Prelude.{codes, if◌then◌else◌}
+use Rattle.fb_types.proofs.Common.{Bool, ◌++◌, sym, ap, ◌∙◌, codes, if◌then◌else◌}
 use Rattle.fb_trace.proofs.pieces.append_sign.Goals as goal
 
 pub returns-then-taken-clause-text : goal.returns-then-taken-clause-text

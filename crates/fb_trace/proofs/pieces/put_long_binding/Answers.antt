@@ -1,5 +1,4 @@
-use Rattle.std.proofs.Common.{[], ◌∷◌, codes}
-use Rattle.fb_types.specs.Text.{value_text}
+use Rattle.fb_types.proofs.Common.{[], ◌∷◌, codes, value_text}
 use Rattle.fb_trace.proofs.lemmas.lines.PutPieces.{Fails-after, Fails-before, Fails-first, Gathers-passed, Puts-appended, Puts-more}
 use Rattle.fb_trace.proofs.pieces.put_long_binding.Goals as goal
 

@@ -1,6 +1,4 @@
-use Rattle.std.proofs.Common.{codes, [], sym, ◌∙◌}
-use Rattle.std.proofs.lemmas.Option.{unwrap_or-slice_get}
-use Rattle.fb_types.specs.Headline.{system_of}
+use Rattle.fb_types.proofs.Common.{codes, [], sym, ◌∙◌, unwrap_or-slice_get, system_of}
 use Rattle.fb_trace.proofs.lemmas.lines.PutPieces.{Puts-more, Fails-before, Fails-after, Gathers-after, Gathers-passed}
 use Rattle.fb_trace.proofs.pieces.put_tick_and_resource.Goals as goal
 

@@ -1,9 +1,5 @@
-use Rattle.std.proofs.Common.{◌≡◌, ◌+◌, ◌++◌, get_or, length, map, take, drop, arith}
-use Rattle.std.proofs.lemmas.List.{length_push, length-map, take_all}
+use Rattle.fb_types.proofs.Common.{◌≡◌, ◌+◌, ◌++◌, get_or, length, map, take, drop, arith, length_push, length-map, take_all, pair_up, values_text, Variable}
 use Rattle.std.proofs.lemmas.Slice.Zip.{zip_turn, zip_end}
-use Rattle.fb_types.specs.Numbers.{pair_up}
-use Rattle.fb_types.specs.Text.{values_text}
-use Rattle.fb_types.specs.declared.library.Variable.{Variable}
 use Rattle.fb_system.specs.IndexLists.{variable_at}
 use Rattle.fb_trace.proofs.lemmas.lines.PutPieces.{Puts-more, Fails-before, Fails-after, Gathers-passed}
 use Rattle.fb_trace.proofs.lemmas.lines.Values.{binding_text, values_text-more, values_text-parts, length-pair_up}

@@ -1,6 +1,4 @@
-use Rattle.std.proofs.Common.{length, take, map}
-use Rattle.fb_types.specs.Numbers.{pair_up}
-use Rattle.fb_types.specs.Text.{values_text}
+use Rattle.fb_types.proofs.Common.{length, take, map, pair_up, values_text}
 use Rattle.fb_system.specs.IndexLists.{variable_at}
 use Rattle.fb_trace.specs.Progress.{Puts}
 use Rattle.fb_trace.proofs.pieces.put_values.Given as goal

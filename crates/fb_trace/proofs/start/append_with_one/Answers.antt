@@ -1,6 +1,4 @@
-use Rattle.std.proofs.Common.{◌≡◌, ◌++◌, ◌∷◌, [], codes, decimal, take, rules, arith}
-use Rattle.std.proofs.lemmas.Grind.{common_steps}
-use Rattle.fb_types.specs.Text.{value_text}
+use Rattle.fb_types.proofs.Common.{◌≡◌, ◌++◌, ◌∷◌, [], codes, decimal, take, rules, arith, common_steps, value_text}
 use Rattle.fb_trace.proofs.lemmas.lines.PutPieces.{appended-more}
 use Rattle.fb_trace.proofs.start.append_with_one.Goals as goal
 

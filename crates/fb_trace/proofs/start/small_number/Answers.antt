@@ -1,9 +1,8 @@
-use Rattle.std.proofs.Common.{◌≡◌, ℤ, pos, negsuc, nat_abs, true, decimal, refl, sym, ap, ◌∙◌, rules, to_z-of_z}
+use Rattle.fb_types.proofs.Common.{◌≡◌, ℤ, pos, negsuc, true, decimal, refl, sym, ap, ◌∙◌, rules, to_z-of_z, false≢true, value_text}
+use Rattle.std.proofs.Common.{nat_abs}
 use Rattle.std.specs.Int.Signed.{le_z}
-use Rattle.std.proofs.lemmas.Bool.{false≢true}
 use mir.Syntax.{w128}
 use mir.Val.{SFits}
-use Rattle.fb_types.specs.Text.{value_text}
 use Rattle.fb_types.specs.declared.value.Value.TheVariants as value
 use Rattle.fb_trace.proofs.start.small_number.Goals as goal
 

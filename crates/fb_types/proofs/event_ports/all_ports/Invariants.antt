@@ -1,5 +1,4 @@
-use Rattle.std.proofs.Common.{◌≡◌, map, take}
-use Rattle.fb_types.specs.Blocks.{ports_of_event_block}
+use Rattle.fb_types.proofs.Common.{◌≡◌, map, take, ports_of_event_block}
 use Rattle.fb_types.proofs.lemmas.events.AllKinds.{kinds}
 use Rattle.fb_types.proofs.event_ports.all_ports.Given as goal
 

@@ -1,7 +1,5 @@
-use Rattle.std.proofs.Common.{◌∙◌, Bor, ap, map}
-use Rattle.std.proofs.lemmas.List.{take_all}
+use Rattle.fb_types.proofs.Common.{◌∙◌, Bor, ap, map, take_all, Name}
 use Rattle.fb_types.specs.Blocks.{event_with}
-use Rattle.fb_types.specs.Names.{Name}
 use Rattle.fb_types.proofs.lemmas.lists.LoopSteps.{mapped_next}
 use Rattle.fb_types.proofs.event_ports.event.Goals as goal
 

@@ -1,5 +1,4 @@
-use Rattle.std.proofs.Common.{ap, ◌∙◌}
-use Rattle.fb_types.specs.declared.library.Ports.{Ports}
+use Rattle.fb_types.proofs.Common.{ap, ◌∙◌, Ports}
 use Rattle.fb_types.proofs.lemmas.events.RowTypes.{type_past, type_within}
 use Rattle.fb_types.proofs.event_ports.event_block_output.Goals as goal
 

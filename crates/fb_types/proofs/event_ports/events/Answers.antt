@@ -1,5 +1,4 @@
-use Rattle.std.proofs.Common.{◌∙◌, ap, map}
-use Rattle.std.proofs.lemmas.List.{take_all}
+use Rattle.fb_types.proofs.Common.{◌∙◌, ap, map, take_all}
 use Rattle.fb_types.specs.EventRows.{event_of}
 use Rattle.fb_types.proofs.lemmas.lists.LoopSteps.{mapped_next}
 use Rattle.fb_types.proofs.event_ports.events.Goals as goal

@@ -1,6 +1,4 @@
-use Rattle.std.proofs.Common.{◌≡◌, ◌<◌, ◌^◌, List, length, subst, sym, ap, ◌∙◌}
-use Rattle.fb_types.specs.Blocks.{ports}
-use Rattle.fb_types.specs.declared.library.Ports.{Ports}
+use Rattle.fb_types.proofs.Common.{◌≡◌, ◌<◌, ◌^◌, List, length, subst, sym, ap, ◌∙◌, ports, Ports}
 use Rattle.fb_types.proofs.lemmas.events.EventCounts.{event_block_narrow}
 use Rattle.fb_types.proofs.event_ports.ports_of.Goals as goal
 

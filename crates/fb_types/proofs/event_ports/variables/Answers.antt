@@ -1,9 +1,6 @@
-use Rattle.std.proofs.Common.{◌≡◌, ◌∙◌, ap, map}
-use Rattle.std.proofs.lemmas.List.{take_all}
+use Rattle.fb_types.proofs.Common.{◌≡◌, ◌∙◌, ap, map, take_all, Name, Ty}
 use Rattle.fb_types.specs.Blocks.{variable}
 use Rattle.fb_types.specs.EventRows.{variable_of}
-use Rattle.fb_types.specs.Names.{Name}
-use Rattle.fb_types.specs.declared.value.Ty.{Ty}
 use Rattle.fb_types.proofs.lemmas.lists.LoopSteps.{mapped_next}
 use Rattle.fb_types.proofs.event_ports.variables.Goals as goal
 

@@ -1,14 +1,7 @@
 -- A chart has at most one reaction.
-use Rattle.std.proofs.Common.{◌≡◌, ℕ, zero, suc, sym, subst, ◌∙◌, List, [], ◌∷◌, Option, Some, None}
-use Rattle.fb_types.specs.Names.{Name}
-use Rattle.fb_types.specs.Bodies.{End, Went, Left, Returned, Stopped}
-use Rattle.fb_types.specs.Blocks.{types_of}
-use Rattle.fb_types.specs.Charts.{Position, Moving, Halts, Performs, AfterBody, Acts, OrHalts, Trial, Clears, NoneClears, Fails, Rests, Enters, Links, ChartReacts, trial_at, actions_of, algorithm_of, at_point, emitting}
+use Rattle.fb_types.proofs.Common.{◌≡◌, ℕ, zero, suc, sym, subst, ◌∙◌, List, [], ◌∷◌, Option, Some, None, Name, End, Went, Left, Returned, Stopped, types_of, Position, Moving, Halts, Performs, AfterBody, Acts, Trial, Clears, NoneClears, Fails, Rests, Enters, Links, ChartReacts, trial_at, actions_of, algorithm_of, at_point, emitting, Action, BasicType, Reason, Steps}
+use Rattle.fb_types.specs.Charts.{OrHalts}
 use Rattle.fb_types.proofs.lemmas.determined.BodyLaws.{body-one}
-use Rattle.fb_types.specs.declared.library.Action.{Action}
-use Rattle.fb_types.specs.declared.library.BasicType.{BasicType}
-use Rattle.fb_types.specs.declared.value.Reason.{Reason}
-use Rattle.fb_types.specs.declared.value.Reason.TheVariants.{Steps}
 
 -- Two movements from a position end the same way, one of each kind.
 abbrev OneOf : Moving → Moving → Type 0

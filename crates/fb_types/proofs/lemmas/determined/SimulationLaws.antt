@@ -1,23 +1,11 @@
 -- A system has at most one simulation.
-use Rattle.std.proofs.Common.{◌≡◌, ℕ, zero, suc, ◌<◌, sym, ap, subst, ◌∙◌, List, [], ◌∷◌, Option, Some, None, refl, true≢false, is_some, unwrap_or}
+use Rattle.fb_types.proofs.Common.{◌≡◌, ℕ, zero, suc, ◌<◌, sym, ap, subst, ◌∙◌, List, [], ◌∷◌, Option, Some, None, refl, true≢false, is_some, unwrap_or, All-head, All-tail, Ordering, Less, Equal, Greater, is_eq, Port, Kind, Basic, Event, Composite, key_cmp, NoneBelow, System, State, Config, Meter, Stimulated, Expired, Arrived, Raised, World, Outcome, Reacts, ReactsAt, charted, start_of, taking, with_slots, hold_all, Effect, Takes, TakesWith, begun, effect_of, world_of, Chain, Taken, TakesLeast, NothingAfter, RestsAt, after, opening, ending_of, ending_by, last, Key, Reason}
 use Rattle.std.specs.List.{All}
-use Rattle.std.proofs.lemmas.List.Elements.{All-head, All-tail}
-use Rattle.std.specs.declared.cmp.Ordering.{Ordering}
-use Rattle.std.specs.declared.cmp.Ordering.TheVariants.{Less, Equal, Greater}
-use Rattle.std.specs.Ordering.{is_eq, ordering_reverse}
-use Rattle.fb_types.specs.Names.{Port}
-use Rattle.fb_types.specs.Blocks.{Kind, Basic, Event, Composite}
-use Rattle.fb_types.specs.Keys.{key_cmp, NoneBelow}
-use Rattle.fb_types.specs.Systems.{System}
-use Rattle.fb_types.specs.States.{State, Config, Meter, Event as AnEvent, Stimulated, Expired, Arrived, Raised}
-use Rattle.fb_types.specs.Reactions.{World, Outcome, Reacts, ReactsAt, charted, start_of, taking, with_slots, hold_all}
-use Rattle.fb_types.specs.Takes.{Effect, Takes, TakesWith, begun, effect_of, world_of}
-use Rattle.fb_types.specs.Simulation.{Chain, Taken, TakesLeast, NothingAfter, RestsAt, after, opening, ending_of, ending_by, last}
+use Rattle.std.specs.Ordering.{ordering_reverse}
+use Rattle.fb_types.specs.States.{Event as AnEvent}
 use Rattle.fb_types.specs.Headline.{OneSimulation}
 use Rattle.fb_types.proofs.lemmas.determined.ChartLaws.{chart-one}
 use Rattle.fb_types.proofs.lemmas.events.KeyLaws.{key_cmp_total, same_key_is}
-use Rattle.fb_types.specs.declared.key.Key.{Key}
-use Rattle.fb_types.specs.declared.value.Reason.{Reason}
 
 -- ---- Reactions and takings
 

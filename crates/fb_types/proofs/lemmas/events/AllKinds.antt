@@ -1,14 +1,5 @@
 -- All kinds of event blocks, and their interfaces one after another.
-use Rattle.std.proofs.Common.{◌≡◌, ℕ, ◌<◌, ◌+◌, Bool, true, List, [], ◌∷◌, ◌++◌, map, take, get_or, refl, sym, ◌∙◌, ap}
-use Rattle.std.specs.Prelude.{slice_get, Some, option_map}
-use Rattle.std.specs.List.{list_all}
-use Rattle.std.proofs.lemmas.List.{take_more, map-append}
-use Rattle.std.proofs.lemmas.Option.{slice_get-map}
-use Rattle.fb_types.specs.Blocks.{kind_index, ports_of_event_block}
-use Rattle.fb_types.specs.EventPorts.{ArePortsOfKinds}
-use Rattle.fb_types.specs.declared.event_kind.EventKind.{EventKind}
-use Rattle.fb_types.specs.declared.event_kind.EventKind.TheVariants.{Restart, Split, Merge, Rendezvous, Permit, Select, Switch, Delay, Cycle, SetReset, DataLatch, RisingEdge, FallingEdge, CountUp}
-use Rattle.fb_types.specs.declared.library.Ports.{Ports}
+use Rattle.fb_types.proofs.Common.{◌≡◌, ℕ, ◌<◌, ◌+◌, Bool, true, List, [], ◌∷◌, ◌++◌, map, take, get_or, refl, sym, ◌∙◌, ap, slice_get, Some, option_map, list_all, take_more, map-append, slice_get-map, kind_index, ports_of_event_block, ArePortsOfKinds, EventKind, Restart, Split, Merge, Rendezvous, Permit, Select, Switch, Delay, Cycle, SetReset, DataLatch, RisingEdge, FallingEdge, CountUp, Ports}
 use Rattle.fb_types.proofs.lemmas.lists.ByIndex.{element_of_index}
 use Rattle.fb_types.proofs.lemmas.lists.ListTests.{passes_at}
 

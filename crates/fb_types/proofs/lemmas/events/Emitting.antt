@@ -1,10 +1,7 @@
 -- Emissions of which the first is in place, where one more is added.
-use Rattle.std.proofs.Common.{◌≡◌, ◌≢◌, Bool, false, true, List, [], ◌∷◌, ◌++◌, ℕ, length, refl, sym, ap, ◌∙◌, arith}
-use Rattle.std.proofs.lemmas.Bool.{eqb-true}
-use Rattle.std.specs.Prelude.{◌==◌, OnErr, Result, Ok, Err}
+use Rattle.fb_types.proofs.Common.{◌≡◌, ◌≢◌, Bool, false, true, List, [], ◌∷◌, ◌++◌, ℕ, length, refl, sym, ap, ◌∙◌, arith, eqb-true, ◌==◌, OnErr, Result, Ok, Err, Value}
 use Rattle.fb_types.specs.Emitted.{AreAfter, in_order}
 use Rattle.fb_types.specs.declared.run.Emission.{Emission}
-use Rattle.fb_types.specs.declared.value.Value.{Value}
 
 pub first_pushed :
     (filled : Bool) (earlier first : Emission) (others old : List Emission) → AreAfter filled others → in_order filled earlier others ≡ old → filled ≡ false

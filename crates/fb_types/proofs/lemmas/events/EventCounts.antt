@@ -1,9 +1,5 @@
 -- The ports of event blocks are few.
-use Rattle.std.proofs.Common.{◌<◌, ◌≤◌, ◌^◌, length, nat_lt, refl, arith}
-use Rattle.std.proofs.lemmas.Bool.{ltb-true}
-use Rattle.fb_types.specs.Blocks.{ports_of_event_block}
-use Rattle.fb_types.specs.Counts.{IsNarrow}
-use Rattle.fb_types.specs.declared.event_kind.EventKind.{EventKind}
+use Rattle.fb_types.proofs.Common.{◌<◌, ◌≤◌, ◌^◌, length, nat_lt, refl, arith, ltb-true, ports_of_event_block, IsNarrow, EventKind}
 use Rattle.fb_types.proofs.lemmas.events.AllKinds.{of_each}
 
 pub event_block_narrow : (k : EventKind) → IsNarrow (ports_of_event_block k)

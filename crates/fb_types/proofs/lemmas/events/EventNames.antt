@@ -1,11 +1,5 @@
 -- The names of an event block's ports differ.
-use Rattle.std.proofs.Common.{◌≡◌, Bool, true, not, ◌&&◌, List, [], ◌∷◌, ◌++◌, refl, sym, ◌∙◌, inl, inr}
-use Rattle.std.proofs.lemmas.Bool.{and_parts, not-true, true≢false}
-use Rattle.fb_types.specs.Blocks.{among, event_names, ports_of_event_block, variable_names}
-use Rattle.fb_types.specs.Names.{Name}
-use Rattle.fb_types.specs.Repeated.{Twice}
-use Rattle.fb_types.specs.declared.event_kind.EventKind.{EventKind}
-use Rattle.fb_types.specs.declared.library.Ports.{Ports}
+use Rattle.fb_types.proofs.Common.{◌≡◌, Bool, true, not, ◌&&◌, List, [], ◌∷◌, ◌++◌, refl, sym, ◌∙◌, inl, inr, and_parts, not-true, true≢false, among, event_names, ports_of_event_block, variable_names, Name, Twice, EventKind, Ports}
 use Rattle.fb_types.proofs.lemmas.events.AllKinds.{of_each}
 use Rattle.fb_types.proofs.lemmas.names.NameLaws.{any_from_contains}
 use Rattle.fb_types.proofs.lemmas.lists.TwiceLaws.{Twice-append_left, Twice-append_right}

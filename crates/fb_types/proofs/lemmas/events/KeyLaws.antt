@@ -1,15 +1,9 @@
 -- The order of keys.
-use Rattle.std.proofs.Common.{◌≡◌, ◌<◌, true, false, refl, ap, subst, ◌∙◌, Option, Some, None}
-use Rattle.std.specs.Prelude.{IsSome}
+use Rattle.fb_types.proofs.Common.{◌≡◌, ◌<◌, true, false, refl, ap, subst, ◌∙◌, Option, Some, None, IsSome, ordering_then, is_eq, Ordering, Less, Equal, Greater, tied_itself, lt-ltb, key_cmp, Precedes, same_key, Key}
 use Rattle.std.specs.Cmp.{IsTotalOrder, nat_cmp_total, on_total}
-use Rattle.std.specs.Ordering.{ordering_then, ordering_reverse, is_gt, is_eq}
-use Rattle.std.specs.declared.cmp.Ordering.{Ordering}
-use Rattle.std.specs.declared.cmp.Ordering.TheVariants.{Less, Equal, Greater}
-use Rattle.std.proofs.lemmas.Cmp.{then_total, tied_itself}
+use Rattle.std.specs.Ordering.{ordering_reverse, is_gt}
+use Rattle.std.proofs.lemmas.Cmp.{then_total}
 use Rattle.std.proofs.lemmas.Map.Lookups.{exact_unsigned}
-use Rattle.std.proofs.lemmas.Bool.{lt-ltb}
-use Rattle.fb_types.specs.Keys.{key_cmp, Precedes, same_key}
-use Rattle.fb_types.specs.declared.key.Key.{Key}
 
 -- the order is total
 pub key_cmp_total : IsTotalOrder key_cmp

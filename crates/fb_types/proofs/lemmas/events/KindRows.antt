@@ -1,13 +1,7 @@
 -- The row of a kind in the table of the event blocks.
-use Rattle.std.proofs.Common.{◌≡◌, ℕ, List, map, get_or, Option, None, Some, refl, sym, ◌∙◌, ap}
-use Rattle.std.specs.Prelude.{slice_get, option_map}
-use Rattle.std.proofs.lemmas.Option.{get_or_from_slice_get, same_Some, slice_get-map}
-use Rattle.fb_types.specs.Blocks.{kind_index, ports_of_event_block}
-use Rattle.fb_types.specs.EventPorts.{ArePortsOfKinds}
+use Rattle.fb_types.proofs.Common.{◌≡◌, ℕ, List, map, get_or, Option, None, Some, refl, sym, ◌∙◌, ap, slice_get, option_map, get_or_from_slice_get, same_Some, slice_get-map, kind_index, ports_of_event_block, ArePortsOfKinds, EventKind, Ports}
 use Rattle.fb_types.specs.EventRows.{ports_of_row}
-use Rattle.fb_types.specs.declared.event_kind.EventKind.{EventKind}
 use Rattle.fb_types.specs.declared.event_kind.Row.{Row}
-use Rattle.fb_types.specs.declared.library.Ports.{Ports}
 
 read : (rows : List Row) (i : ℕ) (d : Row) (p : Ports) (o : Option Row) → slice_get rows i ≡ o → option_map ports_of_row o ≡ Some p
     → ports_of_row (get_or rows i d) ≡ p

@@ -1,13 +1,6 @@
 -- What emissions add to the outcome of a reaction, and what they leave.
-use Rattle.std.proofs.Common.{◌≡◌, Bool, true, false, cond, List, [], ◌∷◌, ◌++◌, map, refl, sym, ap, ◌∙◌, append_assoc}
-use Rattle.std.proofs.lemmas.List.{append-nil}
-use Rattle.fb_types.specs.Names.{Path, same_path}
-use Rattle.fb_types.specs.Blocks.{Emission}
-use Rattle.fb_types.specs.Systems.{System}
-use Rattle.fb_types.specs.States.{Block}
-use Rattle.fb_types.specs.Reactions.{World, Outcome, emitted, emitted_all}
+use Rattle.fb_types.proofs.Common.{◌≡◌, Bool, true, false, cond, List, [], ◌∷◌, ◌++◌, map, refl, sym, ap, ◌∙◌, append_assoc, append-nil, Path, same_path, Emission, System, Block, World, Outcome, emitted, emitted_all, Key}
 use Rattle.fb_types.specs.Posted.{emission_line}
-use Rattle.fb_types.specs.declared.key.Key.{Key}
 use Rattle.fb_types.proofs.lemmas.names.PathLaws.{same_path_is}
 
 -- ---- A world in which only outputs are published

@@ -1,13 +1,7 @@
 -- The types of the variables of a row, by their indexes.
-use Rattle.std.proofs.Common.{◌≡◌, ◌<◌, ◌≤◌, ℕ, List, Option, None, Some, length, get_or, map, refl, sym, ap, ◌∙◌}
+use Rattle.fb_types.proofs.Common.{◌≡◌, ◌<◌, ◌≤◌, ℕ, List, Option, None, Some, length, get_or, map, refl, sym, ap, ◌∙◌, option_map, slice_get, slice_get-get_or, slice_get-map, slice_get_past, type_at, Name, Variable, Ty}
 use Rattle.std.specs.Borrow.{Bor}
-use Rattle.std.specs.Prelude.{option_map, slice_get}
-use Rattle.std.proofs.lemmas.Option.{slice_get-get_or, slice_get-map, slice_get_past}
-use Rattle.fb_types.specs.Blocks.{type_at}
 use Rattle.fb_types.specs.EventRows.{variable_of}
-use Rattle.fb_types.specs.Names.{Name}
-use Rattle.fb_types.specs.declared.library.Variable.{Variable}
-use Rattle.fb_types.specs.declared.value.Ty.{Ty}
 
 type_in : (o : Option (Bor Name × Ty)) → option_map (λ (v : Variable). v.ty) (option_map variable_of o) ≡ option_map (λ (r : Bor Name × Ty). r.1) o
 type_in None = refl

@@ -1,28 +1,12 @@
 -- Tests that show that an example without composites and algorithms is accepted.
-use Rattle.std.proofs.Common.{◌≡◌, inl, inr, refl, sym, ap, subst, ◌∙◌, List, [], ◌∷◌, ◌++◌, map, length, Bool, true, false, not, ◌&&◌, ◌||◌, ◌==◌, Option, Some, None, nat_le, arith, true≢false}
-use Rattle.std.specs.Prelude.{Contains, is_some}
-use Rattle.std.specs.List.{list_all, list_any}
-use Rattle.std.proofs.lemmas.Bool.{and_parts, eqb-true, leb-true}
-use Rattle.fb_types.specs.Names.{Name, same_name, same_path, Port, same_port}
-use Rattle.fb_types.specs.Values.{fits}
-use Rattle.fb_types.specs.Blocks.{Kind, among, ports_of, outputs_with, is_event_input}
-use Rattle.fb_types.specs.Flat.{pairs_in, kind_of, variables_in, kind_at, resource_of, link_between, paths_of}
-use Rattle.fb_types.specs.Syntax.{body_of}
-use Rattle.fb_types.specs.Repeated.{Twice, NameTwice, name_spaces, OwnedNetwork, networks, basics, event_pairs, link_pairs}
-use Rattle.fb_types.specs.Unknown.{Required, required, mentioned, is_known, ends_known, NameUnknown, guards_of}
-use Rattle.fb_types.specs.Kinds.{KindWrong, is_condition, body_right, context_in, declared_right, parameters_right}
-use Rattle.fb_types.specs.Joined.{OutOfRange, type_at_end, TwoSources, TooHigh}
-use Rattle.fb_types.specs.Mapped.{mapped, NotMapped, event_pairs_of, data_pairs_of, NoLink, IsServed, NoEvent}
-use Rattle.fb_types.specs.Accepted.{IsAccepted, IsGood, BadStimulus, OverLimit, set_names, kind_of_stimulus, is_held}
-use Rattle.fb_types.specs.declared.library.Library.{Library}
-use Rattle.fb_types.specs.declared.library.BlockType.{BlockType}
+use Rattle.fb_types.proofs.Common.{◌≡◌, inl, inr, refl, sym, ap, subst, ◌∙◌, List, [], ◌∷◌, ◌++◌, map, length, Bool, true, false, not, ◌&&◌, ◌||◌, ◌==◌, Option, Some, None, nat_le, arith, true≢false, Contains, is_some, list_all, list_any, and_parts, eqb-true, leb-true, Name, same_name, same_path, Port, same_port, fits, Kind, among, ports_of, outputs_with, is_event_input, pairs_in, kind_of, variables_in, kind_at, resource_of, paths_of, body_of, Twice, NameTwice, name_spaces, OwnedNetwork, networks, basics, event_pairs, link_pairs, Required, required, mentioned, is_known, ends_known, NameUnknown, KindWrong, is_condition, context_in, declared_right, OutOfRange, TooHigh, NoLink, IsGood, BadStimulus, Library, BlockType, BasicType, Instance, Connection, Plan, Stimulus, Ty}
+use Rattle.fb_types.specs.Flat.{link_between}
+use Rattle.fb_types.specs.Unknown.{guards_of}
+use Rattle.fb_types.specs.Kinds.{body_right, parameters_right}
+use Rattle.fb_types.specs.Joined.{type_at_end, TwoSources}
+use Rattle.fb_types.specs.Mapped.{mapped, NotMapped, event_pairs_of, data_pairs_of, IsServed, NoEvent}
+use Rattle.fb_types.specs.Accepted.{IsAccepted, OverLimit, set_names, kind_of_stimulus, is_held}
 use Rattle.fb_types.specs.declared.library.BlockType.TheVariants as block
-use Rattle.fb_types.specs.declared.library.BasicType.{BasicType}
-use Rattle.fb_types.specs.declared.library.Instance.{Instance}
-use Rattle.fb_types.specs.declared.library.Connection.{Connection}
-use Rattle.fb_types.specs.declared.deploy.Plan.{Plan}
-use Rattle.fb_types.specs.declared.deploy.Stimulus.{Stimulus}
-use Rattle.fb_types.specs.declared.value.Ty.{Ty}
 use Rattle.fb_types.specs.declared.value.Ty.TheVariants.{Bool as Boolean}
 use Rattle.fb_types.proofs.lemmas.names.NameLaws.{same_from_same_name, same_name-itself}
 use Rattle.fb_types.proofs.lemmas.lists.ListTests.{passes_at, passes_somewhere}

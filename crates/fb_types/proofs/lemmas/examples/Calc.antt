@@ -1,21 +1,9 @@
 -- The derivations of the algorithms over one variable.
-use Rattle.std.proofs.Common.{◌≡◌, ℕ, ◌-◌, refl, List, [], ◌∷◌, Option, Some, None, pos}
-use Rattle.std.specs.Prelude.{codes}
-use Rattle.std.specs.Fmt.{digits}
-use Rattle.fb_types.specs.Blocks.{types_of, Emission}
-use Rattle.fb_types.specs.Bodies.{Went, Stopped}
-use Rattle.fb_types.specs.Charts.{Position}
+use Rattle.fb_types.proofs.Common.{◌≡◌, ℕ, ◌-◌, refl, List, [], ◌∷◌, Option, Some, None, pos, codes, digits, types_of, Emission, Went, Stopped, Position, system_of, stimuli_of, stimulus_key, opening, IsSimulation, Taken, lines_of, AtHorizon, AtStop, Stimulated, trace_text, One, Reason}
 use Rattle.fb_types.specs.ExampleBodies.{calc, calc_type, counting, CountingTrace, CountingStops, adding, RangeTrace, dividing, DivideTrace}
 use Rattle.fb_types.specs.ExampleRuns.{counted}
-use Rattle.fb_types.specs.Headline.{system_of, stimuli_of}
-use Rattle.fb_types.specs.Keys.{stimulus_key}
-use Rattle.fb_types.specs.Simulation.{opening, IsSimulation, Taken, lines_of, AtHorizon, AtStop}
-use Rattle.fb_types.specs.States.{Stimulated}
-use Rattle.fb_types.specs.Text.{trace_text}
-use Rattle.fb_types.specs.declared.run.Form.TheVariants.{One}
 use Rattle.fb_types.specs.declared.text.BinaryOperator.TheVariants.{Add, Divide}
 use Rattle.fb_types.specs.declared.text.Stmt as read_stmt
-use Rattle.fb_types.specs.declared.value.Reason.{Reason}
 use Rattle.fb_types.specs.declared.value.Reason.TheVariants as reason
 use Rattle.fb_types.specs.declared.value.Value.TheVariants as value
 use Rattle.fb_types.proofs.lemmas.examples.Derivations.{Step, takings, simulates}

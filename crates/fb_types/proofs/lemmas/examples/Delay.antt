@@ -1,16 +1,6 @@
 -- The derivation of the delay.
-use Rattle.std.proofs.Common.{◌≡◌, refl, List, [], ◌∷◌}
-use Rattle.std.specs.Prelude.{codes}
-use Rattle.std.specs.Fmt.{digits}
+use Rattle.fb_types.proofs.Common.{◌≡◌, refl, List, [], ◌∷◌, codes, digits, system_of, stimuli_of, timer_key, stimulus_key, opening, IsSimulation, Taken, lines_of, AtHorizon, Expired, Stimulated, System, Name, Port, trace_text, One}
 use Rattle.fb_types.specs.Examples.{delay, DelayTrace}
-use Rattle.fb_types.specs.Headline.{system_of, stimuli_of}
-use Rattle.fb_types.specs.Keys.{timer_key, stimulus_key}
-use Rattle.fb_types.specs.Simulation.{opening, IsSimulation, Taken, lines_of, AtHorizon}
-use Rattle.fb_types.specs.States.{Expired, Stimulated}
-use Rattle.fb_types.specs.Systems.{System}
-use Rattle.fb_types.specs.Names.{Name, Port}
-use Rattle.fb_types.specs.Text.{trace_text}
-use Rattle.fb_types.specs.declared.run.Form.TheVariants.{One}
 use Rattle.fb_types.proofs.lemmas.examples.Derivations.{Step, step, takings, simulates}
 
 abbrev sys : System

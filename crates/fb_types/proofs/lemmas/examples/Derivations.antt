@@ -1,23 +1,9 @@
 -- How the trace of an application is derived step by step, with the keys that wait given at each step.
-use Rattle.std.proofs.Common.{◌≡◌, ◌≤◌, true≢false, arith, ℕ, suc, ◌-◌, ◌<◌, refl, sym, ap, subst, ◌∙◌, List, [], ◌∷◌, ◌++◌, map, Bool, true, false, not, ◌||◌, if◌then◌else◌, Option, Some, None, nat_le, nat_lt}
-use Rattle.std.specs.List.{All, list_all, filter}
-use Rattle.std.specs.Ordering.{is_lt}
-use Rattle.std.proofs.lemmas.Bool.{or_parts, or_from, and_parts, leb-true, ltb-true}
-use Rattle.std.proofs.lemmas.List.Elements.{All-nil, All-cons}
-use Rattle.fb_types.specs.Names.{Port}
-use Rattle.fb_types.specs.Blocks.{Kind, Basic, Event, Composite, ports_of, is_event_input}
-use Rattle.fb_types.specs.Charts.{Position, ChartReacts}
+use Rattle.fb_types.proofs.Common.{◌≡◌, ◌≤◌, true≢false, arith, ℕ, suc, ◌-◌, ◌<◌, refl, sym, ap, subst, ◌∙◌, List, [], ◌∷◌, ◌++◌, map, Bool, true, false, not, ◌||◌, if◌then◌else◌, Option, Some, None, nat_le, nat_lt, list_all, filter, is_lt, or_parts, or_from, and_parts, leb-true, ltb-true, All-nil, All-cons, Port, Kind, Basic, Event, Composite, ports_of, is_event_input, Position, ChartReacts, key_cmp, same_key, Precedes, found, without, changed_to, NoneBelow, timer_key, System, State, Config, Meter, Agenda, Stimulated, Expired, Arrived, Raised, path_of, World, Outcome, Reacts, ReactsAt, silent, taking, start_of, charted, answered, memory_of, crossing_in, crossing_out, expires, with_slots, hold_all, Takes, TakesWith, begun, effect_of, posts_of, world_of, timer_change, is_timer_of, agenda_after, opening, opening_events, Chain, Taken, TakesLeast, NothingAfter, RestsAt, IsSimulation, after, AtHorizon, ending_of, ending_by, last, Key, TimerAsk, Keep, Clear, At, Reason}
+use Rattle.std.specs.List.{All}
 use Rattle.fb_types.specs.EventBlocks as blocks
-use Rattle.fb_types.specs.Keys.{key_cmp, same_key, Precedes, found, without, changed_to, NoneBelow, timer_key}
-use Rattle.fb_types.specs.Systems.{System}
-use Rattle.fb_types.specs.States.{State, Config, Meter, Agenda, Event as AnEvent, Stimulated, Expired, Arrived, Raised, path_of}
-use Rattle.fb_types.specs.Reactions.{World, Outcome, Reacts, ReactsAt, silent, taking, start_of, charted, answered, memory_of, crossing_in, crossing_out, expires, with_slots, hold_all}
-use Rattle.fb_types.specs.Takes.{Takes, TakesWith, begun, effect_of, posts_of, world_of, timer_change, is_timer_of, agenda_after}
-use Rattle.fb_types.specs.Simulation.{Stimulus, opening, opening_events, Chain, Taken, TakesLeast, NothingAfter, RestsAt, IsSimulation, after, AtHorizon, ending_of, ending_by, last}
-use Rattle.fb_types.specs.declared.key.Key.{Key}
-use Rattle.fb_types.specs.declared.run.TimerAsk.{TimerAsk}
-use Rattle.fb_types.specs.declared.run.TimerAsk.TheVariants.{Keep, Clear, At}
-use Rattle.fb_types.specs.declared.value.Reason.{Reason}
+use Rattle.fb_types.specs.States.{Event as AnEvent}
+use Rattle.fb_types.specs.Simulation.{Stimulus}
 use Rattle.fb_types.proofs.lemmas.events.KeyLaws.{same_key_is}
 
 -- ---- The keys under which something may wait

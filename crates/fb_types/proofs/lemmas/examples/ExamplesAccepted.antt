@@ -1,8 +1,7 @@
 -- Worked examples are accepted.
-use Rattle.std.proofs.Common.{refl}
+use Rattle.fb_types.proofs.Common.{refl, Inputs}
 use Rattle.fb_types.specs.Examples.{cycle, delay, held_copy, looper, stepper, two_links}
 use Rattle.fb_types.specs.ExampleInputs.{AcceptedExamples}
-use Rattle.fb_types.specs.Headline.{Inputs}
 use Rattle.fb_types.proofs.lemmas.examples.AcceptanceTests.{Passes, accepted}
 
 abbrev IsPassed : Inputs → Type 0

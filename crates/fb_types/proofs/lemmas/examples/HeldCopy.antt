@@ -1,16 +1,6 @@
 -- The derivation of the value that goes over a link.
-use Rattle.std.proofs.Common.{◌≡◌, refl, List, [], ◌∷◌, true}
-use Rattle.std.specs.Prelude.{codes}
-use Rattle.std.specs.Fmt.{digits}
+use Rattle.fb_types.proofs.Common.{◌≡◌, refl, List, [], ◌∷◌, true, codes, digits, system_of, stimuli_of, stimulus_key, message_key, opening, IsSimulation, Taken, lines_of, AtHorizon, Stimulated, Arrived, System, Name, Port, trace_text, One}
 use Rattle.fb_types.specs.Examples.{held_copy, HeldCopyTrace}
-use Rattle.fb_types.specs.Headline.{system_of, stimuli_of}
-use Rattle.fb_types.specs.Keys.{stimulus_key, message_key}
-use Rattle.fb_types.specs.Simulation.{opening, IsSimulation, Taken, lines_of, AtHorizon}
-use Rattle.fb_types.specs.States.{Stimulated, Arrived}
-use Rattle.fb_types.specs.Systems.{System}
-use Rattle.fb_types.specs.Names.{Name, Port}
-use Rattle.fb_types.specs.Text.{trace_text}
-use Rattle.fb_types.specs.declared.run.Form.TheVariants.{One}
 use Rattle.fb_types.proofs.lemmas.examples.Derivations.{Step, step, takings, simulates}
 use Rattle.fb_types.specs.declared.value.Value.TheVariants as value
 

@@ -1,21 +1,7 @@
 -- The derivation of the chart without a resting state.
-use Rattle.std.proofs.Common.{◌≡◌, refl, List, [], ◌∷◌, Option, Some, None}
-use Rattle.std.specs.Prelude.{codes}
-use Rattle.std.specs.Fmt.{digits}
+use Rattle.fb_types.proofs.Common.{◌≡◌, refl, List, [], ◌∷◌, Option, Some, None, codes, digits, system_of, stimuli_of, stimulus_key, opening, IsSimulation, Taken, lines_of, AtStop, Stimulated, System, Name, Port, trace_text, One, Emission, Position, Reason, Steps}
 use Rattle.fb_types.specs.Examples.{looper, LooperTrace}
-use Rattle.fb_types.specs.Headline.{system_of, stimuli_of}
-use Rattle.fb_types.specs.Keys.{stimulus_key}
-use Rattle.fb_types.specs.Simulation.{opening, IsSimulation, Taken, lines_of, AtStop}
-use Rattle.fb_types.specs.States.{Stimulated}
-use Rattle.fb_types.specs.Systems.{System}
-use Rattle.fb_types.specs.Names.{Name, Port}
-use Rattle.fb_types.specs.Text.{trace_text}
-use Rattle.fb_types.specs.declared.run.Form.TheVariants.{One}
 use Rattle.fb_types.proofs.lemmas.examples.Derivations.{Step, step, takings, simulates}
-use Rattle.fb_types.specs.Blocks.{Emission}
-use Rattle.fb_types.specs.Charts.{Position}
-use Rattle.fb_types.specs.declared.value.Reason.{Reason}
-use Rattle.fb_types.specs.declared.value.Reason.TheVariants.{Steps}
 
 abbrev sys : System
 sys = system_of looper

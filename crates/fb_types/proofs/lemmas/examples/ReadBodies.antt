@@ -1,18 +1,12 @@
 -- What the algorithms of the worked examples mean.
-use Rattle.std.proofs.Common.{◌≡◌, sym, ap, subst, ◌∙◌, [], ◌∷◌, None, ℤ, pos}
-use Rattle.std.specs.Prelude.{codes}
-use Rattle.fb_types.specs.Names.{Name}
-use Rattle.fb_types.specs.Syntax.{Expr, Whole, Variable, Binary, Stmt, Assign, For, Empty, no_stmt, then_stmts, expr_of, expr_step, stmt_of, stmt_step, branch_step, choice_step, body_of}
-use Rattle.fb_types.specs.Values.{Types}
-use Rattle.fb_types.specs.Bodies.{Point, End, RunsBody}
+use Rattle.fb_types.proofs.Common.{◌≡◌, sym, ap, subst, ◌∙◌, [], ◌∷◌, None, ℤ, pos, codes, Name, Binary, Stmt, Assign, For, Empty, no_stmt, then_stmts, expr_of, stmt_of, body_of, Types, Point, End, RunsBody, BinaryOperator, Stmt-F}
+use Rattle.fb_types.specs.Syntax.{Expr, Whole, Variable, expr_step, stmt_step, branch_step, choice_step}
 use Rattle.fb_types.specs.ExampleBodies.{whole_read, variable_read, binary_read, assignment_read, counting, doubling}
-use Rattle.fb_types.specs.declared.text.BinaryOperator.{BinaryOperator}
 use Rattle.fb_types.specs.declared.text.BinaryOperator.TheVariants.{Multiply}
 use Rattle.fb_types.specs.declared.text.Expr as read
 use Rattle.fb_types.specs.declared.text.Expr.TheOpen.{Expr-F}
 use Rattle.fb_types.specs.declared.text.Expr.TheFolds.{fold-roll-Expr}
 use Rattle.fb_types.specs.declared.text.Stmt as read_stmt
-use Rattle.fb_types.specs.declared.text.Stmt.TheOpen.{Stmt-F}
 use Rattle.fb_types.specs.declared.text.Stmt.TheViews.{roll-Stmt}
 use Rattle.fb_types.specs.declared.text.Stmt.TheFolds.{fold-roll-Stmt}
 

@@ -1,13 +1,7 @@
 -- The runs of the worked loop and of the chart without a resting state.
-use Rattle.std.proofs.Common.{◌≡◌, ℕ, suc, ◌+◌, arith, refl, sym, subst, [], ◌∷◌, Some, None}
-use Rattle.std.specs.Prelude.{codes, pos}
-use Rattle.fb_types.specs.Names.{with_value}
-use Rattle.fb_types.specs.Values.{Values}
-use Rattle.fb_types.specs.Bodies.{Went, Left, Stopped, RunsBody}
-use Rattle.fb_types.specs.Charts.{ChartReacts}
+use Rattle.fb_types.proofs.Common.{◌≡◌, ℕ, suc, ◌+◌, arith, refl, sym, subst, [], ◌∷◌, Some, None, codes, pos, with_value, Values, Went, Left, Stopped, RunsBody, ChartReacts, Steps}
 use Rattle.fb_types.specs.Examples.{looper_type}
 use Rattle.fb_types.specs.ExampleRuns.{counting_loop, calc_types, point, counted, CountsInFive, StopsInFour, index, ticked, EmitsFourTimes}
-use Rattle.fb_types.specs.declared.value.Reason.TheVariants.{Steps}
 use Rattle.fb_types.specs.declared.value.Value.TheVariants as value
 use Rattle.fb_types.proofs.lemmas.determined.BodyLaws.{body-one}
 use Rattle.fb_types.proofs.lemmas.determined.ChartLaws.{chart-one}

@@ -1,19 +1,7 @@
 -- The derivation of the chart that moves one state further at each event.
-use Rattle.std.proofs.Common.{◌≡◌, ℕ, ◌-◌, refl, List, [], ◌∷◌, Option, None}
-use Rattle.std.specs.Prelude.{codes}
-use Rattle.std.specs.Fmt.{digits}
+use Rattle.fb_types.proofs.Common.{◌≡◌, ℕ, ◌-◌, refl, List, [], ◌∷◌, Option, None, codes, digits, system_of, stimuli_of, stimulus_key, opening, IsSimulation, Taken, lines_of, AtHorizon, Stimulated, System, Name, Port, trace_text, One, Position, Reason}
 use Rattle.fb_types.specs.Examples.{stepper, StepperTrace}
-use Rattle.fb_types.specs.Headline.{system_of, stimuli_of}
-use Rattle.fb_types.specs.Keys.{stimulus_key}
-use Rattle.fb_types.specs.Simulation.{opening, IsSimulation, Taken, lines_of, AtHorizon}
-use Rattle.fb_types.specs.States.{Stimulated}
-use Rattle.fb_types.specs.Systems.{System}
-use Rattle.fb_types.specs.Names.{Name, Port}
-use Rattle.fb_types.specs.Text.{trace_text}
-use Rattle.fb_types.specs.declared.run.Form.TheVariants.{One}
 use Rattle.fb_types.proofs.lemmas.examples.Derivations.{Step, takings, simulates}
-use Rattle.fb_types.specs.Charts.{Position}
-use Rattle.fb_types.specs.declared.value.Reason.{Reason}
 
 abbrev sys : System
 sys = system_of stepper

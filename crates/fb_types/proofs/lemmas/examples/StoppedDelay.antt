@@ -1,16 +1,6 @@
 -- The derivation of the delay that is stopped in the tick of its timer.
-use Rattle.std.proofs.Common.{◌≡◌, refl, List, [], ◌∷◌}
-use Rattle.std.specs.Prelude.{codes}
-use Rattle.std.specs.Fmt.{digits}
+use Rattle.fb_types.proofs.Common.{◌≡◌, refl, List, [], ◌∷◌, codes, digits, system_of, stimuli_of, stimulus_key, Name, Port, opening, IsSimulation, Taken, lines_of, AtHorizon, Stimulated, System, trace_text, One}
 use Rattle.fb_types.specs.Examples.{stopped_delay, StoppedDelayTrace}
-use Rattle.fb_types.specs.Headline.{system_of, stimuli_of}
-use Rattle.fb_types.specs.Keys.{stimulus_key}
-use Rattle.fb_types.specs.Names.{Name, Port}
-use Rattle.fb_types.specs.Simulation.{opening, IsSimulation, Taken, lines_of, AtHorizon}
-use Rattle.fb_types.specs.States.{Stimulated}
-use Rattle.fb_types.specs.Systems.{System}
-use Rattle.fb_types.specs.Text.{trace_text}
-use Rattle.fb_types.specs.declared.run.Form.TheVariants.{One}
 use Rattle.fb_types.proofs.lemmas.examples.Derivations.{Step, step, takings, simulates}
 
 abbrev sys : System

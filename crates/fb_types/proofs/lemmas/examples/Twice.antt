@@ -1,20 +1,6 @@
 -- The derivation of the composite around a type that doubles a number.
-use Rattle.std.proofs.Common.{◌≡◌, ◌-◌, refl, List, [], ◌∷◌, Option, None, pos}
-use Rattle.std.specs.Prelude.{codes}
-use Rattle.std.specs.Fmt.{digits}
-use Rattle.fb_types.specs.Blocks.{types_of}
-use Rattle.fb_types.specs.Names.{with_value}
-use Rattle.fb_types.specs.Bodies.{Went}
-use Rattle.fb_types.specs.Charts.{Position}
+use Rattle.fb_types.proofs.Common.{◌≡◌, ◌-◌, refl, List, [], ◌∷◌, Option, None, pos, codes, digits, types_of, with_value, Went, Position, system_of, stimuli_of, local_key, stimulus_key, opening, IsSimulation, Taken, lines_of, AtHorizon, Raised, Stimulated, System, trace_text, One, Reason}
 use Rattle.fb_types.specs.ExampleBodies.{doubling, doubler_type, twice, TwiceTrace}
-use Rattle.fb_types.specs.Headline.{system_of, stimuli_of}
-use Rattle.fb_types.specs.Keys.{local_key, stimulus_key}
-use Rattle.fb_types.specs.Simulation.{opening, IsSimulation, Taken, lines_of, AtHorizon}
-use Rattle.fb_types.specs.States.{Raised, Stimulated}
-use Rattle.fb_types.specs.Systems.{System}
-use Rattle.fb_types.specs.Text.{trace_text}
-use Rattle.fb_types.specs.declared.run.Form.TheVariants.{One}
-use Rattle.fb_types.specs.declared.value.Reason.{Reason}
 use Rattle.fb_types.specs.declared.value.Value.TheVariants as value
 use Rattle.fb_types.proofs.lemmas.examples.Derivations.{Step, step, takings, simulates}
 use Rattle.fb_types.proofs.lemmas.examples.ReadBodies.{as_read, says_doubling}

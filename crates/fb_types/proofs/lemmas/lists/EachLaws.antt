@@ -1,6 +1,5 @@
 -- Facts that hold of each element of a list.
-use Rattle.std.proofs.Common.{List, [], ◌∷◌, ◌++◌}
-use Rattle.fb_types.specs.Machines.{Each}
+use Rattle.fb_types.proofs.Common.{List, [], ◌∷◌, ◌++◌, Each}
 
 pub each_map : {A : Type 0} (P Q : A → Type 0) (xs : List A) → ((x : A) → P x → Q x) → Each P xs → Each Q xs
 each_map P Q [] f h = tt

@@ -1,7 +1,5 @@
 -- What a list contains, and the lists that are made of it.
-use Rattle.std.proofs.Common.{◌≡◌, ◌⊎◌, List, [], ◌∷◌, map, Contains, sym, subst, inl, inr, arith}
-use Rattle.std.specs.Prelude.{flat_map}
-use Rattle.std.proofs.lemmas.List.Elements.{Contains-append_left, Contains-append_right, Contains-push, Contains-push_cases, Contains-append_cases}
+use Rattle.fb_types.proofs.Common.{◌≡◌, ◌⊎◌, List, [], ◌∷◌, map, Contains, sym, subst, inl, inr, arith, flat_map, Contains-append_left, Contains-append_right, Contains-push, Contains-push_cases, Contains-append_cases}
 
 -- ---- One element first
 

@@ -1,14 +1,8 @@
 -- Keys and lookups.
-use Rattle.std.proofs.Common.{◌≡◌, ℕ, ◌<◌, ◌≤◌, ◌⊎◌, false, Option, Some, None, List, [], ◌∷◌, ◌++◌, refl, sym, ap, ◌∙◌, subst, inl, inr, ⊎_elim, arith}
-use Rattle.std.specs.Prelude.{if◌then◌else◌}
+use Rattle.fb_types.proofs.Common.{◌≡◌, ℕ, ◌<◌, ◌≤◌, ◌⊎◌, false, Option, Some, None, List, [], ◌∷◌, ◌++◌, refl, sym, ap, ◌∙◌, subst, inl, inr, ⊎_elim, arith, if◌then◌else◌, nat_cmp, is_eq, Ordering, Less, Equal, Greater, tied_itself, cases_Bool, cases_lt, cond-true, cond-false, lt-ltb, key_cmp, Precedes, same_key, or_else, found, without, changed_to, Key}
 use Rattle.std.specs.Cmp.{nat_cmp_total}
-use Rattle.std.specs.Ordering.{nat_cmp, ordering_reverse, is_eq}
-use Rattle.std.specs.declared.cmp.Ordering.{Ordering}
-use Rattle.std.specs.declared.cmp.Ordering.TheVariants.{Less, Equal, Greater}
-use Rattle.std.proofs.lemmas.Cmp.{tied_itself}
-use Rattle.std.proofs.lemmas.Bool.{cases_Bool, cases_lt, cond-true, cond-false, lt-ltb}
-use Rattle.fb_types.specs.Keys.{key_cmp, Precedes, same_key, Map, or_else, found, without, changed_to}
-use Rattle.fb_types.specs.declared.key.Key.{Key}
+use Rattle.std.specs.Ordering.{ordering_reverse}
+use Rattle.fb_types.specs.Keys.{Map}
 use Rattle.fb_types.proofs.lemmas.events.KeyLaws.{key_cmp_total, earlier_precedes, same_key_is, same_key_itself}
 
 -- of two keys one comes before the other, or they are equal

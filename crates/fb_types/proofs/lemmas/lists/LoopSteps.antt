@@ -1,10 +1,5 @@
 -- Steps of a loop over a list.
-use Rattle.std.proofs.Common.{◌≡◌, ℕ, ◌<◌, ◌≤◌, ◌+◌, Bool, true, false, cond, List, [], ◌∷◌, ◌++◌, length, map, take, drop, get_or, Some, sym, ◌∙◌, ap, subst}
-use Rattle.std.specs.Prelude.{All}
-use Rattle.std.specs.List.{find}
-use Rattle.std.proofs.lemmas.List.{at_drop_more, take_more, take_all, map-append, take-append-drop}
-use Rattle.std.proofs.lemmas.List.Elements.{All-push}
-use Rattle.fb_types.specs.Repeated.{Twice}
+use Rattle.fb_types.proofs.Common.{◌≡◌, ℕ, ◌<◌, ◌≤◌, ◌+◌, Bool, true, false, cond, List, [], ◌∷◌, ◌++◌, length, map, take, drop, get_or, Some, sym, ◌∙◌, ap, subst, All, find, at_drop_more, take_more, take_all, map-append, take-append-drop, All-push, Twice}
 use Rattle.fb_types.proofs.lemmas.lists.TwiceLaws.{Twice-append_left}
 
 -- the results of a function for the elements so far, with one more

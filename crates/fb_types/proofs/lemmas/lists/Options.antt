@@ -1,7 +1,5 @@
 -- Values that may be none.
-use Rattle.std.proofs.Common.{◌≡◌, true, false, Some, None, Option, refl}
-use Rattle.std.specs.Prelude.{is_some, option_map, option_and_then}
-use Rattle.std.proofs.lemmas.Option.{same_Some}
+use Rattle.fb_types.proofs.Common.{◌≡◌, true, false, Some, None, Option, refl, is_some, option_map, option_and_then, same_Some}
 
 -- ---- Whether there is one
 

@@ -1,12 +1,6 @@
 -- The first index at which a test passes, and the element there.
-use Rattle.std.proofs.Common.{◌≡◌, ℕ, zero, suc, ◌+◌, Bool, true, false, cond, not, ◌||◌, List, [], ◌∷◌, ◌++◌, length, map, Some, None, Contains, refl, sym, ◌∙◌, ap, subst, inl, inr, arith}
-use Rattle.std.specs.Prelude.{position, slice_get, option_map, option_and_then, nat_lt, is_some}
-use Rattle.std.specs.List.{list_any, prefix_len}
-use Rattle.std.proofs.lemmas.Bool.Decides.{nat_tests}
-use Rattle.std.proofs.lemmas.Bool.{false_from_ne_true, true≢false}
-use Rattle.fb_types.specs.Blocks.{named}
-use Rattle.fb_types.specs.Names.{Name, same_name}
-use Rattle.fb_types.specs.Repeated.{Twice}
+use Rattle.fb_types.proofs.Common.{◌≡◌, ℕ, zero, suc, ◌+◌, Bool, true, false, cond, not, ◌||◌, List, [], ◌∷◌, ◌++◌, length, map, Some, None, Contains, refl, sym, ◌∙◌, ap, subst, inl, inr, arith, position, slice_get, option_map, option_and_then, nat_lt, is_some, list_any, nat_tests, false_from_ne_true, true≢false, named, Name, same_name, Twice}
+use Rattle.std.specs.List.{prefix_len}
 use Rattle.fb_types.proofs.lemmas.lists.Elements.{Contains-here, Contains-there}
 use Rattle.fb_types.proofs.lemmas.names.NameLaws.{same_name-Decides, same_from_same_name, same_name-flip}
 

@@ -1,7 +1,5 @@
 -- What a list of events with keys has under a key.
-use Rattle.std.proofs.Common.{◌≡◌, Bool, true, false, cond, List, [], ◌∷◌, ◌++◌, refl, Some, None}
-use Rattle.fb_types.specs.Keys.{or_else, found, same_key}
-use Rattle.fb_types.specs.declared.key.Key.{Key}
+use Rattle.fb_types.proofs.Common.{◌≡◌, Bool, true, false, cond, List, [], ◌∷◌, ◌++◌, refl, Some, None, or_else, found, same_key, Key}
 
 -- one more event, under its key
 pub found-put : {X : Type 0} (j : Key) (es : List (Key × X)) (k : Key) (x : X)

@@ -1,7 +1,5 @@
 -- Lists in which something is twice.
-use Rattle.std.proofs.Common.{List, [], ◌∷◌, ◌++◌, Contains, sym, subst, inl, inr}
-use Rattle.std.proofs.lemmas.List.Elements.{Contains-append_left, Contains-append_right, Contains-push, Contains-push_cases}
-use Rattle.fb_types.specs.Repeated.{Twice}
+use Rattle.fb_types.proofs.Common.{List, [], ◌∷◌, ◌++◌, Contains, sym, subst, inl, inr, Contains-append_left, Contains-append_right, Contains-push, Contains-push_cases, Twice}
 use Rattle.fb_types.proofs.lemmas.lists.Elements.{Contains-nil, Contains-cons_cases, Contains-here, Contains-there}
 
 pub Twice-push : {A : Type 0} (xs : List A) (x : A) → Contains xs x → Twice (xs ++ x ∷ [])

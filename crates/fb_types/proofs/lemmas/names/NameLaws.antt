@@ -1,13 +1,5 @@
 -- Names that are the same, among names and of elements.
-use Rattle.std.proofs.Common.{◌≡◌, ◌||◌, Bool, true, false, cond, List, [], ◌∷◌, map, Some, Contains, refl, sym, ◌∙◌, ap, subst, inl, inr, arith}
-use Rattle.std.specs.Prelude.{is_some}
-use Rattle.std.specs.Bool.{Decides}
-use Rattle.std.specs.List.{list_any, find}
-use Rattle.std.specs.Str.{bytes_eq}
-use Rattle.std.proofs.lemmas.Bool.{false_from_ne_true, true≢false}
-use Rattle.std.proofs.lemmas.Slice.Eq.{bytes_eq-Decides}
-use Rattle.fb_types.specs.Blocks.{named}
-use Rattle.fb_types.specs.Names.{Name, same_name}
+use Rattle.fb_types.proofs.Common.{◌≡◌, ◌||◌, Bool, true, false, cond, List, [], ◌∷◌, map, Some, Contains, refl, sym, ◌∙◌, ap, subst, inl, inr, arith, is_some, Decides, list_any, find, bytes_eq, false_from_ne_true, true≢false, bytes_eq-Decides, named, Name, same_name}
 use Rattle.fb_types.proofs.lemmas.lists.Elements.{Contains-nil, Contains-cons_cases, Contains-here, Contains-there}
 
 -- ---- Two names

@@ -1,7 +1,5 @@
 -- The number of a name: how great it is, and that no other name has it.
-use Rattle.std.proofs.Common.{◌≡◌, ◌≤◌, ◌<◌, ◌+◌, ◌*◌, ◌^◌, ℕ, zero, suc, true, false, cond, List, [], ◌∷◌, length, refl, sym, ◌∙◌, arith}
-use Rattle.std.specs.Prelude.{nat_le}
-use Rattle.std.proofs.lemmas.Bool.Decides.{nat_tests}
+use Rattle.fb_types.proofs.Common.{◌≡◌, ◌≤◌, ◌<◌, ◌+◌, ◌*◌, ◌^◌, ℕ, zero, suc, true, false, cond, List, [], ◌∷◌, length, refl, sym, ◌∙◌, arith, nat_le, nat_tests}
 use Rattle.fb_types.specs.ShortNumbers.{digit, packed, most, short_number_of}
 
 -- ---- Digits

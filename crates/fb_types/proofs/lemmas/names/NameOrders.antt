@@ -1,14 +1,10 @@
 -- Names that are equal in the order of tables are the same.
-use Rattle.std.proofs.Common.{◌≡◌, Bool, true, Ordering, sym, ap, subst}
-use Rattle.std.specs.Bool.{Decides, one_answer}
+use Rattle.fb_types.proofs.Common.{◌≡◌, Bool, true, sym, ap, subst, Decides, is_eq, nat_cmp, ordering_then, tied_itself, true≢false, bytes_eq-Decides, Name, same_name}
+use Rattle.std.proofs.Common.{Ordering}
+use Rattle.std.specs.Bool.{one_answer}
 use Rattle.std.specs.Cmp.Lexicographic.{slice_cmp}
-use Rattle.std.specs.Ordering.{is_eq, nat_cmp, ordering_then}
 use Rattle.std.specs.declared.cmp.Ordering.TheVariants as order
-use Rattle.std.proofs.lemmas.Cmp.{tied_itself}
-use Rattle.std.proofs.lemmas.Bool.{true≢false}
 use Rattle.std.proofs.lemmas.Map.Text.{is_eq-slice_cmp}
-use Rattle.std.proofs.lemmas.Slice.Eq.{bytes_eq-Decides}
-use Rattle.fb_types.specs.Names.{Name, same_name}
 use Rattle.fb_types.specs.NameOrder.{name_cmp, name_cmp_total}
 use Rattle.fb_types.specs.ShortNumbers.{short_number_of}
 use Rattle.fb_types.proofs.lemmas.names.NameLaws.{same_name-Decides}

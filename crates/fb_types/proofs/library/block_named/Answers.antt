@@ -1,9 +1,4 @@
-use Rattle.std.proofs.Common.{sym, ◌∙◌, ap}
-use Rattle.std.specs.List.{find}
-use Rattle.std.proofs.lemmas.List.{at_drop_all}
-use Rattle.fb_types.specs.Flat.{type_name}
-use Rattle.fb_types.specs.Names.{same_name}
-use Rattle.fb_types.specs.declared.library.BlockType.{BlockType}
+use Rattle.fb_types.proofs.Common.{sym, ◌∙◌, ap, find, at_drop_all, type_name, same_name, BlockType}
 use Rattle.fb_types.proofs.lemmas.lists.LoopSteps.{found_here, found_later}
 use Rattle.fb_types.proofs.library.block_named.Goals as goal
 

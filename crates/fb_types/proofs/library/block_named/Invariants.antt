@@ -1,7 +1,4 @@
-use Rattle.std.proofs.Common.{◌≡◌, drop}
-use Rattle.std.specs.List.{find}
-use Rattle.fb_types.specs.Flat.{type_name}
-use Rattle.fb_types.specs.Names.{same_name}
+use Rattle.fb_types.proofs.Common.{◌≡◌, drop, find, type_name, same_name}
 use Rattle.fb_types.proofs.library.block_named.Given as goal
 
 abbrev pub invariant-loop-block : goal.invariant-loop-block

@@ -1,8 +1,4 @@
-use Rattle.std.proofs.Common.{sym, ◌∙◌}
-use Rattle.std.specs.List.{find}
-use Rattle.std.proofs.lemmas.List.{at_drop_all}
-use Rattle.fb_types.specs.Names.{same_name}
-use Rattle.fb_types.specs.declared.library.Instance.{Instance}
+use Rattle.fb_types.proofs.Common.{sym, ◌∙◌, find, at_drop_all, same_name, Instance}
 use Rattle.fb_types.proofs.lemmas.lists.LoopSteps.{found_here, found_later}
 use Rattle.fb_types.proofs.library.instance_named.Goals as goal
 

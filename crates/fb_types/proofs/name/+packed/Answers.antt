@@ -1,5 +1,4 @@
-use Rattle.std.proofs.Common.{◌≡◌, ◌≤◌, ◌<◌, ◌*◌, ◌-◌, ◌^◌, ℕ, List, length, take, drop, get_or, arith}
-use Rattle.std.proofs.lemmas.Grind.{common_steps}
+use Rattle.fb_types.proofs.Common.{◌≡◌, ◌≤◌, ◌<◌, ◌*◌, ◌-◌, ◌^◌, ℕ, List, length, take, drop, get_or, arith, common_steps}
 use Rattle.fb_types.specs.ShortNumbers.{packed, digit}
 use Rattle.fb_types.proofs.lemmas.names.NameNumbers.{packed-fits, digit-most}
 use Rattle.fb_types.proofs.name.+packed.Goals as goal

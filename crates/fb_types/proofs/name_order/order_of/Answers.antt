@@ -1,5 +1,4 @@
-use Rattle.std.proofs.Common.{sym, ◌∙◌, ap}
-use Rattle.std.proofs.lemmas.Cmp.{tied_itself}
+use Rattle.fb_types.proofs.Common.{sym, ◌∙◌, ap, tied_itself}
 use Rattle.fb_types.specs.NameOrder.{name_cmp, name_cmp_total}
 use Rattle.fb_types.proofs.lemmas.names.NameNumbers.{is_the_name}
 use Rattle.fb_types.proofs.name_order.order_of.Goals as goal

@@ -1,14 +1,5 @@
-use Rattle.std.proofs.Common.{◌≡◌, ◌++◌, ◌<◌, ◌^◌, ◌+◌, List, length, map, ap, sym, subst, ◌∙◌}
-use Rattle.std.proofs.lemmas.List.{length-map}
-use Rattle.fb_types.specs.Blocks.{variable_names}
-use Rattle.fb_types.specs.Headline.{system_of}
-use Rattle.fb_types.specs.Names.{Name}
-use Rattle.fb_types.specs.Numbers.{path_at, ports_at}
-use Rattle.fb_types.specs.declared.library.Ports.{Ports}
-use Rattle.fb_types.specs.declared.library.Variable.{Variable}
-use Rattle.fb_types.specs.declared.value.Value.{Value}
+use Rattle.fb_wave.proofs.lemmas.Common.{◌≡◌, ◌++◌, ◌<◌, ◌^◌, ◌+◌, List, length, map, ap, sym, subst, ◌∙◌, length-map, variable_names, system_of, Name, path_at, ports_at, Ports, Variable, Value, size_of}
 use Rattle.fb_wave.specs.Scopes.{initial_in, ports_begun}
-use Rattle.fb_wave.specs.Signals.{size_of}
 use Rattle.fb_wave.proofs.lemmas.Handing.{on_ok}
 use Rattle.fb_wave.proofs.begun.put_instance.Goals as goal
 

@@ -1,7 +1,4 @@
-use Rattle.std.proofs.Common.{◌≡◌, ◌+◌, map}
-use Rattle.fb_types.specs.Blocks.{variable_names}
-use Rattle.fb_types.specs.Names.{Name}
-use Rattle.fb_types.specs.declared.value.Value.{Value}
+use Rattle.fb_types.proofs.Common.{◌≡◌, ◌+◌, map, variable_names, Name, Value}
 use Rattle.fb_wave.specs.Scopes.{variable_begun, variable_declarations}
 use Rattle.fb_wave.proofs.lemmas.Listing.{SoFar}
 use Rattle.fb_wave.proofs.begun.put_values.Given as goal

@@ -1,5 +1,4 @@
-use Rattle.std.proofs.Common.{◌≡◌, ℕ, ◌<◌, ◌≤◌, false, List, length, get_or, set, refl, sym, ap, subst, ◌∙◌, arith}
-use Rattle.fb_wave.specs.declared.levels.Cell.{Cell}
+use Rattle.fb_wave.proofs.lemmas.Common.{◌≡◌, ℕ, ◌<◌, ◌≤◌, false, List, length, get_or, set, refl, sym, ap, subst, ◌∙◌, arith, Cell}
 use Rattle.fb_wave.specs.declared.levels.Level.TheVariants.{Count}
 use Rattle.fb_wave.proofs.lemmas.Turning.{turned_levels, turned_more, turned_none, turned_text}
 use Rattle.fb_wave.proofs.change.put_changes.Goals as goal

@@ -1,7 +1,5 @@
-use Rattle.std.proofs.Common.{◌≡◌, ◌↔◌, true, ltb, sym, subst}
-use Rattle.std.proofs.lemmas.Bool.{lt-ltb, ltb-true}
-use Rattle.fb_trace.specs.declared.last.Outcome.{Outcome}
-use Rattle.fb_wave.specs.Copying.{IsAfter}
+use Rattle.fb_wave.proofs.lemmas.Common.{◌≡◌, true, sym, subst, ltb-true, Outcome, IsAfter}
+use Rattle.fb_types.proofs.Common.{◌↔◌, ltb, lt-ltb}
 use Rattle.fb_wave.proofs.copy.can_end.Goals as goal
 
 pub returns-in-End : goal.returns-in-End

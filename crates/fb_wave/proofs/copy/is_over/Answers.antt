@@ -1,7 +1,4 @@
-use Rattle.std.proofs.Common.{◌≡◌, ◌<◌, ◌+◌, ℕ, true, false, eqb, List, [], ◌∷◌, length, vec_len, Option, Some, None, refl, sym, ap, ◌∙◌, length-append, arith}
-use Rattle.std.specs.Prelude.{IfSome}
-use Rattle.std.specs.Io.KnownBytes.{Consumes}
-use Rattle.std.proofs.lemmas.Bool.{eqb-false, eqb-true}
+use Rattle.fb_types.proofs.Common.{◌≡◌, ◌<◌, ◌+◌, ℕ, true, false, eqb, List, [], ◌∷◌, length, vec_len, Option, Some, None, refl, sym, ap, ◌∙◌, length-append, arith, IfSome, Consumes, eqb-false, eqb-true}
 use Rattle.fb_wave.proofs.copy.is_over.Goals as goal
 
 no_items : (xs : List ℕ) (n : ℕ) → length xs ≡ n → eqb n 0 ≡ true → xs ≡ []

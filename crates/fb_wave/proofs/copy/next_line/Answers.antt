@@ -1,6 +1,5 @@
-use Rattle.std.proofs.Common.{ℕ, List, length, ap, subst, arith}
+use Rattle.fb_types.proofs.Common.{ℕ, List, length, ap, subst, arith, Consumes}
 use Rattle.std.specs.Io.{appended_bytes}
-use Rattle.std.specs.Io.KnownBytes.{Consumes}
 use Rattle.fb_wave.proofs.copy.next_line.Goals as goal
 
 pub returns-clause-read : goal.returns-clause-read

@@ -1,6 +1,4 @@
-use Rattle.std.proofs.Common.{◌++◌}
-use Rattle.fb_wave.specs.Signals.{sizes_of}
-use Rattle.fb_wave.specs.LineSignals.{fires_of, has_signal, touches_of}
+use Rattle.fb_wave.proofs.lemmas.Common.{◌++◌, sizes_of, fires_of, has_signal, touches_of}
 use Rattle.fb_wave.proofs.lemmas.Showing.{turn_next, turn_same}
 use Rattle.fb_wave.proofs.lemmas.Handing.{on_ok}
 use Rattle.fb_wave.proofs.dump.move_to.Goals as goal

@@ -1,9 +1,5 @@
-use Rattle.std.proofs.Common.{◌≡◌, ◌≤◌, ℕ, List, [], ◌++◌, length, sym, ap, ◌∙◌, append_assoc, arith}
-use Rattle.std.proofs.lemmas.List.{get_or_past}
-use Rattle.fb_types.specs.Headline.{system_of}
-use Rattle.fb_types.specs.Names.{Name}
-use Rattle.fb_trace.specs.End.{ending_of}
-use Rattle.fb_trace.specs.declared.last.Outcome.{Outcome}
+use Rattle.fb_wave.proofs.lemmas.Common.{◌≡◌, ◌≤◌, ℕ, List, [], ◌++◌, length, sym, ap, ◌∙◌, append_assoc, arith, system_of, Name, ending_of, Outcome}
+use Rattle.fb_types.proofs.Common.{get_or_past}
 use Rattle.fb_wave.specs.Changes.{time_text}
 use Rattle.fb_wave.specs.Dumps.{end_text, stop_comment}
 use Rattle.fb_wave.proofs.lemmas.Handing.{on_ok}

@@ -1,7 +1,4 @@
-use Rattle.std.proofs.Common.{◌≡◌, ◌<◌, ℕ, ◌+◌, List, length, drop, ap, ◌∙◌, arith}
-use Rattle.fb_types.specs.Headline.{system_of}
-use Rattle.fb_types.specs.Numbers.{path_at}
-use Rattle.fb_types.specs.Text.{path_text}
+use Rattle.fb_types.proofs.Common.{◌≡◌, ◌<◌, ℕ, ◌+◌, List, length, drop, ap, ◌∙◌, arith, system_of, path_at, path_text}
 use Rattle.fb_wave.proofs.lemmas.Heading.{own_fits, own_inner}
 use Rattle.fb_wave.proofs.lemmas.Known.{path_some}
 use Rattle.fb_wave.proofs.head.own_name.Goals as goal

@@ -1,6 +1,4 @@
-use Rattle.std.proofs.Common.{◌<◌, ℕ, ◌++◌, length, ap, ◌∙◌, arith}
-use Rattle.fb_types.specs.Headline.{system_of}
-use Rattle.fb_types.specs.Numbers.{path_at, ports_at}
+use Rattle.fb_types.proofs.Common.{◌<◌, ℕ, ◌++◌, length, ap, ◌∙◌, arith, system_of, path_at, ports_at}
 use Rattle.fb_wave.specs.Scopes.{initial_in, ports_begun}
 use Rattle.fb_wave.proofs.lemmas.Heading.{begun_on}
 use Rattle.fb_wave.proofs.lemmas.Numbering.{signals_fit}

@@ -1,7 +1,5 @@
-use Rattle.std.proofs.Common.{◌≡◌, ◌++◌, drop}
-use Rattle.fb_types.specs.Headline.{system_of}
+use Rattle.fb_wave.proofs.lemmas.Common.{◌≡◌, ◌++◌, drop, system_of, first_signal}
 use Rattle.fb_wave.specs.Scopes.{instances_begun}
-use Rattle.fb_wave.specs.Signals.{first_signal}
 use Rattle.fb_wave.proofs.head.put_begun.Given as goal
 
 abbrev pub invariant-loop-index : goal.invariant-loop-index

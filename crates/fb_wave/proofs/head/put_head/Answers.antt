@@ -1,5 +1,4 @@
-use Rattle.std.proofs.Common.{◌≡◌, ℕ, List, ◌++◌, codes, ap, ◌∙◌, append_assoc}
-use Rattle.fb_types.specs.Headline.{system_of}
+use Rattle.fb_types.proofs.Common.{◌≡◌, ℕ, List, ◌++◌, codes, ap, ◌∙◌, append_assoc, system_of}
 use Rattle.fb_wave.specs.Changes.{line}
 use Rattle.fb_wave.specs.Scopes.{instances_begun, resources_declared}
 use Rattle.fb_wave.proofs.lemmas.Handing.{on_put}

@@ -1,10 +1,5 @@
-use Rattle.std.proofs.Common.{◌≡◌, ◌<◌, ℕ, ◌+◌, ◌-◌, ◌^◌, List, ◌++◌, get_or, length, sym, ap, subst, ◌∙◌, arith, append_assoc}
-use Rattle.fb_types.specs.Headline.{system_of}
-use Rattle.fb_types.specs.Names.{Name}
-use Rattle.fb_types.specs.Numbers.{path_at, ports_at}
-use Rattle.fb_types.specs.declared.library.Ports.{Ports}
-use Rattle.fb_wave.specs.Scopes.{closed, opened, own_name, ports_declared}
-use Rattle.fb_wave.specs.Signals.{first_signal, size_of}
+use Rattle.fb_wave.proofs.lemmas.Common.{◌≡◌, ◌<◌, ℕ, ◌+◌, ◌-◌, ◌^◌, List, ◌++◌, get_or, length, sym, ap, subst, ◌∙◌, arith, append_assoc, system_of, Name, path_at, ports_at, Ports, closed, own_name, first_signal, size_of}
+use Rattle.fb_wave.specs.Scopes.{opened, ports_declared}
 use Rattle.fb_wave.proofs.lemmas.Heading.{route_length}
 use Rattle.fb_wave.proofs.lemmas.Known.{path_some}
 use Rattle.fb_wave.proofs.lemmas.Numbering.{signals_fit}

@@ -1,7 +1,4 @@
-use Rattle.std.proofs.Common.{◌<◌, ℕ, ◌+◌, ◌++◌, drop, length, sym, ap, ◌∙◌, arith}
-use Rattle.fb_types.specs.Headline.{system_of}
-use Rattle.fb_wave.specs.Scopes.{instances_declared}
-use Rattle.fb_wave.specs.Signals.{first_signal}
+use Rattle.fb_wave.proofs.lemmas.Common.{◌<◌, ℕ, ◌+◌, ◌++◌, drop, length, sym, ap, ◌∙◌, arith, system_of, instances_declared, first_signal}
 use Rattle.fb_wave.proofs.lemmas.Heading.{declared_on, declared_past}
 use Rattle.fb_wave.proofs.head.put_instances.Goals as goal
 use Rattle.fb_wave.proofs.head.put_instances.Goals.{then-resource+in_ok-height, else-resource}

@@ -1,7 +1,4 @@
-use Rattle.std.proofs.Common.{◌≡◌, ◌++◌, drop}
-use Rattle.fb_types.specs.Headline.{system_of}
-use Rattle.fb_wave.specs.Scopes.{instances_declared}
-use Rattle.fb_wave.specs.Signals.{first_signal}
+use Rattle.fb_wave.proofs.lemmas.Common.{◌≡◌, ◌++◌, drop, system_of, instances_declared, first_signal}
 use Rattle.fb_wave.proofs.head.put_instances.Given as goal
 
 abbrev pub invariant-loop-index : goal.invariant-loop-index

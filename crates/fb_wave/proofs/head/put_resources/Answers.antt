@@ -1,5 +1,4 @@
-use Rattle.std.proofs.Common.{◌<◌, length, arith}
-use Rattle.fb_types.specs.Headline.{system_of}
+use Rattle.fb_types.proofs.Common.{◌<◌, length, arith, system_of}
 use Rattle.fb_wave.proofs.lemmas.Heading.{resources_on}
 use Rattle.fb_wave.proofs.head.put_resources.Goals as goal
 

@@ -1,5 +1,4 @@
-use Rattle.std.proofs.Common.{◌≡◌, ◌++◌, drop}
-use Rattle.fb_types.specs.Headline.{system_of}
+use Rattle.fb_types.proofs.Common.{◌≡◌, ◌++◌, drop, system_of}
 use Rattle.fb_wave.specs.Scopes.{resources_declared}
 use Rattle.fb_wave.proofs.head.put_resources.Given as goal
 

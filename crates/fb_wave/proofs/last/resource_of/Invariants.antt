@@ -1,6 +1,4 @@
-use Rattle.std.proofs.Common.{◌≡◌, ◌<◌, ℕ, []}
-use Rattle.std.specs.Prelude.{slice_index_or}
-use Rattle.fb_types.specs.Headline.{system_of}
+use Rattle.fb_types.proofs.Common.{◌≡◌, ◌<◌, ℕ, [], slice_index_or, system_of}
 use Rattle.fb_wave.proofs.last.resource_of.Given as goal
 
 abbrev pub invariant-loop-resource : goal.invariant-loop-resource

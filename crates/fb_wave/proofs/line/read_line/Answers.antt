@@ -1,7 +1,4 @@
-use Rattle.std.proofs.Common.{List, Option, subst}
-use Rattle.std.specs.Prelude.{IfNone, IfSome}
-use Rattle.fb_types.specs.Headline.{system_of}
-use Rattle.fb_types.specs.declared.value.Value.{Value}
+use Rattle.fb_types.proofs.Common.{List, Option, subst, IfNone, IfSome, system_of, Value}
 use Rattle.fb_wave.specs.Lines.{AreNoValuesOf, AreValuesOf}
 use Rattle.fb_wave.proofs.lemmas.Gluing.{line_read}
 use Rattle.fb_wave.proofs.lemmas.Unlined.{headless, portless, tickless, valueless}

@@ -1,7 +1,4 @@
-use Rattle.std.proofs.Common.{◌≡◌, drop}
-use Rattle.std.specs.List.{list_all}
-use Rattle.fb_types.specs.declared.library.EventPort.{EventPort}
-use Rattle.fb_wave.specs.Named.{is_name}
+use Rattle.fb_wave.proofs.lemmas.Common.{◌≡◌, drop, list_all, EventPort, is_name}
 use Rattle.fb_wave.proofs.names.are_events_named.Given as goal
 
 abbrev pub invariant-loop-event : goal.invariant-loop-event

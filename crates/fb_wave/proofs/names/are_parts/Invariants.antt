@@ -1,5 +1,4 @@
-use Rattle.std.proofs.Common.{◌≡◌, ◌||◌, drop}
-use Rattle.std.specs.List.{list_all}
+use Rattle.fb_types.proofs.Common.{◌≡◌, ◌||◌, drop, list_all}
 use Rattle.fb_wave.specs.Named.{is_digit, is_letter}
 use Rattle.fb_wave.proofs.names.are_parts.Given as goal
 

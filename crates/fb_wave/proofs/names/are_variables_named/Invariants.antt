@@ -1,7 +1,4 @@
-use Rattle.std.proofs.Common.{◌≡◌, drop}
-use Rattle.std.specs.List.{list_all}
-use Rattle.fb_types.specs.declared.library.Variable.{Variable}
-use Rattle.fb_wave.specs.Named.{is_name}
+use Rattle.fb_wave.proofs.lemmas.Common.{◌≡◌, drop, list_all, Variable, is_name}
 use Rattle.fb_wave.proofs.names.are_variables_named.Given as goal
 
 abbrev pub invariant-loop-variable : goal.invariant-loop-variable

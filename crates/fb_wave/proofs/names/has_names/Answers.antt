@@ -1,7 +1,4 @@
-use Rattle.std.proofs.Common.{◌≡◌, ◌∙◌, ◌<◌, ℕ, Bool, true, false, ◌&&◌, length, below_more, sym, ap, arith}
-use Rattle.std.proofs.lemmas.Bool.{and_from}
-use Rattle.fb_types.specs.Headline.{system_of}
-use Rattle.fb_types.specs.Numbers.{path_at, ports_at}
+use Rattle.fb_types.proofs.Common.{◌≡◌, ◌∙◌, ◌<◌, ℕ, Bool, true, false, ◌&&◌, length, below_more, sym, ap, arith, and_from, system_of, path_at, ports_at}
 use Rattle.fb_wave.specs.Named.{are_ports_named, is_name, is_named_at}
 use Rattle.fb_wave.specs.Scopes.{own_name}
 use Rattle.fb_wave.proofs.lemmas.Naming.{has_names, instance_unnamed, resource_unnamed}

@@ -1,5 +1,4 @@
-use Rattle.std.proofs.Common.{◌≡◌, ◌<◌, ℕ, [], true, slice_index_or}
-use Rattle.fb_types.specs.Headline.{system_of}
+use Rattle.fb_types.proofs.Common.{◌≡◌, ◌<◌, ℕ, [], true, slice_index_or, system_of}
 use Rattle.fb_wave.specs.Named.{is_name, is_named_at}
 use Rattle.fb_wave.proofs.names.has_names.Given as goal
 

@@ -1,6 +1,4 @@
-use Rattle.std.proofs.Common.{◌<◌, length, get_or, sym, subst, ◌∙◌, arith}
-use Rattle.std.proofs.lemmas.Bool.{eqb-true}
-use Rattle.std.proofs.lemmas.List.{get_or_default}
+use Rattle.fb_types.proofs.Common.{◌<◌, length, get_or, sym, subst, ◌∙◌, arith, eqb-true, get_or_default}
 use Rattle.fb_wave.proofs.lemmas.Numerals.{Reads, Reads-more, empty_is_none, past_is_none, zero_is_none}
 use Rattle.fb_wave.proofs.number.natural.Goals as goal
 use Rattle.fb_wave.proofs.number.natural.Goals.{else-index-gt0-via-then-index-gt0+else-value-eq0, else-index-gt0-via-else-index-gt0}

@@ -1,8 +1,4 @@
-use Rattle.std.proofs.Common.{◌<◌, ℕ, length, sym, subst, arith}
-use Rattle.std.proofs.lemmas.List.{length-map}
-use Rattle.fb_types.specs.Headline.{system_of}
-use Rattle.fb_types.specs.Numbers.{path_at}
-use Rattle.fb_types.specs.declared.deploy.ResourceEntry.{ResourceEntry}
+use Rattle.fb_types.proofs.Common.{◌<◌, ℕ, length, sym, subst, arith, length-map, system_of, path_at, ResourceEntry}
 use Rattle.fb_wave.proofs.lemmas.Bounds.{resource_named}
 use Rattle.fb_wave.proofs.ports.holder_of.Goals as goal
 

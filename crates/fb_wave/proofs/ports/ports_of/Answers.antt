@@ -1,7 +1,4 @@
-use Rattle.std.proofs.Common.{◌≡◌, ℕ, true, false, length, ap, subst, ◌∙◌, arith}
-use Rattle.fb_types.specs.Headline.{system_of}
-use Rattle.fb_types.specs.declared.library.Ports.{Ports}
-use Rattle.fb_wave.specs.Ports.{side}
+use Rattle.fb_wave.proofs.lemmas.Common.{◌≡◌, ℕ, true, false, length, ap, subst, ◌∙◌, arith, system_of, Ports, side}
 use Rattle.fb_wave.proofs.lemmas.Porting.{HasThose, below_more, no_outputs_yet, none_yet, still_below}
 use Rattle.fb_wave.proofs.ports.ports_of.Goals as goal
 

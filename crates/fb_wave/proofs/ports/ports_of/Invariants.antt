@@ -1,7 +1,4 @@
-use Rattle.std.specs.Prelude.{All}
-use Rattle.fb_types.specs.Headline.{system_of}
-use Rattle.fb_types.specs.Repeated.{Twice}
-use Rattle.fb_wave.specs.Ports.{IsPortOf}
+use Rattle.fb_wave.proofs.lemmas.Common.{All, system_of, Twice, IsPortOf}
 use Rattle.fb_wave.proofs.lemmas.Porting.{AreBelow, HasBelow}
 use Rattle.fb_wave.proofs.ports.ports_of.Given as goal
 

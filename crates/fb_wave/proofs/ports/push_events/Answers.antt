@@ -1,9 +1,5 @@
-use Rattle.std.proofs.Common.{◌+◌, List, Contains, sym, subst, inl, inr, arith}
-use Rattle.std.specs.Prelude.{All}
-use Rattle.std.proofs.lemmas.List.Elements.{All-push, Contains-append_left}
-use Rattle.fb_types.specs.Repeated.{Twice}
-use Rattle.fb_wave.specs.Ports.{IsPortOf}
-use Rattle.fb_wave.specs.declared.ports.Port.{Port}
+use Rattle.fb_wave.proofs.lemmas.Common.{◌+◌, List, Contains, sym, subst, inl, inr, arith, All, Contains-append_left, Twice, IsPortOf, Port}
+use Rattle.fb_types.proofs.Common.{All-push}
 use Rattle.fb_wave.proofs.lemmas.Porting.{AddsUpTo, HasUpTo, adds_more, once_more, up_to_more}
 use Rattle.fb_wave.proofs.ports.push_events.Goals as goal
 

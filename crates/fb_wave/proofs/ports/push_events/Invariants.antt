@@ -1,9 +1,5 @@
-use Rattle.std.proofs.Common.{◌≡◌, ◌<◌, length, Contains}
-use Rattle.std.specs.Prelude.{All}
-use Rattle.fb_types.specs.Repeated.{Twice}
-use Rattle.fb_types.specs.Systems.{System}
-use Rattle.fb_wave.specs.Ports.{HasNone, IsPortOf, side}
-use Rattle.fb_wave.specs.declared.ports.Port.{Port}
+use Rattle.fb_wave.proofs.lemmas.Common.{◌≡◌, ◌<◌, length, Contains, All, Twice, System, IsPortOf, side, Port}
+use Rattle.fb_wave.specs.Ports.{HasNone}
 use Rattle.fb_wave.proofs.lemmas.Porting.{AddsUpTo, HasUpTo}
 use Rattle.fb_wave.proofs.ports.push_events.Given as goal
 

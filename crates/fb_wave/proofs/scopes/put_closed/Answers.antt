@@ -1,5 +1,4 @@
-use Rattle.std.proofs.Common.{ℕ, List, ◌-◌, ◌++◌, codes, ap, ◌∙◌, append_assoc}
-use Rattle.fb_wave.specs.Scopes.{closed}
+use Rattle.fb_wave.proofs.lemmas.Common.{ℕ, List, ◌-◌, ◌++◌, codes, ap, ◌∙◌, append_assoc, closed}
 use Rattle.fb_wave.proofs.lemmas.Declaring.{closing}
 use Rattle.fb_wave.proofs.scopes.put_closed.Goals as goal
 

@@ -1,5 +1,4 @@
-use Rattle.std.proofs.Common.{◌≡◌, ◌++◌}
-use Rattle.fb_wave.specs.Scopes.{closed}
+use Rattle.fb_wave.proofs.lemmas.Common.{◌≡◌, ◌++◌, closed}
 use Rattle.fb_wave.proofs.scopes.put_closed.Given as goal
 
 abbrev pub invariant-loop-left : goal.invariant-loop-left

@@ -1,5 +1,4 @@
-use Rattle.std.proofs.Common.{◌≡◌, drop}
-use Rattle.fb_types.specs.Blocks.{among}
+use Rattle.fb_types.proofs.Common.{◌≡◌, drop, among}
 use Rattle.fb_wave.proofs.signals.is_among.Given as goal
 
 abbrev pub invariant-loop-other : goal.invariant-loop-other

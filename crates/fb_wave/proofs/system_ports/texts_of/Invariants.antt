@@ -1,6 +1,4 @@
-use Rattle.std.proofs.Common.{◌≡◌, map, take}
-use Rattle.fb_types.specs.Headline.{system_of}
-use Rattle.fb_wave.specs.Ports.{port_text}
+use Rattle.fb_wave.proofs.lemmas.Common.{◌≡◌, map, take, system_of, port_text}
 use Rattle.fb_wave.proofs.system_ports.texts_of.Given as goal
 
 abbrev pub invariant-loop-port : goal.invariant-loop-port

@@ -1,6 +1,4 @@
-use Rattle.std.proofs.Common.{◌≡◌, ℕ, ◌+◌, [], subst, arith}
-use Rattle.fb_wave.specs.Levels.{AreLevels}
-use Rattle.fb_wave.specs.Signals.{size_of}
+use Rattle.fb_wave.proofs.lemmas.Common.{◌≡◌, ℕ, ◌+◌, [], subst, arith, AreLevels, size_of}
 use Rattle.fb_wave.proofs.lemmas.Handing.{on_ok}
 use Rattle.fb_wave.proofs.system_signals.add_ports.Goals as goal
 

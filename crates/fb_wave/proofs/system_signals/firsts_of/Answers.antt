@@ -1,7 +1,4 @@
-use Rattle.std.proofs.Common.{◌≡◌, ◌<◌, ℕ, ◌+◌, [], length, sym, ap, subst, ◌∙◌, arith}
-use Rattle.fb_types.specs.Headline.{system_of}
-use Rattle.fb_wave.specs.Levels.{AreLevels}
-use Rattle.fb_wave.specs.Signals.{first_signal, size_of}
+use Rattle.fb_wave.proofs.lemmas.Common.{◌≡◌, ◌<◌, ℕ, ◌+◌, [], length, sym, ap, subst, ◌∙◌, arith, system_of, AreLevels, first_signal, size_of}
 use Rattle.fb_wave.proofs.lemmas.Numbering.{first_signal-all, first_signal-next, firsts-all, firsts-more}
 use Rattle.fb_wave.proofs.system_signals.firsts_of.Goals as goal
 

@@ -1,7 +1,4 @@
-use Rattle.std.proofs.Common.{[]}
-use Rattle.fb_types.specs.Headline.{system_of}
-use Rattle.fb_wave.specs.Levels.{AreLevels}
-use Rattle.fb_wave.specs.Signals.{first_signal}
+use Rattle.fb_wave.proofs.lemmas.Common.{[], system_of, AreLevels, first_signal}
 use Rattle.fb_wave.proofs.lemmas.Numbering.{AreFirstsBefore}
 use Rattle.fb_wave.proofs.system_signals.firsts_of.Given as goal
 

@@ -1,7 +1,4 @@
-use Rattle.std.proofs.Common.{◌≡◌, ◌<◌, ◌+◌, ◌^◌, length, get_or, refl, sym, subst, arith}
-use Rattle.fb_types.specs.Headline.{system_of}
-use Rattle.fb_types.specs.declared.library.Ports.{Ports}
-use Rattle.fb_wave.specs.Signals.{size_of}
+use Rattle.fb_wave.proofs.lemmas.Common.{◌≡◌, ◌<◌, ◌+◌, ◌^◌, length, get_or, refl, sym, subst, arith, system_of, Ports, size_of}
 use Rattle.fb_wave.specs.declared.system_signals.Marks.{Marks}
 use Rattle.fb_wave.proofs.lemmas.Marking.{emitted_within, marks_emitted, marks_taken, taken_within}
 use Rattle.fb_wave.proofs.lemmas.Numbering.{signals_fit}

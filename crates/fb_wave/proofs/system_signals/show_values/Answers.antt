@@ -1,8 +1,4 @@
-use Rattle.std.proofs.Common.{◌≡◌, ℕ, ◌+◌, ◌<◌, List, ◌++◌, get_or, length, map, refl, take, subst, ◌∙◌, arith}
-use Rattle.std.proofs.lemmas.List.{get_or_default, length-map, take_all}
-use Rattle.fb_types.specs.declared.value.Value.{Value}
-use Rattle.fb_wave.specs.Levels.{AreLevels}
-use Rattle.fb_wave.specs.LineSignals.{pairs}
+use Rattle.fb_wave.proofs.lemmas.Common.{◌≡◌, ℕ, ◌+◌, ◌<◌, List, ◌++◌, get_or, length, map, refl, take, subst, ◌∙◌, arith, get_or_default, length-map, take_all, Value, AreLevels, pairs}
 use Rattle.fb_wave.proofs.lemmas.Pairing.{length-pairs, pairs-more, shown-more}
 use Rattle.fb_wave.proofs.system_signals.show_values.Goals as goal
 

@@ -1,5 +1,4 @@
-use Rattle.std.proofs.Common.{◌≡◌, ◌+◌, length, map, take}
-use Rattle.fb_wave.specs.LineSignals.{pairs}
+use Rattle.fb_wave.proofs.lemmas.Common.{◌≡◌, ◌+◌, length, map, take, pairs}
 use Rattle.fb_wave.proofs.lemmas.Pairing.{AreShown}
 use Rattle.fb_wave.proofs.system_signals.show_values.Given as goal
 

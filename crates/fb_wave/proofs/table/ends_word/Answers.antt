@@ -1,6 +1,4 @@
-use Rattle.std.proofs.Common.{◌≡◌, ℕ, List, [], ◌∷◌, Some, ap, ◌∙◌}
-use Rattle.std.specs.Prelude.{slice_get}
-use Rattle.fb_wave.specs.Words.{is_end, is_ended}
+use Rattle.fb_wave.proofs.lemmas.Common.{◌≡◌, ℕ, List, [], ◌∷◌, Some, ap, ◌∙◌, slice_get, is_end, is_ended}
 use Rattle.fb_wave.proofs.table.ends_word.Goals as goal
 
 same_byte : (a b : ℕ) → Some a ≡ Some b → a ≡ b

@@ -1,9 +1,5 @@
-use Rattle.std.proofs.Common.{List, ◌++◌, [], ◌∷◌, take, sym, ap, subst, ◌∙◌, arith}
-use Rattle.std.proofs.lemmas.List.{map_push, take_all, take_more}
-use Rattle.std.specs.Prelude.{IfOk, MatchOption}
+use Rattle.fb_types.proofs.Common.{List, ◌++◌, [], ◌∷◌, take, sym, ap, subst, ◌∙◌, arith, map_push, take_all, take_more, IfOk, MatchOption, Name, Twice}
 use Rattle.fb_check_names.specs.Indexes.{IsIndex, names_in}
-use Rattle.fb_types.specs.Names.{Name}
-use Rattle.fb_types.specs.Repeated.{Twice}
 use Rattle.fb_wave.proofs.table.indexes_in.Goals as goal
 
 pub loop-text-preserved : goal.loop-text-preserved

@@ -1,9 +1,4 @@
-use Rattle.std.proofs.Common.{◌≡◌, ◌+◌, ◌<◌, [], ◌∷◌, length, get_or, sym, subst, ◌∙◌, arith}
-use Rattle.std.proofs.lemmas.Bool.{both_ways}
-use Rattle.std.proofs.lemmas.Bool.Decides.{Decides-eqb}
-use Rattle.std.proofs.lemmas.List.{get_or_default}
-use Rattle.std.proofs.lemmas.Slice.Eq.{slice_eq-Decides}
-use Rattle.fb_types.specs.declared.library.Variable.{Variable}
+use Rattle.fb_types.proofs.Common.{◌≡◌, ◌+◌, ◌<◌, [], ◌∷◌, length, get_or, sym, subst, ◌∙◌, arith, both_ways, Decides-eqb, get_or_default, slice_eq-Decides, Variable}
 use Rattle.fb_wave.specs.Reading.{IsBound, IsUnbound}
 use Rattle.fb_wave.proofs.lemmas.Valued.{AreSoFar, all_read, more_left, one_more, unbound_so_far}
 use Rattle.fb_wave.proofs.values.values_of.Goals as goal

@@ -1,15 +1,11 @@
-use Rattle.std.proofs.Common.{◌≡◌, Bool, true, Option, Some, None, sym, subst, ◌∙◌}
-use Rattle.std.specs.Prelude.{IfErr, IfSome, IsSome, IsTrue, OnOk}
-use Rattle.fb_types.specs.Headline.{Inputs, system_of}
+use Rattle.fb_wave.proofs.lemmas.Common.{◌≡◌, Bool, true, Option, Some, None, sym, subst, ◌∙◌, IfSome, Inputs, system_of, Names, HasNames, IsRefusedLine}
+use Rattle.fb_types.proofs.Common.{IfErr, IsSome, IsTrue, OnOk}
 use Rattle.fb_wave.specs.declared.current_line.CurrentLine.{CurrentLine}
-use Rattle.fb_wave.specs.declared.error.WaveError.TheVariants.{Names}
 use Rattle.fb_wave.specs.declared.table.PortTable.{PortTable}
-use Rattle.fb_wave.specs.Named.{HasNames}
 use Rattle.fb_wave.specs.CutOff.{BlamesShown, FailsShown, IsShown}
 use Rattle.fb_wave.proofs.lemmas.Copied.{front_none}
 use Rattle.fb_wave.proofs.lemmas.Severed.{blames_memory, blames_names, fails_in}
 use Rattle.fb_wave.proofs.lemmas.Handing.{ok_passed, on_passed}
-use Rattle.fb_wave.specs.CurrentLines.{IsRefusedLine}
 use Rattle.fb_wave.proofs.wave.write_wave_with.Goals as goal
 
 of_table : (o : Option PortTable) (t : PortTable) (s : Inputs) → o ≡ Some t → IfSome o (λ t. t.system.now ≡ s) → t.system.now ≡ s

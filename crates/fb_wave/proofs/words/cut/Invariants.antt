@@ -1,5 +1,4 @@
-use Rattle.std.proofs.Common.{◌≡◌, true, take}
-use Rattle.fb_wave.specs.Words.{is_word}
+use Rattle.fb_wave.proofs.lemmas.Common.{◌≡◌, true, take, is_word}
 use Rattle.fb_wave.proofs.words.cut.Given as goal
 
 abbrev pub invariant-loop-index : goal.invariant-loop-index

@@ -1,8 +1,6 @@
-use Rattle.std.proofs.Common.{rules, ◌≡◌, arith}
-use Rattle.std.proofs.lemmas.Grind.{common_steps}
+use Rattle.fb_types.proofs.Common.{rules, ◌≡◌, arith, common_steps, inputs}
 use Rattle.std.proofs.lemmas.Option.{MatchOption-at_some, MatchOption-at_none}
 use Rattle.fb_types.specs.Accepted.{IsAccepted}
-use Rattle.fb_types.specs.Headline.{inputs}
 use Rattle.fb_check.specs.Faults.{number_of}
 use Rattle.fb_check.specs.Refusals.{IsRefusal}
 use Rattle.fb_why.proofs.lemmas.CheckedLocations.{accepted_answer, other_answer, refused_answer}

@@ -1,10 +1,6 @@
-use Rattle.std.proofs.Common.{◌≡◌, ◌||◌, Bool, List, [], ◌∷◌, ◌++◌, Option, Some, None, true, drop, map, take, is_some, refl, sym, subst, ◌∙◌, ap}
+use Rattle.fb_types.proofs.Common.{◌≡◌, ◌||◌, Bool, List, [], ◌∷◌, ◌++◌, Option, Some, None, true, drop, map, take, is_some, refl, sym, subst, ◌∙◌, ap, IfSome, codes, list_any, list_any-append, Name}
 use Rattle.std.specs.Option.{option_or}
-use Rattle.std.specs.Prelude.{IfSome, codes}
-use Rattle.std.specs.List.{list_any}
 use Rattle.std.specs.Str.{str_eq_ignore_ascii_case}
-use Rattle.std.proofs.lemmas.List.Folds.{list_any-append}
-use Rattle.fb_types.specs.Names.{Name}
 use Rattle.fb_why.specs.Explained.{of_checks, of_declarations, of_inputs, of_rules, of_stops, of_warnings}
 use Rattle.fb_why.specs.declared.table.Explanation.{Explanation}
 use Rattle.fb_why.proofs.explanation.explain.Goals as goal

@@ -1,5 +1,4 @@
-use Rattle.std.proofs.Common.{sym, ◌∙◌}
-use Rattle.std.proofs.lemmas.List.Elements.{Contains-get_or}
+use Rattle.fb_types.proofs.Common.{sym, ◌∙◌, Contains-get_or}
 use Rattle.fb_why.proofs.explanation.look_up.Goals as goal
 
 pub returns-then-is_called-clause-named : goal.returns-then-is_called-clause-named

@@ -1,5 +1,4 @@
-use Rattle.std.proofs.Common.{◌≡◌, Option, None, false, subst, true, arith}
-use Rattle.std.specs.Prelude.{IsTrue}
+use Rattle.fb_types.proofs.Common.{◌≡◌, Option, None, false, subst, true, arith, IsTrue}
 use Rattle.std.specs.Option.{is_some}
 use Rattle.fb_read.proofs.lemmas.tokens.PlaceLaws.{inside}
 use Rattle.fb_read_positions.specs.Places.{IsWithin}

@@ -1,5 +1,4 @@
-use Rattle.std.proofs.Common.{Bor, List, None, ℕ}
-use Rattle.std.specs.Prelude.{option_map}
+use Rattle.fb_types.proofs.Common.{Bor, List, None, ℕ, option_map}
 use Rattle.fb_why.specs.declared.cause.Cause.TheVariants as cause
 use Rattle.fb_why.proofs.lemmas.FindingsOfNumbers.{by_cause, nothing_placed, numbered, once_found, once_placed}
 use Rattle.fb_why.proofs.lemmas.PlacedFindings.{is_elsewhere}

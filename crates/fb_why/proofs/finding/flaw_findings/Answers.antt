@@ -1,5 +1,4 @@
-use Rattle.std.proofs.Common.{Bor, List, ℕ, inl, rules}
-use Rattle.std.specs.Prelude.{option_map}
+use Rattle.fb_types.proofs.Common.{Bor, List, ℕ, inl, rules, option_map}
 use Rattle.fb_why.proofs.lemmas.FindingsOfNumbers.{nothing_placed, unread_inputs}
 use Rattle.fb_why.proofs.finding.flaw_findings.Goals as goal
 

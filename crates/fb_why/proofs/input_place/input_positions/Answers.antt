@@ -1,6 +1,4 @@
-use Rattle.std.proofs.Common.{Bor, List, ℕ, option_map, subst}
-use Rattle.std.specs.List.{AllZip}
-use Rattle.std.proofs.lemmas.List.{take_all}
+use Rattle.fb_types.proofs.Common.{Bor, List, ℕ, option_map, subst, AllZip, take_all}
 use Rattle.fb_why.specs.InputPlaces.{IsShownAt}
 use Rattle.fb_why.specs.declared.place.PlacedFinding.{PlacedFinding}
 use Rattle.fb_why.proofs.lemmas.PairedLists.{none_paired, one_paired}

@@ -1,5 +1,4 @@
-use Rattle.std.proofs.Common.{◌∙◌, ap, map, subst, Bor, List, ℕ, Option, option_map}
-use Rattle.std.specs.List.{AllZip}
+use Rattle.fb_types.proofs.Common.{◌∙◌, ap, map, subst, Bor, List, ℕ, Option, option_map, AllZip}
 use Rattle.fb_inputs.specs.declared.position.StimuliPosition.{StimuliPosition}
 use Rattle.fb_why.specs.InputPlaces.{IsNearIn, row_of}
 use Rattle.fb_why.specs.declared.input_place.InputPosition.{InputPosition}

@@ -1,6 +1,4 @@
-use Rattle.std.proofs.Common.{◌<◌, Bor, List, ℕ, Option, length, option_map, subst, arith}
-use Rattle.std.specs.List.{AllZip}
-use Rattle.std.proofs.lemmas.List.{take_all}
+use Rattle.fb_types.proofs.Common.{◌<◌, Bor, List, ℕ, Option, length, option_map, subst, arith, AllZip, take_all}
 use Rattle.fb_check_names.proofs.lemmas.twice.Repeating.{same_within}
 use Rattle.fb_why.specs.InputPlaces.{IsNearIn, IsPlaceFor, row_of}
 use Rattle.fb_why.specs.declared.input_place.InputPosition.{InputPosition}

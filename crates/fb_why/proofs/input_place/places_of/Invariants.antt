@@ -1,5 +1,4 @@
-use Rattle.std.proofs.Common.{List, ℕ, Bor, option_map, take}
-use Rattle.std.specs.List.{AllZip}
+use Rattle.fb_types.proofs.Common.{List, ℕ, Bor, option_map, take, AllZip}
 use Rattle.fb_why.specs.InputPlaces.{IsPlaceFor}
 use Rattle.fb_why.proofs.input_place.places_of.Given as goal
 

@@ -1,5 +1,4 @@
-use Rattle.std.proofs.Common.{map, ap, ◌∙◌}
-use Rattle.std.proofs.lemmas.List.{take_all}
+use Rattle.fb_types.proofs.Common.{map, ap, ◌∙◌, take_all}
 use Rattle.fb_types.proofs.lemmas.lists.LoopSteps.{mapped_next}
 use Rattle.fb_why.specs.InputPlaces.{row_of}
 use Rattle.fb_why.proofs.input_place.stimuli_rows.Goals as goal

@@ -1,5 +1,4 @@
-use Rattle.std.proofs.Common.{◌<◌, List, length, map, refl, ◌∙◌, ap, arith}
-use Rattle.std.proofs.lemmas.List.{take_all}
+use Rattle.fb_types.proofs.Common.{◌<◌, List, length, map, refl, ◌∙◌, ap, arith, take_all}
 use Rattle.fb_check_names.proofs.lemmas.twice.Repeating.{same_within}
 use Rattle.fb_check.specs.declared.location.Location.{Location}
 use Rattle.fb_why.specs.declared.location.FindingLocation.{FindingLocation}

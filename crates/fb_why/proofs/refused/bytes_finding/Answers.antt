@@ -1,5 +1,4 @@
-use Rattle.std.proofs.Common.{◌≡◌, Bor, List, ℕ, Option, None, subst}
-use Rattle.std.specs.Prelude.{IfSome, option_map}
+use Rattle.fb_types.proofs.Common.{◌≡◌, Bor, List, ℕ, Option, None, subst, IfSome, option_map}
 use Rattle.fb_why.specs.declared.place.PlacedFinding.{PlacedFinding}
 use Rattle.fb_why.proofs.lemmas.TextRefusals.{deployment_found, stimuli_found}
 use Rattle.fb_why.proofs.refused.bytes_finding.Goals as goal

@@ -1,13 +1,7 @@
-use Rattle.std.proofs.Common.{◌≡◌, ◌+◌, ◌<◌, ℕ, List, min, length, set, Some, slice_get, slice_index, refl, sym, ap, subst, ◌∙◌, arith}
-use Rattle.std.proofs.lemmas.List.{length-set}
-use Rattle.std.proofs.lemmas.Option.{slice_get_read}
-use Rattle.fb_types.specs.Headline.{system_of}
-use Rattle.fb_types.specs.Parts.{count_of}
-use Rattle.fb_types.specs.Systems.{System}
-use Rattle.fb_laws.specs.Sound.{IsSound}
+use Rattle.fb_window.proofs.lemmas.Common.{◌≡◌, ◌+◌, ◌<◌, ℕ, List, min, length, set, Some, slice_get, slice_index, refl, sym, ap, subst, ◌∙◌, arith, length-set, slice_get_read, system_of, count_of, System, IsSound, IsCut}
 use Rattle.fb_laws.proofs.lemmas.soundness.Accepting.{sound_of}
 use Rattle.fb_link.specs.Arrivals.{IsEarliest}
-use Rattle.fb_laws.specs.Cuts.{IsCut, LinkAllows}
+use Rattle.fb_laws.specs.Cuts.{LinkAllows}
 use Rattle.fb_window.proofs.lemmas.bounds.Bounding.{AreCut, cuts_first, cuts_here, cuts_past}
 use Rattle.fb_window.proofs.lemmas.messages.LinkLemmas.{inside}
 use Rattle.fb_window.proofs.lemmas.phases.Passes.{clock_of, stop_of, Rests}

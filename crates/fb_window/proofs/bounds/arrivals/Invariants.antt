@@ -1,5 +1,4 @@
-use Rattle.std.proofs.Common.{◌≡◌, length}
-use Rattle.fb_types.specs.Headline.{system_of}
+use Rattle.fb_types.proofs.Common.{◌≡◌, length, system_of}
 use Rattle.fb_window.proofs.lemmas.bounds.Bounding.{AreCut}
 use Rattle.fb_window.proofs.lemmas.phases.Passes.{clock_of, stop_of, Rests}
 use Rattle.fb_window.proofs.bounds.arrivals.Given as goal

@@ -1,5 +1,4 @@
-use Rattle.std.proofs.Common.{◌∙◌, ap, max, sym}
-use Rattle.fb_types.specs.Cores.{floor_of}
+use Rattle.fb_types.proofs.Common.{◌∙◌, ap, max, sym, floor_of}
 use Rattle.fb_window.proofs.bounds.floor.Goals as goal
 
 pub returns-in-None : goal.returns-in-None

@@ -1,5 +1,4 @@
-use Rattle.std.proofs.Common.{◌≡◌, ◌+◌, Some, slice_get, refl, sym, subst, ◌∙◌, arith}
-use Rattle.std.proofs.lemmas.Option.{slice_get_read, slice_get_within}
+use Rattle.fb_types.proofs.Common.{◌≡◌, ◌+◌, Some, slice_get, refl, sym, subst, ◌∙◌, arith, slice_get_read, slice_get_within}
 use Rattle.fb_window.proofs.lemmas.phases.Passes.{IsLeastOf, least_some, least_idle}
 use Rattle.fb_window.proofs.bounds.least_next.Goals as goal
 use Rattle.fb_window.proofs.bounds.least_next.Goals.{in-Some, in_default}

@@ -1,10 +1,6 @@
-use Rattle.std.proofs.Common.{◌≡◌, ℕ, true, false, List, length, refl, sym, ◌∙◌, subst}
-use Rattle.std.specs.Prelude.{nat_lt}
+use Rattle.fb_window.proofs.lemmas.Common.{◌≡◌, ℕ, true, false, List, length, refl, sym, ◌∙◌, subst, nat_lt, Line, until, edge_of}
 use Rattle.std.specs.List.Sorted.{IsPartitionPoint}
-use Rattle.fb_types.specs.declared.run.Line.{Line}
-use Rattle.fb_laws.specs.Finality.{until}
 use Rattle.fb_trace.specs.Merging.{Rises, tick_of}
-use Rattle.fb_window.specs.Frontiers.{edge_of}
 use Rattle.fb_window.proofs.lemmas.lines.FoundLines.{split_point, take_none, drop_none_off, take_whole, drop_whole}
 use Rattle.fb_window.proofs.cut.cut.Goals as goal
 

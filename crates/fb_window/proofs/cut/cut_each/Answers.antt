@@ -1,7 +1,5 @@
-use Rattle.std.proofs.Common.{◌≡◌, ◌++◌, ℕ, [], ◌∷◌, length, refl, sym, ap, ◌∙◌, subst, append_assoc, arith}
-use Rattle.std.specs.Vec.Iter.{into_iter_items}
-use Rattle.fb_laws.specs.Finality.{until}
-use Rattle.fb_window.specs.Frontiers.{IsSplit, edge_of}
+use Rattle.fb_window.proofs.lemmas.Common.{◌≡◌, ◌++◌, ℕ, [], ◌∷◌, length, refl, sym, ap, ◌∙◌, subst, append_assoc, arith, into_iter_items, until, edge_of}
+use Rattle.fb_window.specs.Frontiers.{IsSplit}
 use Rattle.fb_window.proofs.lemmas.phases.Leaves.{length_join}
 use Rattle.fb_laws.proofs.lemmas.lists.Indexes.{middle_at, push_counted}
 use Rattle.fb_window.proofs.lemmas.lines.FoundLines.{AreCutTo, cut_every, cut_more}

@@ -1,6 +1,4 @@
-use Rattle.std.proofs.Common.{◌≡◌, ◌++◌, length}
-use Rattle.std.specs.Vec.Iter.{into_iter_items, into_iter_len}
-use Rattle.fb_window.specs.Frontiers.{edge_of}
+use Rattle.fb_window.proofs.lemmas.Common.{◌≡◌, ◌++◌, length, into_iter_items, into_iter_len, edge_of}
 use Rattle.fb_window.proofs.lemmas.lines.FoundLines.{AreCutTo}
 use Rattle.fb_window.proofs.cut.cut_each.Given as goal
 

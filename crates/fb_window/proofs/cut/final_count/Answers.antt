@@ -1,9 +1,6 @@
-use Rattle.std.proofs.Common.{◌≡◌, ◌-◌, true, length, get_or, sym, ◌∙◌, arith, rules}
-use Rattle.std.specs.Prelude.{nat_lt}
-use Rattle.std.proofs.lemmas.List.{get_or_default}
+use Rattle.fb_window.proofs.lemmas.Common.{◌≡◌, true, length, sym, ◌∙◌, arith, nat_lt, until, edge_of}
+use Rattle.fb_types.proofs.Common.{◌-◌, get_or, rules, get_or_default}
 use Rattle.std.proofs.lemmas.List.Sorted.{IsPartitionPoint-from_clause}
-use Rattle.fb_laws.specs.Finality.{until}
-use Rattle.fb_window.specs.Frontiers.{edge_of}
 use Rattle.fb_window.proofs.lemmas.lines.FoundLines.{parted}
 use Rattle.fb_window.proofs.cut.final_count.Goals as goal
 

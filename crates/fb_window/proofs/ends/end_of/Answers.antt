@@ -1,11 +1,8 @@
-use Rattle.std.proofs.Common.{◌≡◌, ◌<◌, ◌≤◌, Some, None, not, length, refl, sym, ap, ◌∙◌, arith}
-use Rattle.std.specs.Prelude.{is_some, slice_get}
-use Rattle.std.proofs.lemmas.Option.{slice_get_read, slice_get_within}
+use Rattle.fb_window.proofs.lemmas.Common.{◌≡◌, ◌<◌, ◌≤◌, Some, None, length, refl, sym, ap, ◌∙◌, arith, is_some, slice_get, slice_get_read, slice_get_within, Resource, IsFirstStop}
+use Rattle.fb_types.proofs.Common.{not}
 use Rattle.fb_types.proofs.lemmas.lists.Lookups.{none_some}
 use Rattle.fb_types.proofs.lemmas.lists.Options.{none_from_is_some, some_from_is_some}
-use Rattle.fb_resource.specs.declared.resource.Resource.{Resource}
 use Rattle.fb_laws.proofs.lemmas.lists.Scans.{holds_more}
-use Rattle.fb_window.specs.Frontiers.{IsFirstStop}
 use Rattle.fb_window.proofs.lemmas.lines.FoundLines.{stopped_open, after_open}
 use Rattle.fb_window.proofs.ends.end_of.Goals as goal
 use Rattle.fb_window.proofs.ends.end_of.Goals.{else-is_none-via-then-is_none+else-clock-mark, else-is_none-via-else-is_none}

@@ -1,6 +1,4 @@
-use Rattle.std.proofs.Common.{ℕ, ◌≡◌, ◌<◌, None, Some}
-use Rattle.std.specs.Prelude.{slice_get}
-use Rattle.fb_resource.specs.declared.resource.Resource.{Resource}
+use Rattle.fb_window.proofs.lemmas.Common.{ℕ, ◌≡◌, ◌<◌, None, Some, slice_get, Resource}
 use Rattle.fb_window.proofs.ends.end_of.Given as goal
 
 abbrev pub invariant-loop-resource : goal.invariant-loop-resource

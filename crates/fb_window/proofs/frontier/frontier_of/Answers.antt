@@ -1,6 +1,4 @@
-use Rattle.std.proofs.Common.{◌≡◌, ◌+◌, ◌<◌, ◌⊎◌, Some, inl, inr, refl, sym, ap, ◌∙◌, subst, arith}
-use Rattle.std.specs.Prelude.{is_some, slice_get}
-use Rattle.std.proofs.lemmas.Option.{slice_get_read}
+use Rattle.fb_types.proofs.Common.{◌≡◌, ◌+◌, ◌<◌, ◌⊎◌, Some, inl, inr, refl, sym, ap, ◌∙◌, subst, arith, is_some, slice_get, slice_get_read}
 use Rattle.fb_window.specs.Frontiers.{IsFrontierTo, edge_of, floor_at}
 use Rattle.fb_window.specs.declared.frontier.Frontier.{Frontier}
 use Rattle.fb_window.proofs.lemmas.lines.FoundLines.{frontier_new, frontier_old}

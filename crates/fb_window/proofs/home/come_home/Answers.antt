@@ -1,13 +1,5 @@
-use Rattle.std.proofs.Common.{◌≡◌, [], All, List, sym, subst}
-use Rattle.std.specs.Global.{Vec}
-use Rattle.std.specs.List.{AllZip}
-use Rattle.std.specs.Vec.Iter.{into_iter_items}
-use Rattle.fb_types.specs.declared.run.Line.{Line}
-use Rattle.fb_resource.specs.declared.resource.WindowDone.{WindowDone}
-use Rattle.fb_window.specs.Homes.{AreAwaited, IsHomeTo}
-use Rattle.fb_window.specs.Jobs.{Does, jobs_of}
+use Rattle.fb_window.proofs.lemmas.Common.{◌≡◌, [], All, List, sym, subst, Vec, AllZip, into_iter_items, Line, WindowDone, AreAwaited, IsHomeTo, Does, jobs_of, Home}
 use Rattle.fb_window.specs.Texts.{HasLines}
-use Rattle.fb_window.specs.declared.home.Home.{Home}
 use Rattle.fb_window.proofs.lemmas.phases.HomeIs.{home_none}
 use Rattle.fb_window.proofs.home.come_home.Goals as goal
 

@@ -1,5 +1,4 @@
-use Rattle.std.proofs.Common.{◌≡◌, ◌++◌, ◌∙◌, [], ap, sym, vec_len}
-use Rattle.std.proofs.lemmas.Bool.{eqb-true}
+use Rattle.fb_types.proofs.Common.{◌≡◌, ◌++◌, ◌∙◌, [], ap, sym, vec_len, eqb-true}
 use Rattle.fb_window.proofs.lemmas.lines.FoundLines.{no_length}
 use Rattle.fb_window.proofs.home.keep.Goals as goal
 

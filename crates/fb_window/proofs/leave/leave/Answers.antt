@@ -1,9 +1,5 @@
-use Rattle.std.proofs.Common.{◌++◌, [], ◌∷◌, sym, ap, subst, ◌∙◌}
-use Rattle.std.specs.Prelude.{is_some}
-use Rattle.fb_types.specs.Headline.{Inputs}
+use Rattle.fb_window.proofs.lemmas.Common.{◌++◌, [], ◌∷◌, sym, ap, subst, ◌∙◌, is_some, Inputs, IsOf, JobModel, job_of}
 use Rattle.fb_types.proofs.lemmas.lists.Options.{none_from_is_some}
-use Rattle.fb_resource.specs.Resources.{IsOf}
-use Rattle.fb_window.specs.Jobs.{JobModel, job_of}
 use Rattle.fb_window.proofs.lemmas.phases.Leaves.{append_empty, job_none, job_some, resting_none, resting_some}
 use Rattle.fb_window.proofs.leave.leave.Goals as goal
 

@@ -1,17 +1,7 @@
 -- The greatest legal bounds, from the numbers that the resources give.
-use Rattle.std.proofs.Common.{◌≡◌, ℕ, ◌+◌, ◌-◌, ◌<◌, ◌≤◌, ◌⊎◌, min, max, Option, Some, None, List, [], length, set, replicate, refl, sym, ap, ◌∙◌, subst, inl, inr, ⊎_elim, arith}
-use Rattle.std.specs.Prelude.{slice_get, slice_index}
-use Rattle.std.proofs.lemmas.Bool.{cases_lt, cases_eq}
-use Rattle.std.proofs.lemmas.List.{get_or-replicate, get_or-set_same, get_or-set_other, length-set}
-use Rattle.std.proofs.lemmas.Option.{same_Some, slice_get_within}
-use Rattle.fb_types.specs.Keys.{found, message_key}
-use Rattle.fb_types.specs.Systems.{System}
-use Rattle.fb_types.specs.Machines.{Machine, waiting}
-use Rattle.fb_types.specs.Parts.{machine, count_of, IsArrival}
-use Rattle.fb_types.specs.Cores.{Core, IsFloor, IsLegal, floor, floor_of}
-use Rattle.fb_types.specs.declared.key.Key.{Key}
-use Rattle.fb_types.specs.declared.latency.Entry.{Entry}
-use Rattle.fb_types.specs.declared.value.Reason.{Reason}
+use Rattle.fb_types.proofs.Common.{◌≡◌, ℕ, ◌+◌, ◌-◌, ◌<◌, ◌≤◌, ◌⊎◌, min, max, Option, Some, None, List, [], length, set, replicate, refl, sym, ap, ◌∙◌, subst, inl, inr, ⊎_elim, arith, slice_get, slice_index, cases_lt, cases_eq, get_or-set_same, get_or-set_other, length-set, same_Some, slice_get_within, found, message_key, System, Machine, waiting, machine, count_of, Core, IsFloor, IsLegal, floor, floor_of, Key, Entry, Reason}
+use Rattle.std.proofs.lemmas.List.{get_or-replicate}
+use Rattle.fb_types.specs.Parts.{IsArrival}
 use Rattle.fb_types.proofs.lemmas.lists.Lookups.{none_since, none_some, option_cases}
 use Rattle.fb_laws.specs.Sound.{IsSound}
 use Rattle.fb_link.specs.Arrivals.{arrival_at, IsEarliest}

@@ -1,30 +1,14 @@
 -- The bounds of a core at the resources that represent it.
-use Rattle.std.proofs.Common.{◌≡◌, ℕ, ◌^◌, ◌<◌, ◌≤◌, Option, None, List, sym, ap, ◌∙◌, ⊎_elim, arith}
-use Rattle.std.specs.Prelude.{option_map}
-use Rattle.std.proofs.lemmas.Bool.{cases_lt}
-use Rattle.std.proofs.lemmas.Option.{slice_get_within}
-use Rattle.fb_types.specs.Headline.{Inputs, system_of, stimuli_of}
-use Rattle.fb_types.specs.Machines.{Machine}
-use Rattle.fb_types.specs.Parts.{machine, count_of}
-use Rattle.fb_types.specs.Simulation.{opening}
-use Rattle.fb_types.specs.Cores.{Core, CoreStep, opening_core}
-use Rattle.fb_types.specs.Schedules.{IsSchedule}
+use Rattle.fb_window.proofs.lemmas.Common.{◌≡◌, ℕ, ◌^◌, ◌<◌, ◌≤◌, Option, None, List, sym, ap, ◌∙◌, ⊎_elim, arith, option_map, cases_lt, slice_get_within, Inputs, system_of, stimuli_of, Machine, machine, count_of, opening, Core, CoreStep, opening_core, IsSchedule, AreGood, IsSound, Resource, World, core_of, KeepHorizon, IsAt, Loan, AreLegal}
 use Rattle.fb_types.proofs.lemmas.lists.Lookups.{none_some, none_since}
-use Rattle.fb_laws.specs.Sound.{AreGood, IsSound}
 use Rattle.fb_laws.proofs.lemmas.soundness.Accepting.{sound_of}
 use Rattle.fb_net.specs.Events.{event_of}
-use Rattle.fb_resource.specs.declared.resource.Resource.{Resource}
 use Rattle.fb_laws.proofs.lemmas.resources.OwnPart.{lawful}
 use Rattle.fb_laws.proofs.lemmas.machine.Bridge.{world_of}
 use Rattle.fb_laws.proofs.lemmas.machine.Opening.{is_opening}
-use Rattle.fb_laws.specs.Worlds.{World}
 use Rattle.fb_window.specs.Bounding.{AreGreatest}
-use Rattle.fb_laws.specs.Finality.{core_of}
-use Rattle.fb_window.specs.Reached.{KeepHorizon}
-use Rattle.fb_window.specs.Standing.{IsAt}
 use Rattle.fb_window.specs.Jobs.{MayLeave}
-use Rattle.fb_laws.specs.Phases.{Loan, IsPhase}
-use Rattle.fb_window.specs.Leaving.{AreLegal}
+use Rattle.fb_laws.specs.Phases.{IsPhase}
 use Rattle.fb_window.specs.Settling.{AreLoans}
 use Rattle.fb_laws.proofs.lemmas.schedules.AtHome.{clock_legal, clock_in_range}
 use Rattle.fb_types.proofs.lemmas.lists.ByIndex.{element_at}

@@ -1,21 +1,8 @@
 -- Schedules that keep a horizon, and what a core keeps of them in its type.
-use Rattle.std.proofs.Common.{◌≡◌, ℕ, ◌^◌, ◌+◌, ◌≤◌, All, Some, None, List, [], ◌∷◌, length, sym, ap, ◌∙◌, subst, ⊎_elim, refl, arith}
-use Rattle.std.specs.Global.{Vec}
-use Rattle.std.proofs.lemmas.Bool.{cases_lt}
-use Rattle.fb_types.specs.Headline.{Inputs, system_of, stimuli_of}
-use Rattle.fb_types.specs.Machines.{Machine}
-use Rattle.fb_types.specs.Parts.{machine, count_of}
-use Rattle.fb_types.specs.Simulation.{opening}
-use Rattle.fb_types.specs.Cores.{Core, CoreStep, Lend, Member, done, opening_core, returned}
-use Rattle.fb_types.specs.Schedules.{IsSchedule, core_after}
-use Rattle.fb_types.specs.declared.run.Line.{Line}
+use Rattle.fb_window.proofs.lemmas.Common.{◌≡◌, ℕ, ◌^◌, ◌+◌, ◌≤◌, All, Some, None, List, [], ◌∷◌, length, sym, ap, ◌∙◌, subst, ⊎_elim, refl, arith, Vec, cases_lt, Inputs, system_of, stimuli_of, Machine, machine, count_of, opening, Core, CoreStep, Member, opening_core, IsSchedule, core_after, Line, BelongsTo, Resource, core_of, AreGood, IsSound, World, IsOpening, AreLegal, HasLeft, IsReached, KeepHorizon, IsAt, Leads, Single, AwayState, CoreState}
+use Rattle.fb_types.proofs.Common.{Lend, done, returned}
 use Rattle.fb_types.proofs.lemmas.lists.ByIndex.{element_at}
 use Rattle.fb_types.proofs.lemmas.lists.Lookups.{option_cases}
-use Rattle.fb_system.specs.Lines.{BelongsTo}
-use Rattle.fb_resource.specs.declared.resource.Resource.{Resource}
-use Rattle.fb_laws.specs.Finality.{core_of}
-use Rattle.fb_laws.specs.Sound.{AreGood, IsSound}
-use Rattle.fb_laws.specs.Worlds.{World, IsOpening}
 use Rattle.fb_laws.proofs.lemmas.soundness.Accepting.{sound_of}
 use Rattle.fb_laws.proofs.lemmas.schedules.AtHome.{clock_in_range, stop_in_range}
 use Rattle.fb_laws.proofs.lemmas.machine.Bridge.{world_of}
@@ -26,13 +13,9 @@ use Rattle.fb_laws.proofs.lemmas.resources.OwnPart.{lawful}
 use Rattle.fb_laws.proofs.lemmas.schedules.Phasing.{after_append}
 use Rattle.fb_laws.proofs.lemmas.schedules.Reached.{inv_after, runs_after}
 use Rattle.fb_window.specs.Jobs.{MayLeave}
-use Rattle.fb_window.specs.Leaving.{AreLegal, HasLeft}
-use Rattle.fb_window.specs.Reached.{IsAway, IsBrought, IsReached, KeepHorizon, MayGo}
+use Rattle.fb_window.specs.Reached.{IsAway, IsBrought, MayGo}
 use Rattle.fb_window.specs.Reaching.{OfEachCore}
-use Rattle.fb_window.specs.Standing.{IsAt}
-use Rattle.fb_window.specs.ManyTurns.{AreSingle, IsSingle, Leads, Single, TakesTurns, after_series, single_steps, series_steps}
-use Rattle.fb_window.specs.declared.cores.AwayState.{AwayState}
-use Rattle.fb_window.specs.declared.cores.CoreState.{CoreState}
+use Rattle.fb_window.specs.ManyTurns.{AreSingle, IsSingle, TakesTurns, after_series, single_steps, series_steps}
 use Rattle.fb_window.proofs.lemmas.bounds.BoundsAre.{home, may_leave}
 use Rattle.fb_window.proofs.lemmas.bounds.LongerSchedules.{schedule_within, steps_within}
 

@@ -1,13 +1,9 @@
 -- A schedule to some horizon, within another one that all its clocks keep.
-use Rattle.std.proofs.Common.{◌≡◌, ℕ, ◌+◌, ◌≤◌, min, Bool, true, false, cond, Some, None, List, [], ◌∷◌, map, refl, sym, ap, ◌∙◌, subst, ⊎_elim, arith}
-use Rattle.std.specs.Prelude.{option_map, ◌==◌}
-use Rattle.fb_types.specs.Machines.{Machine, Item, end, Run}
-use Rattle.fb_types.specs.Takes.{with_at}
-use Rattle.fb_types.specs.Cores.{Member, Core, CoreStep, Lend, Give, Exchange, MayDo, bound_of, clock_after, done, returned}
-use Rattle.fb_types.specs.Schedules.{IsSchedule, core_after, taken_by}
+use Rattle.fb_window.proofs.lemmas.Common.{◌≡◌, ℕ, ◌+◌, ◌≤◌, min, Bool, true, false, cond, Some, None, List, [], ◌∷◌, map, refl, sym, ap, ◌∙◌, subst, ⊎_elim, arith, option_map, ◌==◌, Machine, Item, Member, Core, CoreStep, IsSchedule, core_after, IsLawful, World, IsOpening}
+use Rattle.fb_types.proofs.Common.{end, Run, with_at, Lend, Give, Exchange, clock_after, done, returned}
+use Rattle.fb_types.specs.Cores.{MayDo, bound_of}
+use Rattle.fb_types.specs.Schedules.{taken_by}
 use Rattle.fb_types.proofs.lemmas.lists.EachLaws.{each_map}
-use Rattle.fb_laws.specs.Facts.{IsLawful}
-use Rattle.fb_laws.specs.Worlds.{World, IsOpening}
 use Rattle.fb_laws.proofs.lemmas.resources.Global.{with_at_same}
 use Rattle.fb_laws.proofs.lemmas.schedules.Start.{opening}
 use Rattle.fb_laws.proofs.lemmas.schedules.Keeps.{done_of, passed, Inv, Moved, moved, inv_opening, inv_step}

@@ -1,17 +1,8 @@
 -- The ticks of the resources' next events.
-use Rattle.std.proofs.Common.{◌≡◌, ℕ, ◌+◌, ◌<◌, ◌≤◌, Some, None, Result, Ok, Err, List, [], ◌∷◌, ◌++◌, length, sym, ap, ◌∙◌, subst, ⊎_elim, arith}
-use Rattle.std.specs.Prelude.{OnOk, slice_get, slice_set}
-use Rattle.std.proofs.lemmas.Bool.{cases_eq, cases_lt}
-use Rattle.std.proofs.lemmas.List.{length-set}
-use Rattle.fb_types.specs.Systems.{System}
-use Rattle.fb_types.specs.declared.key.Key.{Key}
-use Rattle.fb_types.specs.declared.run.Message.{Message}
-use Rattle.fb_agenda.specs.Agendas.{IsNext, waiting}
+use Rattle.fb_window.proofs.lemmas.Common.{◌≡◌, ℕ, ◌+◌, ◌<◌, ◌≤◌, Some, None, List, [], ◌∷◌, ◌++◌, length, sym, ap, ◌∙◌, subst, ⊎_elim, arith, slice_get, slice_set, cases_eq, cases_lt, length-set, System, Key, Message, IsNext, waiting, receiver_of, Resource, AreGiven, AreCurrent}
+use Rattle.fb_types.proofs.Common.{Result, Ok, Err, OnOk}
 use Rattle.fb_resource.proofs.lemmas.Lists.{set_apart, set_here}
-use Rattle.fb_resource.specs.Posts.{receiver_of}
-use Rattle.fb_resource.specs.declared.resource.Resource.{Resource}
-use Rattle.fb_window.specs.Mails.{AreGiven}
-use Rattle.fb_window.specs.Noting.{AreCurrent, IsHanded, IsCurrent}
+use Rattle.fb_window.specs.Noting.{IsHanded, IsCurrent}
 use Rattle.fb_laws.proofs.lemmas.lists.Indexes.{has_at, is_at, one_at, push_before, push_counted, push_here}
 use Rattle.fb_window.proofs.lemmas.messages.Receives.{given_more, given_none}
 

@@ -1,28 +1,16 @@
 -- What is found on the way over the resources, and over their lines.
-use Rattle.std.proofs.Common.{◌≡◌, ℕ, zero, suc, ◌+◌, ◌<◌, ◌≤◌, ◌⊎◌, true, false, not, Option, Some, None, List, [], ◌∷◌, ◌++◌, length, get_or, take, drop, refl, sym, ap, ◌∙◌, subst, inl, inr, ⊎_elim, arith, IfOk, Result, Ok}
-use Rattle.std.specs.Global.{Vec}
-use Rattle.std.specs.List.{filter}
+use Rattle.fb_window.proofs.lemmas.Common.{◌≡◌, ℕ, zero, suc, ◌+◌, ◌<◌, ◌≤◌, ◌⊎◌, true, false, Option, Some, None, List, [], ◌∷◌, ◌++◌, length, drop, refl, sym, ap, ◌∙◌, subst, inl, inr, ⊎_elim, arith, Vec, filter, is_some, nat_lt, slice_get, cases_lt, System, Line, Message, StopMark, Reason, Resource, all_of, ArePosted, Edge, until, AreCut, AreLive, IsFirstStop}
+use Rattle.fb_types.proofs.Common.{not, get_or, take, IfOk, Result, Ok, get_or_from_slice_get, slice_get-get_or, IfNone, lt-ltb, le-ltb, ltb-true, ltb-false, Each}
 use Rattle.std.specs.List.Sorted.{IsNonDecreasingBy, IsPartitionedBy, IsPartitionPoint}
 use Rattle.std.proofs.lemmas.List.Sorted.{IsPartitionedBy-ltb}
-use Rattle.std.proofs.lemmas.Option.{get_or_from_slice_get, slice_get-get_or}
-use Rattle.std.specs.Prelude.{is_some, nat_lt, slice_get, IfNone}
-use Rattle.std.proofs.lemmas.Bool.{cases_lt, lt-ltb, le-ltb, ltb-true, ltb-false}
-use Rattle.fb_types.specs.Systems.{System}
-use Rattle.fb_types.specs.Machines.{Each}
-use Rattle.fb_types.specs.declared.run.Line.{Line}
-use Rattle.fb_types.specs.declared.run.Message.{Message}
-use Rattle.fb_types.specs.declared.run.StopMark.{StopMark}
-use Rattle.fb_types.specs.declared.value.Reason.{Reason}
 use Rattle.fb_types.proofs.lemmas.lists.EachLaws.{each_map}
 use Rattle.fb_types.proofs.lemmas.lists.Lookups.{none_some}
 use Rattle.fb_resource.specs.Resources.{HasReceived}
-use Rattle.fb_resource.specs.declared.resource.Resource.{Resource}
 use Rattle.fb_laws.proofs.lemmas.schedules.Lines.{filter_all, filter_in, filter_nothing, filter_out}
-use Rattle.fb_link.specs.Exchanges.{AreFor, all_of}
+use Rattle.fb_link.specs.Exchanges.{AreFor}
 use Rattle.fb_trace.specs.Merging.{Rises, tick_of}
-use Rattle.fb_window.specs.Mails.{AreDelivered, ArePosted}
-use Rattle.fb_laws.specs.Finality.{Edge, until}
-use Rattle.fb_window.specs.Frontiers.{AreAllPast, AreCut, AreAtHorizon, AreLive, IsFirstStop, IsFrontierTo, IsSplit, floor_at}
+use Rattle.fb_window.specs.Mails.{AreDelivered}
+use Rattle.fb_window.specs.Frontiers.{AreAllPast, AreAtHorizon, IsFrontierTo, IsSplit, floor_at}
 use Rattle.fb_laws.proofs.lemmas.lists.Indexes.{is_at, one_at, push_before, push_counted, push_here}
 
 -- ---- The frontier

@@ -1,22 +1,11 @@
 -- The lines that are handed out and those that are kept, as lists of the program.
-use Rattle.std.proofs.Common.{◌≡◌, ℕ, zero, suc, ◌<◌, ◌≤◌, Bool, true, false, cond, not, Some, None, List, [], ◌∷◌, ◌++◌, map, length, refl, sym, ap, ◌∙◌, subst, arith}
-use Rattle.std.specs.Global.{Vec}
-use Rattle.std.specs.List.{filter}
-use Rattle.std.specs.Prelude.{nat_lt, slice_get, slice_index_or}
-use Rattle.fb_types.specs.Headline.{Inputs, system_of}
-use Rattle.fb_types.specs.Cores.{Core}
-use Rattle.fb_types.specs.Machines.{Machine, Each}
-use Rattle.fb_types.specs.Merges.{IsMerge, lines_before}
-use Rattle.fb_types.specs.Numbers.{line_of}
-use Rattle.fb_types.specs.Parts.{machine, count_of}
+use Rattle.fb_window.proofs.lemmas.Common.{◌≡◌, ℕ, zero, suc, ◌<◌, ◌≤◌, Bool, true, false, cond, Some, None, List, [], ◌∷◌, ◌++◌, map, length, refl, sym, ap, ◌∙◌, subst, arith, Vec, filter, nat_lt, slice_get, slice_index_or, Inputs, system_of, Core, Machine, line_of, machine, count_of, Line, Edge, until, HasKept, AreCut, lists_of}
+use Rattle.fb_types.proofs.Common.{not, Each, IsMerge, lines_before}
 use Rattle.fb_types.specs.States as model
-use Rattle.fb_types.specs.declared.run.Line.{Line}
 use Rattle.fb_types.proofs.lemmas.lists.EachLaws.{each_map}
 use Rattle.fb_trace.specs.Merging.{AreMerged, AreRising, IsRising, Rises, resource_of, tick_of}
 use Rattle.fb_trace.proofs.lemmas.order.Merged.{is_merge}
-use Rattle.fb_laws.specs.Finality.{Edge, until, lines_from, TicksRise, IsEdge, IsLeastTick, HaveLeft, HasHanded, HasKept, NoneIsFinal, lines_in}
-use Rattle.fb_window.specs.Frontiers.{AreCut}
-use Rattle.fb_window.specs.Settling.{lists_of}
+use Rattle.fb_laws.specs.Finality.{lines_from, TicksRise, IsEdge, IsLeastTick, HaveLeft, HasHanded, NoneIsFinal, lines_in}
 use Rattle.fb_laws.proofs.lemmas.schedules.Edges.{IsLater, each_filter, whole, handed_merge, handed_more, none_final}
 use Rattle.fb_laws.proofs.lemmas.schedules.Handing.{AreLinesOf}
 use Rattle.fb_laws.proofs.lemmas.lists.Indexes.{has_at, is_at, one_at, index_at}

@@ -1,25 +1,11 @@
 -- Messages on their way come onto the agendas of their receivers: what a resource then is, where the core exchanges all messages.
-use Rattle.std.proofs.Common.{◌≡◌, ℕ, zero, suc, ◌<◌, ◌≤◌, ◌==◌, Bool, true, false, cond, Option, Some, None, List, [], ◌∷◌, ◌++◌, map, refl, sym, ap, ◌∙◌, ⊎_elim, arith, All}
-use Rattle.std.specs.Prelude.{flat_map, slice_get, option_map, if◌then◌else◌}
-use Rattle.std.specs.List.{filter}
-use Rattle.std.proofs.lemmas.Bool.{eq-eqb}
-use Rattle.std.proofs.lemmas.List.Elements.{All-nil, All-cons, All-head, All-tail, All-append}
-use Rattle.fb_types.specs.Headline.{Inputs, system_of}
-use Rattle.fb_types.specs.Cores.{Core, Member, exchanged}
-use Rattle.fb_types.specs.Keys.{same_key, or_else, found}
-use Rattle.fb_types.specs.Machines.{Machine, Item, Local}
-use Rattle.fb_types.specs.Parts.{machine, count_of}
+use Rattle.fb_window.proofs.lemmas.Common.{◌≡◌, ℕ, zero, suc, ◌<◌, ◌≤◌, ◌==◌, Bool, true, false, cond, Option, Some, None, List, [], ◌∷◌, ◌++◌, map, refl, sym, ap, ◌∙◌, ⊎_elim, arith, All, slice_get, option_map, filter, All-nil, All-head, All-tail, Inputs, system_of, Core, Member, exchanged, found, Machine, Item, machine, count_of, Key, Message, IsMessage, arriving, receiver_of, IsLawful, World, IsFor, IsOf, Resource, Sits}
+use Rattle.fb_types.proofs.Common.{flat_map, if◌then◌else◌, eq-eqb, All-cons, All-append, same_key, or_else, Local}
 use Rattle.fb_types.specs.States as model
-use Rattle.fb_types.specs.declared.key.Key.{Key}
-use Rattle.fb_types.specs.declared.run.Message.{Message}
 use Rattle.fb_types.proofs.lemmas.lists.Lookups.{none_since, or_else_nones, or_else_parts, same_cases}
-use Rattle.fb_resource.specs.Posts.{IsMessage, arriving, receiver_of}
 use Rattle.fb_link.specs.Exchanges.{keyed}
-use Rattle.fb_laws.specs.Facts.{IsLawful}
-use Rattle.fb_laws.specs.Worlds.{World}
-use Rattle.fb_resource.specs.Resources.{HasReceived, IsFor, IsOf, Represents, with_messages}
-use Rattle.fb_resource.specs.declared.resource.Resource.{Resource}
-use Rattle.fb_window.specs.Standing.{IsQuiet, Sits}
+use Rattle.fb_resource.specs.Resources.{HasReceived, Represents, with_messages}
+use Rattle.fb_window.specs.Standing.{IsQuiet}
 use Rattle.fb_laws.proofs.lemmas.schedules.AtHome.{arrives_at_clock, outbox_sends}
 use Rattle.fb_laws.proofs.lemmas.schedules.Keeps.{Inv}
 

@@ -1,10 +1,5 @@
 -- Rows of links, one after another.
-use Rattle.std.proofs.Common.{◌≡◌, ℕ, ◌+◌, ◌<◌, ◌≤◌, Some, List, [], ◌∷◌, ◌++◌, subst, ⊎_elim, arith}
-use Rattle.std.specs.Prelude.{slice_get}
-use Rattle.std.proofs.lemmas.Bool.{cases_lt}
-use Rattle.fb_types.specs.Headline.{Inputs, system_of}
-use Rattle.fb_types.specs.Parts.{count_of}
-use Rattle.fb_types.specs.Systems.{System}
+use Rattle.fb_types.proofs.Common.{◌≡◌, ℕ, ◌+◌, ◌<◌, ◌≤◌, Some, List, [], ◌∷◌, ◌++◌, subst, ⊎_elim, arith, slice_get, cases_lt, Inputs, system_of, count_of, System}
 use Rattle.fb_laws.proofs.lemmas.soundness.Accepting.{sound_of}
 use Rattle.fb_laws.proofs.lemmas.lists.Indexes.{has_at, is_at, one_at, push_before, push_counted, push_here}
 use Rattle.fb_window.specs.LinkRows.{AreLinksOf, AreRowsOf, IsLink}

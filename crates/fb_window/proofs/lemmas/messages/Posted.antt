@@ -1,29 +1,9 @@
 -- Messages come from all outboxes onto the agendas of their receivers: so the resources are where the exchange brings the core.
-use Rattle.std.proofs.Common.{◌≡◌, ℕ, zero, suc, ◌<◌, ◌≤◌, true, Some, None, List, [], ◌∷◌, map, length, refl, sym, ap, ◌∙◌, subst, ⊎_elim, arith, All}
-use Rattle.std.specs.Global.{Vec}
-use Rattle.std.specs.Prelude.{slice_get, slice_index_or, option_map}
-use Rattle.std.specs.List.{filter}
-use Rattle.std.proofs.lemmas.Bool.{cases_lt, eqb-true}
-use Rattle.std.proofs.lemmas.List.Sorted.{All-permutation}
-use Rattle.fb_types.specs.Headline.{Inputs, system_of}
-use Rattle.fb_types.specs.Cores.{Core, Member, exchanged}
-use Rattle.fb_types.specs.Keys.{found}
-use Rattle.fb_types.specs.Machines.{Machine, Item}
-use Rattle.fb_types.specs.Parts.{machine, count_of}
+use Rattle.fb_window.proofs.lemmas.Common.{◌≡◌, ℕ, zero, suc, ◌<◌, ◌≤◌, true, Some, None, List, [], ◌∷◌, map, length, refl, sym, ap, ◌∙◌, subst, ⊎_elim, arith, All, Vec, slice_get, slice_index_or, option_map, filter, cases_lt, eqb-true, Inputs, system_of, Core, Member, exchanged, found, Machine, Item, machine, count_of, Key, Line, Message, IsMessage, arriving, receiver_of, all_of, IsLawful, World, IsFor, Resource, ArePosted, after_loan, IsAt, Sits, Home}
+use Rattle.fb_types.proofs.Common.{All-permutation}
 use Rattle.fb_types.specs.States as model
-use Rattle.fb_types.specs.declared.key.Key.{Key}
-use Rattle.fb_types.specs.declared.run.Line.{Line}
-use Rattle.fb_types.specs.declared.run.Message.{Message}
-use Rattle.fb_resource.specs.Posts.{IsMessage, arriving, receiver_of}
-use Rattle.fb_link.specs.Exchanges.{AreFor, all_of, goes_to}
-use Rattle.fb_laws.specs.Facts.{IsLawful}
-use Rattle.fb_laws.specs.Worlds.{World}
-use Rattle.fb_resource.specs.Resources.{IsFor}
-use Rattle.fb_resource.specs.declared.resource.Resource.{Resource}
-use Rattle.fb_window.specs.Mails.{ArePosted}
-use Rattle.fb_laws.specs.Phases.{after_loan}
-use Rattle.fb_window.specs.Standing.{IsAt, IsQuiet, Sits}
-use Rattle.fb_window.specs.declared.home.Home.{Home}
+use Rattle.fb_link.specs.Exchanges.{AreFor, goes_to}
+use Rattle.fb_window.specs.Standing.{IsQuiet}
 use Rattle.fb_laws.proofs.lemmas.schedules.AtHome.{outbox_sends}
 use Rattle.fb_laws.proofs.lemmas.resources.Outboxes.{found_in, found_some, found_with_sender}
 use Rattle.fb_types.proofs.lemmas.lists.ByIndex.{all_at}

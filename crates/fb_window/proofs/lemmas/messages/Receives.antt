@@ -1,25 +1,11 @@
 -- Messages that resources receive one after another.
-use Rattle.std.proofs.Common.{◌≡◌, ◌≢◌, ℕ, ◌<◌, Some, List, [], ◌∷◌, ◌++◌, map, length, refl, sym, ap, ◌∙◌, subst, arith, All, inl, inr, ◌⊎◌}
-use Rattle.std.specs.Prelude.{slice_get, slice_set}
-use Rattle.std.specs.List.{filter}
-use Rattle.std.proofs.lemmas.Bool.{cases_eq}
-use Rattle.std.proofs.lemmas.List.{length-set}
-use Rattle.std.proofs.lemmas.List.Elements.{All-nil, All-cons, All-head, All-tail}
-use Rattle.fb_types.specs.Headline.{Inputs, system_of}
-use Rattle.fb_types.specs.Keys.{or_else, found}
-use Rattle.fb_types.specs.Machines.{Local}
-use Rattle.fb_types.specs.Parts.{machine}
-use Rattle.fb_types.specs.Systems.{System}
-use Rattle.fb_types.specs.declared.key.Key.{Key}
-use Rattle.fb_types.specs.declared.run.Message.{Message}
+use Rattle.fb_window.proofs.lemmas.Common.{◌≡◌, ℕ, ◌<◌, Some, List, [], ◌∷◌, ◌++◌, map, length, refl, sym, ap, ◌∙◌, subst, arith, All, inl, inr, ◌⊎◌, slice_get, slice_set, filter, cases_eq, length-set, All-nil, All-head, All-tail, Inputs, system_of, found, machine, System, Key, Message, arriving, receiver_of, IsFor, Resource, AreGiven}
+use Rattle.fb_types.proofs.Common.{◌≢◌, All-cons, or_else, Local}
 use Rattle.fb_types.proofs.lemmas.lists.Lookups.{found-append, or_else_assoc}
-use Rattle.fb_resource.specs.Posts.{arriving, receiver_of}
 use Rattle.fb_link.specs.Exchanges.{goes_to}
 use Rattle.fb_link.proofs.lemmas.Dealt.{goes, stays}
 use Rattle.fb_resource.proofs.lemmas.Lists.{set_here, set_apart}
-use Rattle.fb_resource.specs.Resources.{HasReceived, IsFor, Represents, with_messages}
-use Rattle.fb_resource.specs.declared.resource.Resource.{Resource}
-use Rattle.fb_window.specs.Mails.{AreGiven}
+use Rattle.fb_resource.specs.Resources.{HasReceived, Represents, with_messages}
 use Rattle.fb_window.proofs.lemmas.messages.Delivers.{map_append}
 use Rattle.fb_laws.proofs.lemmas.lists.Indexes.{has_at, is_at, one_at}
 

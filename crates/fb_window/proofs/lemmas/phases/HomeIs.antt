@@ -1,21 +1,7 @@
 -- Resources come home one after another.
-use Rattle.std.proofs.Common.{◌≡◌, ℕ, ◌+◌, Option, Some, None, List, [], ◌∷◌, ◌++◌, length, map, drop, refl, sym, ap, ◌∙◌, subst, ⊎_elim, arith}
-use Rattle.std.specs.Global.{Vec}
-use Rattle.std.specs.List.{AllZip}
-use Rattle.std.specs.Prelude.{slice_get, slice_index_or}
-use Rattle.std.proofs.lemmas.Bool.{cases_lt}
-use Rattle.fb_types.specs.Headline.{Inputs}
-use Rattle.fb_types.specs.declared.run.Line.{Line}
-use Rattle.fb_types.specs.declared.run.Message.{Message}
-use Rattle.fb_types.specs.declared.run.StopMark.{StopMark}
-use Rattle.fb_types.specs.declared.value.Reason.{Reason}
+use Rattle.fb_window.proofs.lemmas.Common.{◌≡◌, ℕ, ◌+◌, Option, Some, None, List, [], ◌∷◌, ◌++◌, length, map, drop, refl, sym, ap, ◌∙◌, subst, ⊎_elim, arith, Vec, AllZip, slice_get, slice_index_or, cases_lt, Inputs, Line, Message, StopMark, Reason, Resource, WindowDone, Ran, Does, JobModel, job_of, jobs_of, resting_of, AreAwaited, IsHomeTo, AreHome, Home}
 use Rattle.fb_types.proofs.lemmas.lists.Lookups.{none_some}
-use Rattle.fb_resource.specs.declared.resource.Resource.{Resource}
-use Rattle.fb_resource.specs.declared.resource.WindowDone.{WindowDone}
-use Rattle.fb_resource.specs.declared.resource.WindowDone.TheVariants.{Ran}
-use Rattle.fb_window.specs.Jobs.{Does, JobModel, job_of, jobs_of, resting_of}
-use Rattle.fb_window.specs.Homes.{AreAwaited, HasCome, IsHomeAt, IsHomeTo, AreHome}
-use Rattle.fb_window.specs.declared.home.Home.{Home}
+use Rattle.fb_window.specs.Homes.{HasCome, IsHomeAt}
 use Rattle.fb_laws.proofs.lemmas.lists.Indexes.{push_here, push_before, push_counted, drop_at, drop_none}
 
 -- what rested had stopped, and what had not stopped left

@@ -1,21 +1,8 @@
 -- What the jobs gave comes home as it is, where no line was kept and no resource has rested.
-use Rattle.std.proofs.Common.{◌≡◌, ℕ, suc, ◌+◌, true, false, Option, Some, None, List, [], ◌∷◌, ◌++◌, length, map, refl, sym, ap, ◌∙◌, subst, append_assoc, arith, All}
-use Rattle.std.specs.Global.{Vec}
-use Rattle.std.specs.List.{AllZip}
-use Rattle.std.specs.Prelude.{is_some, slice_get}
-use Rattle.std.proofs.lemmas.List.Elements.{All-head, All-tail}
-use Rattle.fb_types.specs.declared.run.Line.{Line}
-use Rattle.fb_types.specs.declared.run.Message.{Message}
-use Rattle.fb_types.specs.declared.run.StopMark.{StopMark}
-use Rattle.fb_resource.specs.declared.resource.Resource.{Resource}
-use Rattle.fb_resource.specs.declared.resource.WindowDone.{WindowDone}
-use Rattle.fb_resource.specs.declared.resource.WindowDone.TheVariants.{NoMemory, Ran}
-use Rattle.fb_laws.specs.Finality.{Edge}
-use Rattle.fb_window.specs.Frontiers.{AreCut}
-use Rattle.fb_window.specs.Homes.{AreAwaited, HasGiven}
-use Rattle.fb_window.specs.Jobs.{Does, jobs_of, resting_of}
+use Rattle.fb_window.proofs.lemmas.Common.{◌≡◌, ℕ, suc, ◌+◌, true, false, Option, Some, None, List, [], ◌∷◌, ◌++◌, length, map, refl, sym, ap, ◌∙◌, subst, append_assoc, arith, All, Vec, AllZip, is_some, slice_get, All-head, All-tail, Line, Message, StopMark, Resource, WindowDone, Ran, Edge, AreCut, AreAwaited, Does, jobs_of, resting_of, Home}
+use Rattle.fb_resource.specs.declared.resource.WindowDone.TheVariants.{NoMemory}
+use Rattle.fb_window.specs.Homes.{HasGiven}
 use Rattle.fb_window.specs.Texts.{HasLines, IsFrontOf}
-use Rattle.fb_window.specs.declared.home.Home.{Home}
 
 pub is_none : {X : Type 0} (o : Option X) → is_some o ≡ false → o ≡ None
 is_none None e = refl

@@ -1,10 +1,5 @@
 -- Resources leave one after another.
-use Rattle.std.proofs.Common.{◌≡◌, ℕ, ◌+◌, ◌≤◌, true, Option, Some, None, List, [], ◌∷◌, ◌++◌, length, map, refl, sym, ap, ◌∙◌, arith, append_assoc, append-nil}
-use Rattle.fb_types.specs.Headline.{Inputs}
-use Rattle.fb_types.specs.declared.value.Reason.{Reason}
-use Rattle.fb_resource.specs.declared.resource.Resource.{Resource}
-use Rattle.fb_window.specs.Jobs.{JobModel, job_of, jobs_of, resting_of}
-use Rattle.std.specs.Prelude.{slice_index_or, is_some}
+use Rattle.fb_window.proofs.lemmas.Common.{◌≡◌, ℕ, ◌+◌, ◌≤◌, true, Option, Some, None, List, [], ◌∷◌, ◌++◌, length, map, refl, sym, ap, ◌∙◌, arith, append_assoc, append-nil, Inputs, Reason, slice_index_or, is_some, Resource, JobModel, job_of, jobs_of, resting_of}
 
 -- the jobs of one resource more
 pub jobs_push : (i : Inputs) (limit : ℕ) (bounds : List ℕ) (first index : ℕ) (xs : List Resource) (x : Resource) → first + length xs ≡ index

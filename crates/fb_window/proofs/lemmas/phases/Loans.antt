@@ -1,27 +1,11 @@
 -- The loans of a phase, as they are found when all have come home.
-use Rattle.std.proofs.Common.{◌≡◌, ℕ, ◌<◌, ◌≤◌, ◌⊎◌, Option, Some, None, List, [], ◌++◌, map, refl, sym, ap, ◌∙◌, subst, inl, inr, ⊎_elim, arith, All, append-nil}
-use Rattle.std.specs.Global.{Vec}
-use Rattle.std.specs.Prelude.{slice_index_or}
-use Rattle.std.proofs.lemmas.Bool.{cases_lt}
-use Rattle.std.proofs.lemmas.List.Elements.{All-nil}
-use Rattle.fb_types.specs.Headline.{Inputs, system_of}
-use Rattle.fb_types.specs.Cores.{Core, IsLegal}
-use Rattle.fb_types.specs.Machines.{Machine, Item, Run, sent_by}
-use Rattle.fb_types.specs.Numbers.{line_of}
-use Rattle.fb_types.specs.Parts.{machine, count_of}
-use Rattle.fb_types.specs.declared.run.Line.{Line}
-use Rattle.fb_types.specs.declared.run.Message.{Message}
-use Rattle.fb_types.specs.declared.value.Reason.{Reason}
+use Rattle.fb_window.proofs.lemmas.Common.{◌≡◌, ℕ, ◌<◌, ◌≤◌, ◌⊎◌, Option, Some, None, List, [], ◌++◌, map, refl, sym, ap, ◌∙◌, subst, inl, inr, ⊎_elim, arith, All, append-nil, Vec, slice_index_or, cases_lt, All-nil, Inputs, system_of, Core, Machine, Item, line_of, machine, count_of, Line, Message, Reason, IsMessage, arriving, IsOf, Resource, AreHome, Loan, after_loan, AreLegal, IsAt, Sits, Home}
+use Rattle.fb_types.proofs.Common.{IsLegal, Run, sent_by}
 use Rattle.fb_types.proofs.lemmas.lists.Lookups.{none_some, option_cases}
-use Rattle.fb_resource.specs.Posts.{IsMessage, arriving}
-use Rattle.fb_resource.specs.Resources.{IsOf, Represents, RanTo}
-use Rattle.fb_resource.specs.declared.resource.Resource.{Resource}
-use Rattle.fb_window.specs.Homes.{HasCome, IsHomeAt, AreHome}
-use Rattle.fb_laws.specs.Phases.{Loan, IsLegalLoan, after_loan}
-use Rattle.fb_window.specs.Leaving.{AreLegal}
+use Rattle.fb_resource.specs.Resources.{Represents, RanTo}
+use Rattle.fb_window.specs.Homes.{HasCome, IsHomeAt}
+use Rattle.fb_laws.specs.Phases.{IsLegalLoan}
 use Rattle.fb_window.specs.Settling.{AreLoans}
-use Rattle.fb_window.specs.Standing.{IsAt, Sits}
-use Rattle.fb_window.specs.declared.home.Home.{Home}
 
 module _ (i : Inputs) (limit horizon : ℕ) (c : Core (machine (system_of i) limit)) where
   abbrev M : Machine

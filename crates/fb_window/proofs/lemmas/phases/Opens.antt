@@ -1,25 +1,11 @@
 -- The opening core.
-use Rattle.std.proofs.Common.{◌≡◌, ℕ, ◌^◌, ◌≤◌, zero, suc, Bool, true, false, Option, None, List, [], ◌∷◌, map, length, refl, sym, ap, ◌∙◌, subst, ⊎_elim, arith, All}
-use Rattle.std.specs.Global.{Vec}
-use Rattle.std.specs.Prelude.{slice_index_or, if◌then◌else◌, ◌==◌}
-use Rattle.std.proofs.lemmas.List.Elements.{All-head, All-nil, All-tail, All-weaker}
-use Rattle.fb_types.specs.Headline.{Inputs, system_of, stimuli_of}
-use Rattle.fb_types.specs.Keys.{or_else}
-use Rattle.fb_types.specs.Machines.{Each}
-use Rattle.fb_types.specs.Numbers.{line_of}
-use Rattle.fb_types.specs.Parts.{count_of}
-use Rattle.fb_types.specs.Simulation.{opening}
-use Rattle.fb_types.specs.declared.run.Line.{Line}
-use Rattle.fb_system.specs.Lines.{BelongsTo}
-use Rattle.fb_laws.specs.Sound.{AreGood}
+use Rattle.fb_window.proofs.lemmas.Common.{◌≡◌, ℕ, ◌^◌, ◌≤◌, zero, suc, Bool, true, false, Option, None, List, [], ◌∷◌, map, length, refl, sym, ap, ◌∙◌, subst, ⊎_elim, arith, All, Vec, slice_index_or, ◌==◌, All-head, All-nil, All-tail, Inputs, system_of, stimuli_of, line_of, count_of, opening, Line, BelongsTo, AreGood, Resource, Edge, until, core_of, lists_of, IsReached, IsAt}
+use Rattle.fb_types.proofs.Common.{if◌then◌else◌, All-weaker, or_else, Each}
 use Rattle.fb_laws.proofs.lemmas.soundness.Accepting.{sound_of}
 use Rattle.fb_laws.proofs.lemmas.machine.Opening.{is_counted}
 use Rattle.fb_resource.specs.Resources.{AreOpened}
-use Rattle.fb_resource.specs.declared.resource.Resource.{Resource}
-use Rattle.fb_laws.specs.Finality.{Edge, until, HasHanded, core_of, lines_in}
-use Rattle.fb_window.specs.Settling.{lists_of}
-use Rattle.fb_window.specs.Reached.{IsBrought, IsReached}
-use Rattle.fb_window.specs.Standing.{IsAt}
+use Rattle.fb_laws.specs.Finality.{HasHanded, lines_in}
+use Rattle.fb_window.specs.Reached.{IsBrought}
 use Rattle.fb_laws.proofs.lemmas.schedules.Edges.{until_cases}
 
 nothing_waits : {A : Type 0} (b : Bool) (a : Option A) → a ≡ None → or_else (if b then None else a) (if b then a else None) ≡ None

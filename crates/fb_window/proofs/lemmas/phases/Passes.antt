@@ -1,19 +1,8 @@
 -- The passes over the resources that the bounds take.
-use Rattle.std.proofs.Common.{◌≡◌, ℕ, ◌+◌, ◌<◌, ◌≤◌, min, max, true, false, Option, Some, None, List, length, map, set, refl, sym, ◌∙◌, subst, ⊎_elim, arith}
-use Rattle.std.specs.Prelude.{slice_get, slice_index, IsSome}
-use Rattle.std.proofs.lemmas.Bool.{cases_lt}
-use Rattle.std.proofs.lemmas.List.{get_or-set_same, get_or-set_other, length-map, length-set}
-use Rattle.std.proofs.lemmas.Option.{same_Some, slice_get_within}
-use Rattle.fb_types.specs.declared.key.Key.{Key}
-use Rattle.fb_types.specs.declared.value.Reason.{Reason}
-use Rattle.fb_types.specs.Headline.{Inputs, system_of}
-use Rattle.fb_types.specs.Parts.{count_of}
-use Rattle.fb_laws.specs.Sound.{AreGood}
-use Rattle.fb_agenda.specs.Agendas.{IsNext, waiting}
+use Rattle.fb_window.proofs.lemmas.Common.{◌≡◌, ℕ, ◌+◌, ◌<◌, ◌≤◌, min, max, true, false, Option, Some, None, List, length, map, set, refl, sym, ◌∙◌, subst, ⊎_elim, arith, slice_get, slice_index, cases_lt, length-set, slice_get_within, Key, Reason, Inputs, system_of, count_of, AreGood, IsNext, waiting, IsCut, Resource}
+use Rattle.fb_types.proofs.Common.{IsSome, get_or-set_same, get_or-set_other, length-map, same_Some}
 use Rattle.fb_types.specs.declared.run.Event.{Event}
-use Rattle.fb_laws.specs.Cuts.{IsCut}
 use Rattle.fb_window.proofs.lemmas.bounds.Bounding.{EventsAllow, events_cut}
-use Rattle.fb_resource.specs.declared.resource.Resource.{Resource}
 
 abbrev pub clock_of : Resource → ℕ
 clock_of x = x.clock

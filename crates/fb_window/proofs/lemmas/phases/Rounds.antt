@@ -1,54 +1,24 @@
 -- A round: all have come home, and what is found then says where the core is, which lines are handed out, and how far the run is.
-use Rattle.std.proofs.Common.{◌≡◌, ℕ, suc, ◌+◌, ◌<◌, ◌≤◌, ◌^◌, ◌⊎◌, Option, Some, None, List, [], ◌∷◌, ◌++◌, map, length, refl, sym, ap, ◌∙◌, subst, inl, inr, ⊎_elim, arith, All, append_assoc}
-use Rattle.std.specs.Global.{Vec}
-use Rattle.std.specs.List.{AllZip}
-use Rattle.std.specs.Prelude.{nat_lt, slice_get, slice_index_or, if◌then◌else◌}
-use Rattle.std.proofs.lemmas.Bool.{cases_lt}
-use Rattle.fb_types.specs.Headline.{Inputs, system_of, stimuli_of}
-use Rattle.fb_types.specs.Cores.{Core, CoreStep, Exchange, IsFloor, exchanged, opening_core}
-use Rattle.fb_types.specs.Machines.{Machine}
-use Rattle.fb_types.specs.Merges.{IsMerge, lines_before}
-use Rattle.fb_types.specs.Numbers.{line_of}
-use Rattle.fb_types.specs.Parts.{machine, count_of}
-use Rattle.fb_types.specs.Schedules.{IsSchedule, IsAtHorizon, IsLeastStop, core_after}
-use Rattle.fb_types.specs.Simulation.{opening}
+use Rattle.fb_window.proofs.lemmas.Common.{◌≡◌, ℕ, suc, ◌+◌, ◌<◌, ◌≤◌, ◌^◌, ◌⊎◌, Option, Some, None, List, [], ◌∷◌, ◌++◌, map, length, refl, sym, ap, ◌∙◌, subst, inl, inr, ⊎_elim, arith, All, append_assoc, Vec, AllZip, nat_lt, slice_get, slice_index_or, cases_lt, Inputs, system_of, stimuli_of, Core, CoreStep, IsFloor, exchanged, opening_core, Machine, line_of, machine, count_of, IsSchedule, core_after, opening, System, Key, Line, StopMark, Reason, IsNext, waiting, BelongsTo, AreGood, IsSound, all_of, IsLawful, World, IsOpening, Resource, WindowDone, Edge, until, HasKept, core_of, AreCut, IsFirstStop, AreHome, Does, jobs_of, resting_of, ArePosted, Loan, after_loan, AreLegal, HasLeft, lists_of, IsReached, IsAt, AwayState, Home}
+use Rattle.fb_types.proofs.Common.{if◌then◌else◌, Exchange, IsMerge, lines_before, IsAtHorizon, IsLeastStop}
 use Rattle.fb_types.specs.States as model
-use Rattle.fb_types.specs.Systems.{System}
-use Rattle.fb_types.specs.declared.key.Key.{Key}
-use Rattle.fb_types.specs.declared.run.Line.{Line}
-use Rattle.fb_types.specs.declared.run.StopMark.{StopMark}
-use Rattle.fb_types.specs.declared.value.Reason.{Reason}
-use Rattle.fb_agenda.specs.Agendas.{IsNext, waiting}
-use Rattle.fb_system.specs.Lines.{BelongsTo}
-use Rattle.fb_laws.specs.Sound.{AreGood, IsSound}
 use Rattle.fb_laws.proofs.lemmas.soundness.Accepting.{sound_of}
-use Rattle.fb_link.specs.Exchanges.{all_of}
 use Rattle.fb_trace.specs.Merging.{AreMerged, AreRising}
-use Rattle.fb_laws.specs.Facts.{IsLawful}
-use Rattle.fb_laws.specs.Worlds.{World, IsCounted, IsOpening}
+use Rattle.fb_laws.specs.Worlds.{IsCounted}
 use Rattle.fb_laws.proofs.lemmas.machine.Bridge.{world_of}
 use Rattle.fb_laws.proofs.lemmas.machine.Opening.{is_counted, is_opening}
 use Rattle.fb_laws.proofs.lemmas.resources.OwnPart.{lawful}
-use Rattle.fb_resource.specs.declared.resource.Resource.{Resource}
-use Rattle.fb_resource.specs.declared.resource.WindowDone.{WindowDone}
-use Rattle.fb_laws.specs.Finality.{Edge, until, HasHanded, HasKept, IsEdge, IsLeastTick, core_of}
-use Rattle.fb_window.specs.Frontiers.{AreCut, IsEnd, IsFirstStop, IsFrontier, AreAllPast, AreAtHorizon}
-use Rattle.fb_window.specs.Homes.{AreHome}
-use Rattle.fb_window.specs.Jobs.{Does, jobs_of, resting_of}
+use Rattle.fb_laws.specs.Finality.{HasHanded, IsEdge, IsLeastTick}
+use Rattle.fb_window.specs.Frontiers.{IsEnd, IsFrontier, AreAllPast, AreAtHorizon}
 use Rattle.fb_laws.specs.ScheduleLaw.{lines_to}
-use Rattle.fb_window.specs.Mails.{ArePosted}
-use Rattle.fb_laws.specs.Phases.{Loan, IsPhase, after_loan}
-use Rattle.fb_window.specs.Leaving.{AreLegal, HasLeft}
-use Rattle.fb_window.specs.Settling.{AreLoans, HasRisen, IsKept, IsSettled, Settles, after_phase, lists_of, reach_of, settled_of}
-use Rattle.fb_window.specs.Reached.{IsBrought, IsReached}
-use Rattle.fb_window.specs.Standing.{IsAt}
-use Rattle.fb_window.specs.declared.cores.AwayState.{AwayState}
+use Rattle.fb_laws.specs.Phases.{IsPhase}
+use Rattle.fb_window.specs.Settling.{AreLoans, HasRisen, IsKept, IsSettled, Settles, after_phase, reach_of, settled_of}
+use Rattle.fb_window.specs.Reached.{IsBrought}
 use Rattle.fb_window.specs.declared.cores.CoreState as held
 use Rattle.fb_window.specs.declared.cores.Settled.{Settled}
 use Rattle.fb_window.specs.declared.cores.Settled.TheVariants.{Going, Ended, Stopped}
 use Rattle.fb_window.specs.declared.ends.End.{End}
 use Rattle.fb_window.specs.declared.ends.End.TheVariants.{Open, Horizon, Stop}
-use Rattle.fb_window.specs.declared.home.Home.{Home}
 use Rattle.fb_laws.proofs.lemmas.schedules.Edges.{IsLater}
 use Rattle.fb_window.proofs.lemmas.lines.Gather.{out_handed, out_merges}
 use Rattle.fb_laws.proofs.lemmas.schedules.Handed.{until_at_stop}

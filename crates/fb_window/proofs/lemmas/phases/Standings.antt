@@ -1,25 +1,12 @@
 -- What is found among the resources, said of the core where they are: its edge, and its end.
-use Rattle.std.proofs.Common.{◌≡◌, ℕ, ◌<◌, ◌≤◌, min, true, false, Option, Some, None, List, length, refl, sym, ap, ◌∙◌, inl, inr, ⊎_elim, arith}
-use Rattle.std.specs.Prelude.{IsSome, is_some, option_map, slice_get}
-use Rattle.std.proofs.lemmas.Bool.{cases_lt}
-use Rattle.fb_types.specs.Headline.{Inputs, system_of}
-use Rattle.fb_types.specs.Cores.{Core, IsFloor, floor, floor_of}
-use Rattle.fb_types.specs.Keys.{found}
-use Rattle.fb_types.specs.Machines.{Machine}
+use Rattle.fb_window.proofs.lemmas.Common.{◌≡◌, ℕ, ◌<◌, ◌≤◌, min, true, false, Option, Some, None, List, length, refl, sym, ap, ◌∙◌, inl, inr, ⊎_elim, arith, is_some, option_map, slice_get, cases_lt, Inputs, system_of, Core, IsFloor, floor_of, found, Machine, machine, count_of, Key, StopMark, Reason, IsNext, waiting, Resource, Edge, IsFirstStop, IsAt}
+use Rattle.fb_types.proofs.Common.{IsSome, floor, IsAtHorizon, IsLeastStop}
 use Rattle.fb_types.specs.Machines as machines
-use Rattle.fb_types.specs.Parts.{machine, count_of}
-use Rattle.fb_types.specs.Schedules.{IsAtHorizon, IsLeastStop}
-use Rattle.fb_types.specs.declared.key.Key.{Key}
-use Rattle.fb_types.specs.declared.run.StopMark.{StopMark}
-use Rattle.fb_types.specs.declared.value.Reason.{Reason}
 use Rattle.fb_types.proofs.lemmas.lists.Lookups.{none_some}
-use Rattle.fb_agenda.specs.Agendas.{IsNext, waiting}
 use Rattle.fb_types.specs.declared.run.Event.{Event}
 use Rattle.fb_net.specs.Events.{event_of}
-use Rattle.fb_resource.specs.declared.resource.Resource.{Resource}
-use Rattle.fb_laws.specs.Finality.{Edge, IsEdge, IsLeastTick}
-use Rattle.fb_window.specs.Frontiers.{AreAllPast, AreAtHorizon, IsFirstStop, IsFrontier, floor_at}
-use Rattle.fb_window.specs.Standing.{IsAt}
+use Rattle.fb_laws.specs.Finality.{IsEdge, IsLeastTick}
+use Rattle.fb_window.specs.Frontiers.{AreAllPast, AreAtHorizon, IsFrontier, floor_at}
 use Rattle.fb_laws.proofs.lemmas.lists.Indexes.{has_at, is_at}
 
 module _ (i : Inputs) (limit : ℕ) (c : Core (machine (system_of i) limit)) (xs : List Resource) (at : IsAt i limit c xs) where

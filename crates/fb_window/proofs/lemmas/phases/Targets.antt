@@ -1,20 +1,8 @@
 -- What came home belongs to the system.
-use Rattle.std.proofs.Common.{◌≡◌, ℕ, suc, ◌+◌, ◌<◌, ◌≤◌, Some, List, [], ◌∷◌, ◌++◌, length, refl, sym, subst, ⊎_elim, arith, All}
-use Rattle.std.specs.Global.{Vec}
-use Rattle.std.specs.Prelude.{slice_get}
-use Rattle.std.proofs.lemmas.List.Elements.{All-nil, All-cons, All-head, All-tail, All-append, All-weaker}
-use Rattle.fb_types.specs.Headline.{Inputs, system_of}
-use Rattle.fb_types.specs.declared.run.Line.{Line}
-use Rattle.fb_types.specs.declared.run.Message.{Message}
+use Rattle.fb_window.proofs.lemmas.Common.{◌≡◌, ℕ, suc, ◌+◌, ◌<◌, ◌≤◌, Some, List, [], ◌∷◌, ◌++◌, length, refl, sym, subst, ⊎_elim, arith, All, Vec, slice_get, All-nil, All-head, All-tail, Inputs, system_of, Line, Message, BelongsTo, IsMessage, Resource, AreCut, Edge, AreHome, Home}
+use Rattle.fb_types.proofs.Common.{All-cons, All-append, All-weaker}
 use Rattle.fb_types.proofs.lemmas.lists.Lookups.{option_cases}
-use Rattle.fb_system.specs.Lines.{BelongsTo}
-use Rattle.fb_resource.specs.Posts.{IsMessage}
-use Rattle.fb_resource.specs.declared.resource.Resource.{Resource}
 use Rattle.fb_trace.proofs.lemmas.order.StableSort.{kept}
-use Rattle.fb_window.specs.Frontiers.{AreCut}
-use Rattle.fb_laws.specs.Finality.{Edge}
-use Rattle.fb_window.specs.Homes.{AreHome}
-use Rattle.fb_window.specs.declared.home.Home.{Home}
 use Rattle.fb_laws.proofs.lemmas.lists.Indexes.{has_at, is_at, one_at}
 use Rattle.fb_laws.proofs.lemmas.lists.Scans.{holds_more}
 use Rattle.fb_types.proofs.lemmas.lists.ByIndex.{all_at}

@@ -1,17 +1,8 @@
 -- Series of turns: turns of one resource each, one after another.
-use Rattle.std.proofs.Common.{◌≡◌, ℕ, ◌++◌, List, [], ◌∷◌, sym, ap, ◌∙◌, subst, append_assoc, append-nil}
-use Rattle.std.proofs.lemmas.Grind.{flat_map-append}
-use Rattle.fb_types.specs.Headline.{Inputs, system_of, stimuli_of}
+use Rattle.fb_window.proofs.lemmas.Common.{◌≡◌, ℕ, ◌++◌, List, [], ◌∷◌, sym, ap, ◌∙◌, subst, append_assoc, append-nil, Inputs, system_of, stimuli_of, CoreStep, IsFloor, opening_core, Machine, machine, count_of, IsSchedule, core_after, HasKept, core_of, lists_of, IsAt, Leads, Single, CoreState}
+use Rattle.fb_types.proofs.Common.{flat_map-append}
 use Rattle.fb_types.specs.Cores as model_cores
-use Rattle.fb_types.specs.Cores.{CoreStep, IsFloor, opening_core}
-use Rattle.fb_types.specs.Machines.{Machine}
-use Rattle.fb_types.specs.Parts.{machine, count_of}
-use Rattle.fb_types.specs.Schedules.{IsSchedule, core_after}
-use Rattle.fb_laws.specs.Finality.{HasKept, core_of}
-use Rattle.fb_window.specs.Settling.{lists_of}
-use Rattle.fb_window.specs.Standing.{IsAt}
-use Rattle.fb_window.specs.ManyTurns.{AreSingle, Leads, Single, after_series, single_steps, series_steps}
-use Rattle.fb_window.specs.declared.cores.CoreState.{CoreState}
+use Rattle.fb_window.specs.ManyTurns.{AreSingle, after_series, single_steps, series_steps}
 use Rattle.fb_laws.proofs.lemmas.schedules.Phasing.{after_append}
 
 module _ (M : Machine) where

@@ -1,48 +1,23 @@
 -- A turn of one resource while all others are at home: it runs below the tick after the least event of all, which it has, and its messages are delivered.
-use Rattle.std.proofs.Common.{◌≡◌, ◌≢◌, ℕ, ◌+◌, ◌<◌, ◌≤◌, ◌==◌, max, cond, true, Option, Some, None, List, [], ◌∷◌, ◌++◌, map, length, refl, sym, ap, ◌∙◌, subst, ⊎_elim, inl, inr, ◌⊎◌, arith, All, append_assoc, append-nil}
-use Rattle.std.specs.Global.{Vec}
-use Rattle.std.specs.Prelude.{option_map, slice_get, slice_set}
-use Rattle.std.specs.List.{filter}
-use Rattle.std.proofs.lemmas.Bool.{cases_eq, cases_lt, cond-true, cond-false, eq-eqb, ne_eqb, eqb-true}
-use Rattle.std.proofs.lemmas.List.{length-set}
-use Rattle.fb_types.specs.Headline.{Inputs, system_of, stimuli_of}
-use Rattle.fb_types.specs.Cores.{Core, CoreStep, Exchange, IsFloor, IsLegal, Member, exchanged, floor, floor_of, opening_core}
-use Rattle.fb_types.specs.Keys.{found}
-use Rattle.fb_types.specs.Machines.{Machine, Item, Run, end, sent_by}
+use Rattle.fb_window.proofs.lemmas.Common.{◌≡◌, ℕ, ◌+◌, ◌<◌, ◌≤◌, ◌==◌, max, cond, true, Option, Some, None, List, [], ◌∷◌, ◌++◌, map, length, refl, sym, ap, ◌∙◌, subst, ⊎_elim, inl, inr, ◌⊎◌, arith, All, append_assoc, append-nil, Vec, option_map, slice_get, slice_set, filter, cases_eq, cases_lt, eqb-true, length-set, Inputs, system_of, stimuli_of, Core, CoreStep, IsFloor, Member, exchanged, floor_of, opening_core, found, Machine, Item, line_of, machine, count_of, IsSchedule, core_after, opening, System, Key, Line, Message, StopMark, IsNext, waiting, AreGood, IsSound, IsMessage, arriving, receiver_of, IsLawful, IsFor, IsOf, World, IsOpening, Resource, Ran, HasKept, core_of, AreGiven, Loan, after_loan, lists_of, IsAt, Sits, Leads, Single}
+use Rattle.fb_types.proofs.Common.{◌≢◌, cond-true, cond-false, eq-eqb, ne_eqb, Exchange, IsLegal, floor, Run, end, sent_by}
 use Rattle.fb_types.specs.Machines as machines
-use Rattle.fb_types.specs.Numbers.{line_of}
-use Rattle.fb_types.specs.Parts.{machine, count_of}
-use Rattle.fb_types.specs.Schedules.{IsSchedule, core_after}
-use Rattle.fb_types.specs.Simulation.{opening}
 use Rattle.fb_types.specs.States as model
-use Rattle.fb_types.specs.Systems.{System}
-use Rattle.fb_types.specs.declared.key.Key.{Key}
-use Rattle.fb_types.specs.declared.run.Line.{Line}
-use Rattle.fb_types.specs.declared.run.Message.{Message}
-use Rattle.fb_types.specs.declared.run.StopMark.{StopMark}
 use Rattle.fb_types.proofs.lemmas.lists.Lookups.{none_some, none_since}
-use Rattle.fb_agenda.specs.Agendas.{IsNext, waiting}
 use Rattle.fb_net.specs.Events.{event_of}
-use Rattle.fb_laws.specs.Sound.{AreGood, IsSound}
 use Rattle.fb_laws.proofs.lemmas.soundness.Accepting.{sound_of}
-use Rattle.fb_resource.specs.Posts.{IsMessage, arriving, receiver_of}
 use Rattle.fb_link.specs.Exchanges.{goes_to}
 use Rattle.fb_resource.proofs.lemmas.Lists.{set_each}
 use Rattle.fb_link.proofs.lemmas.Exchanged.{found_to}
-use Rattle.fb_laws.specs.Facts.{IsLawful}
-use Rattle.fb_resource.specs.Resources.{HasRun, IsFor, IsOf, RanTo}
-use Rattle.fb_laws.specs.Worlds.{World, IsCounted, IsOpening}
+use Rattle.fb_resource.specs.Resources.{HasRun, RanTo}
+use Rattle.fb_laws.specs.Worlds.{IsCounted}
 use Rattle.fb_laws.proofs.lemmas.machine.Bridge.{world_of}
 use Rattle.fb_laws.proofs.lemmas.machine.Opening.{is_counted, is_opening}
 use Rattle.fb_laws.proofs.lemmas.resources.OwnPart.{lawful}
-use Rattle.fb_resource.specs.declared.resource.Resource.{Resource}
-use Rattle.fb_resource.specs.declared.resource.WindowDone.TheVariants.{Ran}
-use Rattle.fb_laws.specs.Finality.{HasKept, core_of, lines_in}
-use Rattle.fb_window.specs.Mails.{AreGiven}
-use Rattle.fb_laws.specs.Phases.{Loan, IsPhase, IsLegalLoan, steps_of, loan_steps, after_loan}
-use Rattle.fb_window.specs.Settling.{lists_of}
-use Rattle.fb_window.specs.Standing.{IsAt, IsQuiet, Sits}
-use Rattle.fb_window.specs.ManyTurns.{IsSingle, Leads, Single, single_steps}
+use Rattle.fb_laws.specs.Finality.{lines_in}
+use Rattle.fb_laws.specs.Phases.{IsPhase, IsLegalLoan, steps_of, loan_steps}
+use Rattle.fb_window.specs.Standing.{IsQuiet}
+use Rattle.fb_window.specs.ManyTurns.{IsSingle, single_steps}
 use Rattle.fb_window.specs.declared.cores.CoreState as held
 use Rattle.fb_laws.proofs.lemmas.schedules.AtHome.{outbox_sends}
 use Rattle.fb_laws.proofs.lemmas.resources.Outboxes.{found_some}

@@ -1,30 +1,11 @@
 -- How far a series of turns has come, turn after turn.
-use Rattle.std.proofs.Common.{◌≡◌, ℕ, ◌+◌, ◌<◌, ◌++◌, Option, Some, None, List, [], ◌∷◌, length, refl, sym, ap, ◌∙◌, subst, inl, inr, ⊎_elim, arith, All}
-use Rattle.std.specs.Global.{Vec}
-use Rattle.std.specs.Prelude.{slice_get, slice_set}
-use Rattle.std.proofs.lemmas.List.{length-set}
-use Rattle.std.proofs.lemmas.List.Elements.{All-append}
-use Rattle.fb_types.specs.Headline.{Inputs, system_of, stimuli_of}
+use Rattle.fb_window.proofs.lemmas.Common.{◌≡◌, ℕ, ◌+◌, ◌<◌, ◌++◌, Option, Some, None, List, [], ◌∷◌, length, refl, sym, ap, ◌∙◌, subst, inl, inr, ⊎_elim, arith, All, Vec, slice_get, slice_set, length-set, Inputs, system_of, stimuli_of, CoreStep, opening_core, machine, IsSchedule, Key, Line, StopMark, Reason, IsNext, waiting, AreGood, BelongsTo, IsOf, Resource, core_of, AreLive, IsAt, Leads, Single, CoreState}
+use Rattle.fb_types.proofs.Common.{All-append}
 use Rattle.fb_types.specs.Cores as model_cores
-use Rattle.fb_types.specs.Cores.{CoreStep, opening_core}
-use Rattle.fb_types.specs.Parts.{machine}
-use Rattle.fb_types.specs.Schedules.{IsSchedule}
-use Rattle.fb_types.specs.declared.key.Key.{Key}
-use Rattle.fb_types.specs.declared.run.Line.{Line}
-use Rattle.fb_types.specs.declared.run.StopMark.{StopMark}
-use Rattle.fb_types.specs.declared.value.Reason.{Reason}
 use Rattle.fb_types.proofs.lemmas.lists.Lookups.{option_cases}
-use Rattle.fb_agenda.specs.Agendas.{IsNext, waiting}
 use Rattle.fb_resource.proofs.lemmas.Lists.{set_each}
-use Rattle.fb_laws.specs.Sound.{AreGood}
-use Rattle.fb_system.specs.Lines.{BelongsTo}
-use Rattle.fb_resource.specs.Resources.{IsOf, mark_of}
-use Rattle.fb_resource.specs.declared.resource.Resource.{Resource}
-use Rattle.fb_laws.specs.Finality.{core_of}
-use Rattle.fb_window.specs.Frontiers.{AreLive}
-use Rattle.fb_window.specs.Standing.{IsAt}
-use Rattle.fb_window.specs.ManyTurns.{HasTurned, IsSeries, Leads, Single, TakesTurns, after_series}
-use Rattle.fb_window.specs.declared.cores.CoreState.{CoreState}
+use Rattle.fb_resource.specs.Resources.{mark_of}
+use Rattle.fb_window.specs.ManyTurns.{HasTurned, IsSeries, TakesTurns, after_series}
 use Rattle.fb_laws.proofs.lemmas.lists.Indexes.{has_at, is_at, one_at, push_counted}
 use Rattle.fb_window.proofs.lemmas.messages.Receives.{set_same}
 use Rattle.fb_window.proofs.lemmas.turns.OneTurn.{leads}

@@ -1,5 +1,4 @@
-use Rattle.std.proofs.Common.{◌≡◌, ℕ, ◌+◌, Some, get_or, slice_get, sym, subst, arith}
-use Rattle.std.proofs.lemmas.Option.{slice_get-get_or, slice_get_within}
+use Rattle.fb_types.proofs.Common.{◌≡◌, ℕ, ◌+◌, Some, get_or, slice_get, sym, subst, arith, slice_get-get_or, slice_get_within}
 use Rattle.fb_window.proofs.lemmas.bounds.NextTicks.{IsLeastTick, least_tick_less, least_tick_more, least_tick_none}
 use Rattle.fb_window.proofs.nexts.first_least.Goals as goal
 use Rattle.fb_window.proofs.nexts.first_least.Goals.{then-tick-least, else-tick-least}

@@ -1,7 +1,4 @@
-use Rattle.std.proofs.Common.{◌≡◌, List, [], All, length, sym, ap, subst, ◌∙◌}
-use Rattle.std.specs.Global.{Vec}
-use Rattle.std.proofs.lemmas.List.Elements.{All-push}
-use Rattle.fb_types.specs.declared.run.Line.{Line}
+use Rattle.fb_types.proofs.Common.{◌≡◌, List, [], All, length, sym, ap, subst, ◌∙◌, Vec, All-push, Line}
 use Rattle.fb_laws.proofs.lemmas.lists.Indexes.{push_counted}
 use Rattle.fb_window.proofs.open.no_lines.Goals as goal
 

@@ -1,7 +1,4 @@
-use Rattle.std.proofs.Common.{◌≡◌, Some, refl, sym, ◌∙◌, arith}
-use Rattle.std.specs.Prelude.{slice_get, vec_len}
-use Rattle.std.proofs.lemmas.Bool.{eqb-true}
-use Rattle.std.proofs.lemmas.Option.{slice_get_read}
+use Rattle.fb_types.proofs.Common.{◌≡◌, Some, refl, sym, ◌∙◌, arith, slice_get, vec_len, eqb-true, slice_get_read}
 use Rattle.fb_window.proofs.lemmas.phases.Targets.{empty_all, empty_more}
 use Rattle.fb_window.proofs.lemmas.lines.FoundLines.{no_length}
 use Rattle.fb_window.proofs.post.are_empty.Goals as goal

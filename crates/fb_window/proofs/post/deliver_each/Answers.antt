@@ -1,5 +1,4 @@
-use Rattle.std.proofs.Common.{◌++◌, ℕ, [], ◌∷◌, length, drop, refl, sym, ap, ◌∙◌, subst, append_assoc, arith, length-drop}
-use Rattle.std.specs.Vec.Iter.{into_iter_items}
+use Rattle.fb_types.proofs.Common.{◌++◌, ℕ, [], ◌∷◌, length, drop, refl, sym, ap, ◌∙◌, subst, append_assoc, arith, length-drop, into_iter_items}
 use Rattle.fb_window.proofs.lemmas.phases.Leaves.{length_join}
 use Rattle.fb_laws.proofs.lemmas.lists.Indexes.{drop_first, middle_at, push_counted}
 use Rattle.fb_window.proofs.lemmas.lines.FoundLines.{AreDeliveredTo, delivered_all, delivered_more}

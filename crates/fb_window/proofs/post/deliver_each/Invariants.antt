@@ -1,5 +1,4 @@
-use Rattle.std.proofs.Common.{◌≡◌, ◌++◌, length, drop}
-use Rattle.std.specs.Vec.Iter.{into_iter_items, into_iter_len}
+use Rattle.fb_types.proofs.Common.{◌≡◌, ◌++◌, length, drop, into_iter_items, into_iter_len}
 use Rattle.fb_window.proofs.lemmas.lines.FoundLines.{AreDeliveredTo}
 use Rattle.fb_window.proofs.post.deliver_each.Given as goal
 

@@ -1,9 +1,5 @@
-use Rattle.std.proofs.Common.{◌≡◌, All, List, [], subst}
-use Rattle.std.specs.Global.{Vec}
-use Rattle.fb_types.specs.Headline.{system_of}
-use Rattle.fb_types.specs.declared.run.Message.{Message}
+use Rattle.fb_window.proofs.lemmas.Common.{◌≡◌, All, List, [], subst, Vec, system_of, Message, all_of}
 use Rattle.fb_types.proofs.lemmas.lists.ByIndex.{all_at}
-use Rattle.fb_link.specs.Exchanges.{all_of}
 use Rattle.fb_window.specs.Mails.{AreDelivered}
 use Rattle.fb_window.proofs.lemmas.lines.FoundLines.{boxes_empty, posted_none, posted_of}
 use Rattle.fb_window.proofs.post.post.Goals as goal

@@ -1,7 +1,6 @@
-use Rattle.std.proofs.Common.{Bor, [], refl}
+use Rattle.fbsim_command.proofs.lemmas.Common.{Bor, [], refl, Memory}
 use Rattle.clap.specs.Words.{Text}
 use Rattle.fbsim_command.specs.Covering.{AreStopped}
-use Rattle.fbsim_command.specs.declared.failure.Failure.TheVariants.{Memory}
 use Rattle.fbsim_command.proofs.lemmas.calls.CoverageCalls.{gone-all, gone-more-of, stops-at-of}
 use Rattle.fbsim_command.proofs.lemmas.rules.HeldRules.{passed-on}
 use Rattle.fbsim_command.proofs.coverage.cover_all.Goals as goal

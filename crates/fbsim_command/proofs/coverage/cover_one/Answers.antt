@@ -1,9 +1,7 @@
-use Rattle.std.proofs.Common.{◌∙◌, Bool, Err, ap, inr, string_bytes, subst, sym}
+use Rattle.fbsim_command.proofs.lemmas.Common.{◌∙◌, Bool, Err, ap, inr, string_bytes, subst, sym, IsWrongIn, Failure}
 use Rattle.fb_inspect.specs.declared.error.InspectError.{InspectError}
 use Rattle.fbsim_command.specs.Covering.{IsStopped, RefusesAt, are_several}
 use Rattle.fbsim_command.proofs.lemmas.calls.CoverageCalls.{goes-on, open-noted, refused-at, stops-for-memory, unopened}
-use Rattle.fbsim_command.specs.WrongLines.{IsWrongIn}
-use Rattle.fbsim_command.specs.declared.failure.Failure.{Failure}
 use Rattle.fbsim_command.proofs.lemmas.calls.Inspecting.{wrong-covered}
 use Rattle.fbsim_command.proofs.coverage.cover_one.Goals as goal
 

@@ -1,6 +1,5 @@
-use Rattle.std.proofs.Common.{◌∙◌}
+use Rattle.fbsim_command.proofs.lemmas.Common.{◌∙◌, Memory}
 use Rattle.fbsim_command.specs.Covering.{AreStopped}
-use Rattle.fbsim_command.specs.declared.failure.Failure.TheVariants.{Memory}
 use Rattle.fbsim_command.proofs.lemmas.calls.CoverageCalls.{report_is}
 use Rattle.fbsim_command.proofs.lemmas.rules.HeldRules.{passed-on}
 use Rattle.fbsim_command.proofs.coverage.report.Goals as goal

@@ -1,10 +1,6 @@
-use Rattle.std.proofs.Common.{◌≡◌, ◌⊎◌, map, option_map, refl, string_bytes, subst, inl, inr}
-use Rattle.fb_sim.specs.Given.{Given}
+use Rattle.fbsim_command.proofs.lemmas.Common.{◌≡◌, ◌⊎◌, map, option_map, refl, string_bytes, subst, inl, inr, Given, Notes, NotesOf, Task, AreRead, IsUnread, given_of, lines_of}
 use Rattle.fbsim_command.specs.Covering.{WritesReport}
-use Rattle.fbsim_command.specs.Notes.{IsFileNote, Notes, NotesOf}
-use Rattle.fbsim_line.specs.declared.line.Task.{Task}
-use Rattle.fbsim_command.specs.Reading.{AreRead, IsUnread}
-use Rattle.fbsim_command.specs.Texts.{given_of, lines_of}
+use Rattle.fbsim_command.specs.Notes.{IsFileNote}
 use Rattle.fbsim_command.proofs.lemmas.calls.CoverageCalls.{noted-trace, reported-failure}
 use Rattle.fbsim_command.proofs.coverage.show_coverage.Goals as goal
 

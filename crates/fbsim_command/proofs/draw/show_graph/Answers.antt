@@ -1,9 +1,5 @@
-use Rattle.std.proofs.Common.{map, subst, inl}
-use Rattle.fb_sim.specs.Given.{Given}
+use Rattle.fbsim_command.proofs.lemmas.Common.{map, subst, inl, Given, Task, AreRead, given_of, lines_of}
 use Rattle.fbsim_command.specs.Drawing.{WritesGraph, type_asked}
-use Rattle.fbsim_line.specs.declared.line.Task.{Task}
-use Rattle.fbsim_command.specs.Reading.{AreRead}
-use Rattle.fbsim_command.specs.Texts.{given_of, lines_of}
 use Rattle.fbsim_command.proofs.draw.show_graph.Goals as goal
 
 pub returns : goal.returns

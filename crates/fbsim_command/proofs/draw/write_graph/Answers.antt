@@ -1,6 +1,4 @@
-use Rattle.std.proofs.Common.{option_map, refl, subst}
-use Rattle.std.specs.Io.KnownBytes.{Appends}
-use Rattle.fbsim_command.specs.declared.failure.Failure.TheVariants.{Memory}
+use Rattle.fbsim_command.proofs.lemmas.Common.{option_map, refl, subst, Appends, Memory}
 use Rattle.fbsim_command.proofs.lemmas.calls.Drawing.{drawn, refused, undeclared, undrawn, unwritten}
 use Rattle.fbsim_command.proofs.draw.write_graph.Goals as goal
 

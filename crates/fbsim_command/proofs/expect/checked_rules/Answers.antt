@@ -1,12 +1,6 @@
-use Rattle.std.proofs.Common.{◌∙◌, inr, option_map, ap, refl, subst, sym}
-use Rattle.fb_types.specs.Headline.{system_of}
-use Rattle.fb_sim.specs.Given.{Given}
-use Rattle.fb_sim.specs.Serial.{Declares}
+use Rattle.fbsim_command.proofs.lemmas.Common.{◌∙◌, inr, option_map, ap, refl, subst, sym, system_of, Given, Declares, failure_of, given_of, Refused}
 use Rattle.fbsim_command.specs.Expecting.{IsUnnamed, RefusesFor}
-use Rattle.fbsim_command.specs.Failures.{failure_of}
 use Rattle.fbsim_command.specs.Known.{has_names}
-use Rattle.fbsim_command.specs.Texts.{given_of}
-use Rattle.fbsim_command.specs.declared.failure.Failure.TheVariants.{Refused}
 use Rattle.fbsim_command.specs.declared.failure.RefusalLine.TheVariants.{Numbered}
 use Rattle.fbsim_command.proofs.lemmas.rules.HeldRules.{passed-on}
 use Rattle.fbsim_command.proofs.lemmas.rules.RuleNames.{alone, named, refused-inputs, refused-rules, unnamed}

@@ -1,6 +1,5 @@
-use Rattle.std.proofs.Common.{refl}
+use Rattle.fbsim_command.proofs.lemmas.Common.{refl, Memory}
 use Rattle.fbsim_command.specs.Comparing.{IsReported}
-use Rattle.fbsim_command.specs.declared.failure.Failure.TheVariants.{Memory}
 use Rattle.fbsim_command.proofs.lemmas.calls.DifferenceCalls.{parted, reported-of, not_reported, unread, wrote}
 use Rattle.fbsim_command.proofs.expect.compare.Goals as goal
 

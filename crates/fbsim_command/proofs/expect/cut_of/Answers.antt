@@ -1,5 +1,4 @@
-use Rattle.std.proofs.Common.{Bool, sym, ap}
-use Rattle.std.specs.Prelude.{if◌then◌else◌}
+use Rattle.fb_types.proofs.Common.{Bool, sym, ap, if◌then◌else◌}
 use Rattle.fb_expect.specs.declared.judging.Cut.TheVariants as cut
 use Rattle.fbsim_command.proofs.expect.cut_of.Goals as goal
 

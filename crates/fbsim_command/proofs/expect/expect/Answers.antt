@@ -1,8 +1,7 @@
-use Rattle.std.proofs.Common.{List, ℕ, option_map, inl, inr, string_bytes, subst}
+use Rattle.fbsim_command.proofs.lemmas.Common.{List, ℕ, option_map, inl, inr, string_bytes, subst, Holds, types_of, EndsIn, given_of}
 use Rattle.clap.specs.Words.{Text}
-use Rattle.fbsim_command.specs.Expecting.{Holds, NotesRules, own_of, types_of}
-use Rattle.fbsim_command.specs.OwnLines.{EndsIn}
-use Rattle.fbsim_command.specs.Texts.{given_of, may_lines_of}
+use Rattle.fbsim_command.specs.Expecting.{NotesRules, own_of}
+use Rattle.fbsim_command.specs.Texts.{may_lines_of}
 use Rattle.fbsim_command.proofs.lemmas.rules.Declaring.{read-and-held, unread}
 use Rattle.fbsim_command.proofs.expect.expect.Goals as goal
 

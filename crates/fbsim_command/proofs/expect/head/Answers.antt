@@ -1,5 +1,4 @@
-use Rattle.std.proofs.Common.{◌≡◌, ◌*◌, ◌∙◌, Bool, ℕ, if◌then◌else◌, length, subst, sym}
-use Rattle.std.specs.Prelude.{IfOk}
+use Rattle.fb_types.proofs.Common.{◌≡◌, ◌*◌, ◌∙◌, Bool, ℕ, if◌then◌else◌, length, subst, sym, IfOk}
 use Rattle.fb_expect.specs.Reports.{plan}
 use Rattle.fb_expect.specs.Suites.{suites_head}
 use Rattle.fbsim_command.proofs.expect.head.Goals as goal

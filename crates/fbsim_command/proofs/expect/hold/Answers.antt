@@ -1,6 +1,5 @@
-use Rattle.std.proofs.Common.{inr}
+use Rattle.fbsim_command.proofs.lemmas.Common.{inr, IsUnheld}
 use Rattle.fbsim_command.proofs.lemmas.rules.HeldRules.{held-one, passed-on, refused-at, unopened}
-use Rattle.fbsim_command.specs.Expecting.{IsUnheld}
 use Rattle.fbsim_command.proofs.expect.hold.Goals as goal
 
 pub returns-in_err-trace-clause-unheld : goal.returns-in_err-trace-clause-unheld

@@ -1,7 +1,6 @@
-use Rattle.std.proofs.Common.{List, option_map, subst}
+use Rattle.fbsim_command.proofs.lemmas.Common.{List, option_map, subst, AreUnheld, given_of}
 use Rattle.fb_expect.specs.declared.rule.Rule.{Rule}
-use Rattle.fbsim_command.specs.Expecting.{AreUnheld, Reports}
-use Rattle.fbsim_command.specs.Texts.{given_of}
+use Rattle.fbsim_command.specs.Expecting.{Reports}
 use Rattle.fbsim_command.proofs.lemmas.rules.HeldRules.{held-passed, met, unheld, unmet, unwritten}
 use Rattle.fbsim_command.proofs.lemmas.rules.RuleNames.{held-none}
 use Rattle.fbsim_command.proofs.expect.hold_rules.Goals as goal

@@ -1,7 +1,5 @@
-use Rattle.std.proofs.Common.{Bor, List, [], length, take, get_or, subst, ◌<◌, ◌≤◌}
-use Rattle.std.proofs.lemmas.List.{take_all}
+use Rattle.fbsim_command.proofs.lemmas.Common.{Bor, List, [], length, take, get_or, subst, ◌<◌, ◌≤◌, take_all, AreUnheld, IsUnheld}
 use Rattle.clap.specs.Words.{Text}
-use Rattle.fbsim_command.specs.Expecting.{AreUnheld, IsUnheld}
 use Rattle.fbsim_command.proofs.lemmas.rules.HeldRules.{comes-to, passed-on, puts-all, puts-more-of, puts-none, unheld-at}
 use Rattle.fbsim_command.proofs.expect.put_all.Goals as goal
 

@@ -1,5 +1,4 @@
-use Rattle.fbsim_command.specs.Expecting.{IsUnheld}
-use Rattle.fbsim_command.specs.declared.failure.Failure.TheVariants.{Memory}
+use Rattle.fbsim_command.proofs.lemmas.Common.{IsUnheld, Memory}
 use Rattle.fbsim_command.proofs.lemmas.rules.HeldRules.{passed-on, put-one}
 use Rattle.fbsim_command.proofs.expect.put_one.Goals as goal
 

@@ -1,5 +1,4 @@
-use Rattle.fbsim_command.specs.Expecting.{AreUnheld}
-use Rattle.fbsim_command.specs.declared.failure.Failure.TheVariants.{Memory}
+use Rattle.fbsim_command.proofs.lemmas.Common.{AreUnheld, Memory}
 use Rattle.fbsim_command.proofs.lemmas.rules.HeldRules.{passed-on, rules_reported}
 use Rattle.fbsim_command.proofs.expect.report.Goals as goal
 

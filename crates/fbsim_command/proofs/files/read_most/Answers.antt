@@ -1,7 +1,6 @@
-use Rattle.std.proofs.Common.{arith, ◌≡◌, ◌∙◌, ◌<◌, ◌≤◌, ◌++◌, ℕ, List, Vec, Global, length, take, drop, vec_len, ap, subst, sym}
-use Rattle.std.proofs.lemmas.List.{length-take, take-append-le}
-use Rattle.std.specs.Io.KnownBytes.{Consumes}
-use Rattle.std.proofs.KnownBytes.{Consumes-kept, Consumes-nil, Consumes-trans}
+use Rattle.fb_types.proofs.Common.{arith, ◌≡◌, ◌∙◌, ◌<◌, ◌≤◌, ◌++◌, ℕ, List, length, take, drop, vec_len, ap, subst, sym, length-take, take-append-le, Consumes, Consumes-trans}
+use Rattle.std.proofs.Common.{Vec, Global}
+use Rattle.std.proofs.KnownBytes.{Consumes-kept, Consumes-nil}
 use Rattle.fbsim_command.proofs.lemmas.files.FirstBytes.{front_ended, front_full}
 use Rattle.fbsim_command.proofs.files.read_most.Goals.{in-Ok+in-Ok-extend_from_slice, in-Err}
 use Rattle.fbsim_command.proofs.files.read_most.Goals as goal

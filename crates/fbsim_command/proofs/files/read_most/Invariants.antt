@@ -1,5 +1,4 @@
-use Rattle.std.proofs.Common.{◌≤◌, vec_len}
-use Rattle.std.specs.Io.KnownBytes.{Consumes}
+use Rattle.fb_types.proofs.Common.{◌≤◌, vec_len, Consumes}
 use Rattle.fbsim_command.proofs.files.read_most.Given as goal
 
 abbrev pub invariant-loop : goal.invariant-loop

@@ -1,18 +1,14 @@
-use Rattle.std.proofs.Common.{◌≡◌, ◌≤◌, Bor, List, map, subst, ap, ◌∙◌}
-use Rattle.std.specs.Prelude.{IfSome, OnErr, OnOk}
+use Rattle.fbsim_command.proofs.lemmas.Common.{◌≡◌, ◌≤◌, Bor, List, map, subst, ap, ◌∙◌, IfSome, OnErr, OnOk, system_of, Cut, IsWrongIn}
 use Rattle.clap.specs.Words.{Text}
-use Rattle.fb_types.specs.Headline.{system_of}
 use Rattle.fb_inspect.specs.Inspections.{IsShownBy, ShowsFront}
 use Rattle.fb_inspect.specs.Selections.{Selection}
 use Rattle.fb_inspect.specs.declared.filter.EventFilter.{EventFilter}
 use Rattle.fb_inspect.proofs.lemmas.walk.Ended.{front_none}
-use Rattle.fb_wave.specs.declared.truncation.Cut.{Cut}
 use Rattle.fbsim_command.specs.Inspecting.{cut_of, selection_of, upper}
 use Rattle.fbsim_command.proofs.lemmas.calls.Inspecting.{no_refusal, on_err_any, wrong_so}
 use Rattle.fb_inspect.specs.Refusals.{IsWrongAt}
 use Rattle.fb_inspect.specs.walk.Looks.{most}
 use Rattle.fb_wave.specs.Named.{HasNames}
-use Rattle.fbsim_command.specs.WrongLines.{IsWrongIn}
 use Rattle.fbsim_command.proofs.inspect.go.Goals as goal
 
 pub returns-in_err-only-clause-fault : goal.returns-in_err-only-clause-fault

@@ -1,8 +1,5 @@
-use Rattle.std.proofs.Common.{◌≡◌, ℕ, List, ◌+◌, ◌++◌, [], ◌∷◌, get_or, map, take, sym, subst, ap, ◌∙◌, arith}
+use Rattle.fb_types.proofs.Common.{◌≡◌, ℕ, List, ◌+◌, ◌++◌, [], ◌∷◌, get_or, map, take, sym, subst, ap, ◌∙◌, arith, IfOk, take_at_read, map-append, take_all}
 use Rattle.std.specs.Char.{to_ascii_uppercase}
-use Rattle.std.specs.Prelude.{IfOk}
-use Rattle.std.proofs.lemmas.Grind.{take_at_read}
-use Rattle.std.proofs.lemmas.List.{map-append, take_all}
 use Rattle.fbsim_command.proofs.inspect.path_of.Goals as goal
 
 pub push_reserved-requires : goal.push_reserved-requires

@@ -1,5 +1,4 @@
-use Rattle.std.proofs.Common.{map, option_map, string_bytes}
-use Rattle.fbsim_command.specs.Texts.{given_of, lines_of}
+use Rattle.fbsim_command.proofs.lemmas.Common.{map, option_map, string_bytes, given_of, lines_of}
 use Rattle.fbsim_command.proofs.lemmas.calls.Inspecting.{not_opened, not_read, read_and_inspected}
 use Rattle.fbsim_command.proofs.inspect.show_insides.Goals as goal
 

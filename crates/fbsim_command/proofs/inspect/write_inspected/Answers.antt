@@ -1,11 +1,6 @@
-use Rattle.std.proofs.Common.{Err, string_bytes, subst, sym}
-use Rattle.std.specs.Prelude.{IfErr, IfSome, OnErr, OnOk}
-use Rattle.fb_inspect.specs.Refusals.{OfRefusal}
-use Rattle.fbsim_command.specs.WrongLines.{IsWrongIn}
-use Rattle.fb_types.specs.Headline.{system_of}
+use Rattle.fbsim_command.proofs.lemmas.Common.{Err, string_bytes, subst, sym, IfErr, IfSome, OnErr, OnOk, system_of, OfRefusal, IsWrongIn, Failure}
 use Rattle.fb_inspect.specs.Inspections.{IsShownBy, ShowsFront}
 use Rattle.fbsim_command.specs.Inspecting.{Inspects, cut_of, selection_of}
-use Rattle.fbsim_command.specs.declared.failure.Failure.{Failure}
 use Rattle.fbsim_command.proofs.lemmas.calls.Inspecting.{inspects_front, inspects_none, line_noted_inside, none_noted_inside}
 use Rattle.fbsim_command.proofs.inspect.write_inspected.Goals as goal
 

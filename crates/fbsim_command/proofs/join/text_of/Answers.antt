@@ -1,6 +1,5 @@
-use Rattle.std.proofs.Common.{◌∙◌, sym, ap, length, List, ℕ, nat_lt}
+use Rattle.fbsim_command.proofs.lemmas.Common.{◌∙◌, sym, ap, length, List, ℕ, nat_lt, texts_of}
 use Rattle.fb_read.specs.Whole.{most_bytes}
-use Rattle.fbsim_command.specs.Texts.{texts_of}
 use Rattle.fbsim_command.proofs.lemmas.files.OpenLaws.{text-long, text-ok}
 use Rattle.fbsim_command.proofs.join.text_of.Goals as goal
 

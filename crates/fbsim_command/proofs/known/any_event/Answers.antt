@@ -1,7 +1,4 @@
-use Rattle.std.proofs.Common.{List, ap, sym, ◌∙◌}
-use Rattle.fb_types.specs.Headline.{system_of}
-use Rattle.fb_types.specs.declared.library.EventPort.{EventPort}
-use Rattle.fb_types.specs.declared.library.Ports.{Ports}
+use Rattle.fb_types.proofs.Common.{List, ap, sym, ◌∙◌, system_of, EventPort, Ports}
 use Rattle.fbsim_command.specs.Known.{events_of, numbered}
 use Rattle.fbsim_command.proofs.lemmas.rules.SomeNumber.{event-there}
 use Rattle.fbsim_command.proofs.known.any_event.Goals as goal

@@ -1,5 +1,4 @@
-use Rattle.std.proofs.Common.{◌≡◌, drop}
-use Rattle.fb_types.specs.Headline.{system_of}
+use Rattle.fb_types.proofs.Common.{◌≡◌, drop, system_of}
 use Rattle.fbsim_command.specs.Known.{has_names}
 use Rattle.fbsim_command.proofs.known.has_names.Given as goal
 

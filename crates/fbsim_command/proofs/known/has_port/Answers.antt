@@ -1,5 +1,4 @@
-use Rattle.std.proofs.Common.{◌||◌, Bool, ap, false, sym, ◌∙◌}
-use Rattle.fb_types.specs.Headline.{system_of}
+use Rattle.fb_types.proofs.Common.{◌||◌, Bool, ap, false, sym, ◌∙◌, system_of}
 use Rattle.fbsim_command.specs.Known.{any_event}
 use Rattle.fbsim_command.proofs.lemmas.rules.SomeNumber.{port-there}
 use Rattle.fbsim_command.proofs.known.has_port.Goals as goal

@@ -1,5 +1,4 @@
-use Rattle.std.proofs.Common.{◌≡◌, false}
-use Rattle.fb_types.specs.Headline.{system_of}
+use Rattle.fb_types.proofs.Common.{◌≡◌, false, system_of}
 use Rattle.fbsim_command.specs.Known.{any_below, any_port}
 use Rattle.fbsim_command.proofs.known.has_port.Given as goal
 

@@ -1,6 +1,4 @@
-use Rattle.std.proofs.Common.{Option, length, refl, subst}
-use Rattle.std.specs.Prelude.{IfSome}
-use Rattle.std.proofs.lemmas.Option.{slice_get_read}
+use Rattle.fb_types.proofs.Common.{Option, length, refl, subst, IfSome, slice_get_read}
 use Rattle.fb_expect.specs.declared.location.RuleKey.{RuleKey}
 use Rattle.fbsim_command.specs.OfSystem.{IsUnknownKey}
 use Rattle.fbsim_command.proofs.known.unknown_location.Goals as goal

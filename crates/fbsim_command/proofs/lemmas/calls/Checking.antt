@@ -1,21 +1,13 @@
 -- How a call that checks its inputs ends.
-use Rattle.std.proofs.Common.{◌≡◌, ℕ, Bool, Option, Some, None, Ok, Err, codes, refl, sym, subst}
-use Rattle.std.specs.Prelude.{IsErrAnd}
-use Rattle.fb_read.specs.declared.error.ReadError.{ReadError}
+use Rattle.fbsim_command.proofs.lemmas.Common.{◌≡◌, ℕ, Bool, Option, Some, None, Ok, Err, codes, refl, sym, subst, IsErrAnd, ReadError, Given, IsRefusal, IsRightly, RunError, WritesPart, failure_of, numbered_input, End, Held, Failure, Refused, RefusedTrace, File, Write, Memory, Line, BadOption}
 use Rattle.fb_read.specs.declared.error.ReadError.TheVariants as read
 use Rattle.fb_check.specs.Refusals as check
 use Rattle.fb_inputs.specs.Refusals as input
-use Rattle.fb_sim.specs.Given.{Given}
-use Rattle.fb_sim.specs.Serial.{IsDeclared, IsRefusal, IsRightly}
+use Rattle.fb_sim.specs.Serial.{IsDeclared}
 use Rattle.fb_sim.specs.declared.outcome.Refusal as sim
 use Rattle.fb_sim.specs.declared.outcome.Refusal.TheVariants as of
-use Rattle.fb_sim.specs.declared.outcome.RunError.{RunError}
 use Rattle.fb_sim.specs.declared.outcome.RunError.TheVariants as run
 use Rattle.fbsim_command.specs.Command.{Checks}
-use Rattle.fbsim_command.specs.Failures.{WritesPart, failure_of, numbered_input}
-use Rattle.fbsim_command.specs.Outcomes.{End, Held}
-use Rattle.fbsim_command.specs.declared.failure.Failure.{Failure}
-use Rattle.fbsim_command.specs.declared.failure.Failure.TheVariants.{Refused, RefusedTrace, File, Write, Memory, Line, BadOption}
 
 -- a failure that is passed on
 pub checked : (lint : Bool) (given : Given) (old new : Held) (r : End) (f : Failure) → IsErrAnd r (λ g. g ≡ f) → Checks lint given old new (Err f) → Checks lint given old new r

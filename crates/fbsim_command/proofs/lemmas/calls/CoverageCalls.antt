@@ -1,38 +1,22 @@
 -- Traces that are gone through one after the other, and how the report of what they cover ends.
-use Rattle.std.proofs.Common.{◌≡◌, ◌<◌, ◌≤◌, ◌+◌, ◌⊎◌, ℕ, Bool, true, false, Bor, List, [], ◌∷◌, ◌++◌, drop, get_or, length, map, option_map, take, codes, Option, Some, None, Result, Ok, Err, refl, sym, ◌∙◌, ap, subst, inl, inr}
-use Rattle.std.specs.Io.KnownBytes.{Appends}
-use Rattle.std.specs.Prelude.{IfErr, IfOk, IfSome, IsErrAnd, IsTrue}
-use Rattle.std.proofs.lemmas.List.{drop_more, map-append, take-append-drop, take_all, take_more}
+use Rattle.fbsim_command.proofs.lemmas.Common.{◌≡◌, ◌<◌, ◌≤◌, ◌+◌, ◌⊎◌, ℕ, Bool, true, false, Bor, List, [], ◌∷◌, ◌++◌, drop, get_or, length, map, option_map, take, codes, Option, Some, None, Result, Ok, Err, refl, sym, ◌∙◌, ap, subst, inl, inr, Appends, IfErr, IfOk, IfSome, IsTrue, drop_more, map-append, take-append-drop, take_all, take_more, Inputs, system_of, IsErrAnd, ReadError, Given, Declares, IsRefusal, IsRightly, RunError, Cut, WritesPart, failure_of, failure_of_source, numbered_input, Notes, NotesOf, End, Held, IsWrongIn, Opening, Failure, Refused, RefusedTrace, File, Write, Memory, Line, BadOption, SourceFault}
 use Rattle.clap.specs.Words.{Text}
-use Rattle.fb_types.specs.Headline.{Inputs, system_of}
-use Rattle.fb_read.specs.declared.error.ReadError.{ReadError}
 use Rattle.fb_read.specs.declared.error.ReadError.TheVariants as read
 use Rattle.fb_check.specs.Refusals as check
 use Rattle.fb_inputs.specs.Refusals as input
-use Rattle.fb_sim.specs.Given.{Given}
-use Rattle.fb_sim.specs.Serial.{Declares, IsRefusal, IsRightly}
 use Rattle.fb_sim.specs.declared.outcome.Refusal as sim
 use Rattle.fb_sim.specs.declared.outcome.Refusal.TheVariants as of
-use Rattle.fb_sim.specs.declared.outcome.RunError.{RunError}
 use Rattle.fb_sim.specs.declared.outcome.RunError.TheVariants as run
 use Rattle.fb_coverage.specs.Reports.{report_text}
 use Rattle.fb_coverage.specs.declared.marks.Marks.{Marks}
 use Rattle.fb_inspect.specs.Covering.{Covers}
 use Rattle.fb_inspect.specs.declared.walk.Extent.{Extent}
-use Rattle.fb_wave.specs.declared.truncation.Cut.{Cut}
 use Rattle.fbsim_command.specs.Covering.{AreGoneThrough, AreStopped, GoThrough, GoesThrough, IsFirst, IsReport, IsStopped, IsUnreported, NotesTrace, RefusesAt, StopsAt, WritesReport, are_several, cut_count, coverage_text, covered_by, cut_line, cut_of, files_of, is_too_little, note_front}
-use Rattle.fbsim_command.specs.Failures.{WritesPart, failure_of, failure_of_source, numbered_input}
 use Rattle.fbsim_command.specs.InsideNotes.{SaysLine}
-use Rattle.fbsim_command.specs.Notes.{IsNoteOfName, Notes, NotesOf, rest_note}
-use Rattle.fbsim_command.specs.Outcomes.{End, Held}
-use Rattle.fbsim_command.specs.WrongLines.{IsWrongIn}
-use Rattle.fbsim_command.specs.Showing.{Opening}
+use Rattle.fbsim_command.specs.Notes.{IsNoteOfName, rest_note}
 use Rattle.fbsim_line.specs.declared.coverage_line.Coverage.{Coverage}
 use Rattle.fbsim_command.specs.declared.coverage.Gleaned.{Gleaned}
 use Rattle.fbsim_command.specs.declared.statuses.Done.{Done}
-use Rattle.fbsim_command.specs.declared.failure.Failure.{Failure}
-use Rattle.fbsim_command.specs.declared.failure.Failure.TheVariants.{Refused, RefusedTrace, File, Write, Memory, Line, BadOption}
-use Rattle.fbsim_command.specs.declared.sources.SourceFault.{SourceFault}
 use Rattle.fbsim_command.specs.declared.sources.SourceFault.TheVariants as source
 
 abbrev pub now : Bor Text → Text

@@ -1,7 +1,5 @@
 -- Two traces that are compared.
-use Rattle.std.proofs.Common.{◌≡◌, Option, Some, Ok, Err, refl, sym, ap, subst, inr}
-use Rattle.std.specs.Prelude.{IsErrAnd}
-use Rattle.std.specs.Io.KnownBytes.{Appends}
+use Rattle.fbsim_command.proofs.lemmas.Common.{◌≡◌, Option, Some, Ok, Err, refl, sym, ap, subst, inr, Appends, IsErrAnd, WritesPart, failure_of_source, End, Held, Opening, Failure, Refused, RefusedTrace, File, Write, Memory, Line, BadOption, SourceFault}
 use Rattle.clap.specs.Words.{Text}
 use Rattle.fb_expect.specs.Parting.{MayPart}
 use Rattle.fb_expect.specs.DifferenceReport.{ShowsDifference}
@@ -10,13 +8,8 @@ use Rattle.fb_expect.specs.declared.lines.ReadFault.TheVariants as line_fault
 use Rattle.fb_expect.specs.declared.parting.Difference.{Difference}
 use Rattle.fbsim_command.specs.declared.statuses.Done.TheVariants.{Different}
 use Rattle.fbsim_command.specs.Comparing.{AreUnopened, Compares, Differs, IsReported}
-use Rattle.fbsim_command.specs.Failures.{WritesPart, failure_of_source, failure_of_trace}
-use Rattle.fbsim_command.specs.Outcomes.{End, Held}
-use Rattle.fbsim_command.specs.Showing.{Opening}
+use Rattle.fbsim_command.specs.Failures.{failure_of_trace}
 use Rattle.fbsim_line.specs.declared.bench_line.Diff.{Diff}
-use Rattle.fbsim_command.specs.declared.failure.Failure.{Failure}
-use Rattle.fbsim_command.specs.declared.failure.Failure.TheVariants.{Refused, RefusedTrace, File, Write, Memory, Line, BadOption}
-use Rattle.fbsim_command.specs.declared.sources.SourceFault.{SourceFault}
 
 -- a failure that is passed on
 pub parted : (d : Diff) (first second a b : Held) (r : End) (f : Failure) → IsErrAnd r (λ g. g ≡ f) → Differs d first second a b (Err f) → Differs d first second a b r

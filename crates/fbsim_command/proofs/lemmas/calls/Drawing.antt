@@ -1,28 +1,16 @@
 -- How a call for a graph ends.
-use Rattle.std.proofs.Common.{◌≡◌, ℕ, List, Option, Some, None, Result, Ok, Err, refl, sym, ◌∙◌, ap, subst, inl, inr}
-use Rattle.std.specs.Global.{Vec}
-use Rattle.std.specs.Prelude.{IfOk, IsErrAnd, option_and_then, option_map}
+use Rattle.fbsim_command.proofs.lemmas.Common.{◌≡◌, ℕ, List, Option, Some, None, Result, Ok, Err, refl, sym, ◌∙◌, ap, subst, inl, inr, Vec, IfOk, option_map, Inputs, Library, IsErrAnd, ReadError, Given, Declares, IsRefusal, IsRightly, RunError, WritesPart, failure_of, numbered_input, End, Held, Failure, Refused, RefusedTrace, File, Write, Memory, Line, BadOption}
+use Rattle.fb_types.proofs.Common.{option_and_then, Plan}
 use Rattle.clap.specs.Words.{Text}
-use Rattle.fb_types.specs.Headline.{Inputs}
-use Rattle.fb_types.specs.declared.deploy.Plan.{Plan}
-use Rattle.fb_types.specs.declared.library.Library.{Library}
 use Rattle.fb_draw.specs.Drawings.{graph_text}
 use Rattle.fb_inputs.specs.Words.{name}
-use Rattle.fb_read.specs.declared.error.ReadError.{ReadError}
 use Rattle.fb_read.specs.declared.error.ReadError.TheVariants as read
 use Rattle.fb_check.specs.Refusals as check
 use Rattle.fb_inputs.specs.Refusals as input
-use Rattle.fb_sim.specs.Given.{Given}
-use Rattle.fb_sim.specs.Serial.{Declares, IsRefusal, IsRightly}
 use Rattle.fb_sim.specs.declared.outcome.Refusal as sim
 use Rattle.fb_sim.specs.declared.outcome.Refusal.TheVariants as of
-use Rattle.fb_sim.specs.declared.outcome.RunError.{RunError}
 use Rattle.fb_sim.specs.declared.outcome.RunError.TheVariants as run
 use Rattle.fbsim_command.specs.Drawing.{IsGraph, IsUndrawn, WritesGraph, graph_of}
-use Rattle.fbsim_command.specs.Failures.{WritesPart, failure_of, numbered_input}
-use Rattle.fbsim_command.specs.Outcomes.{End, Held}
-use Rattle.fbsim_command.specs.declared.failure.Failure.{Failure}
-use Rattle.fbsim_command.specs.declared.failure.Failure.TheVariants.{Refused, RefusedTrace, File, Write, Memory, Line, BadOption}
 use Rattle.fbsim_command.specs.declared.failure.RefusalLine.TheVariants.{Numbered}
 
 -- ---- What is drawn

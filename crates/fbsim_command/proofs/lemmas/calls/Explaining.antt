@@ -1,13 +1,9 @@
 -- What an output gets of an explanation.
-use Rattle.std.proofs.Common.{◌≡◌, ◌∙◌, ℕ, true, List, Option, Result, Ok, Err, sym, subst}
-use Rattle.std.specs.Prelude.{IsErrAnd}
-use Rattle.std.specs.Io.KnownBytes.{Appends}
+use Rattle.fbsim_command.proofs.lemmas.Common.{◌≡◌, ◌∙◌, ℕ, true, List, Option, Result, Ok, Err, sym, subst, Appends, IsErrAnd, WritesPart, Failure, Refused, RefusedTrace, File, Write, Memory, Line, BadOption}
 use Rattle.std.specs.Str.{str_eq_ignore_ascii_case}
 use Rattle.fb_why.specs.declared.table.Explanation.{Explanation}
 use Rattle.fbsim_command.specs.Command.{ExplainsRefusal, IsRefusalName}
-use Rattle.fbsim_command.specs.Failures.{IsPartWritten, WritesPart, explained_text}
-use Rattle.fbsim_command.specs.declared.failure.Failure.{Failure}
-use Rattle.fbsim_command.specs.declared.failure.Failure.TheVariants.{Refused, RefusedTrace, File, Write, Memory, Line, BadOption}
+use Rattle.fbsim_command.specs.Failures.{IsPartWritten, explained_text}
 use Rattle.fbsim_command.specs.declared.statuses.Done.{Done}
 use Rattle.fbsim_command.specs.declared.statuses.Done.TheVariants.{Explained}
 

@@ -1,39 +1,25 @@
 -- How a call that inspects a trace ends.
-use Rattle.std.proofs.Common.{◌≡◌, ◌≤◌, ◌⊎◌, ℕ, Bool, List, Option, Some, None, Result, Ok, Err, codes, decimal, option_map, ◌++◌, inl, inr, refl, sym, ap, subst, ◌∙◌}
-use Rattle.std.specs.Prelude.{IfErr, IfSome, IsErrAnd, IsTrue, OnErr}
-use Rattle.fb_inspect.specs.Refusals.{IsWrongAt, OfRefusal}
+use Rattle.fbsim_command.proofs.lemmas.Common.{◌≡◌, ◌≤◌, ◌⊎◌, ℕ, Bool, List, Option, Some, None, Result, Ok, Err, codes, option_map, ◌++◌, inl, inr, refl, sym, ap, subst, ◌∙◌, IfErr, IfSome, IsTrue, OnErr, Inputs, system_of, IsErrAnd, OfRefusal, ReadError, Given, Declares, IsRefusal, IsRightly, RunError, failure_of, failure_of_source, numbered_input, Notes, NotesOf, End, Held, IsWrongIn, EndsIn, Reading, AreRead, IsUnread, Opening, Failure, Task, SourceFault, Part}
+use Rattle.fb_types.proofs.Common.{decimal}
+use Rattle.fb_inspect.specs.Refusals.{IsWrongAt}
 use Rattle.fb_inspect.specs.walk.Looks.{most}
 use Rattle.fb_wave.specs.Named.{HasNames}
-use Rattle.fb_types.specs.Headline.{Inputs, system_of}
-use Rattle.fb_read.specs.declared.error.ReadError.{ReadError}
 use Rattle.fb_read.specs.declared.error.ReadError.TheVariants as read
 use Rattle.fb_check.specs.Refusals as check
 use Rattle.fb_inputs.specs.Refusals as input
 use Rattle.fb_inspect.specs.Inspections.{ShowsFront}
 use Rattle.fb_inspect.specs.declared.error.InspectError.{InspectError}
 use Rattle.fb_inspect.specs.declared.error.InspectError.TheVariants as inspection
-use Rattle.fb_sim.specs.Given.{Given}
-use Rattle.fb_sim.specs.Serial.{Declares, IsRefusal, IsRightly}
 use Rattle.fb_sim.specs.declared.outcome.Refusal as sim
 use Rattle.fb_sim.specs.declared.outcome.Refusal.TheVariants as of
-use Rattle.fb_sim.specs.declared.outcome.RunError.{RunError}
 use Rattle.fb_sim.specs.declared.outcome.RunError.TheVariants as run
 use Rattle.clap.specs.Words.{Text}
-use Rattle.fbsim_command.specs.Failures.{failure_of, failure_of_inspection, failure_of_source, numbered_input}
+use Rattle.fbsim_command.specs.Failures.{failure_of_inspection}
 use Rattle.fbsim_command.specs.InsideNotes.{IsOpenNote, NotesInside, SaysLine}
 use Rattle.fbsim_command.specs.Inspecting.{Inspects, ShowsInsides, files_of, selection_of}
-use Rattle.fbsim_command.specs.Notes.{IsFileNote, Notes, NotesOf, NotesRest}
-use Rattle.fbsim_command.specs.Outcomes.{End, Held}
-use Rattle.fbsim_command.specs.WrongLines.{IsWrongIn}
-use Rattle.fbsim_command.specs.OwnLines.{EndsIn}
-use Rattle.fbsim_command.specs.Reading.{Reading, AreRead, IsUnread}
-use Rattle.fbsim_command.specs.Showing.{Opening}
-use Rattle.fbsim_command.specs.declared.failure.Failure.{Failure}
+use Rattle.fbsim_command.specs.Notes.{IsFileNote, NotesRest}
 use Rattle.fbsim_line.specs.declared.inspect_line.Inspect.{Inspect}
-use Rattle.fbsim_line.specs.declared.line.Task.{Task}
-use Rattle.fbsim_command.specs.declared.sources.SourceFault.{SourceFault}
 use Rattle.fbsim_command.proofs.lemmas.notes.NotedLines.{noted_so}
-use Rattle.fbsim_command.specs.declared.texts.Part.{Part}
 
 -- whatever the call answers
 pub on_err_any : {A E : Type 0} (r : Result A E) (P : Type 0) → P → OnErr r P

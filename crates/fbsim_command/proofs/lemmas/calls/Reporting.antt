@@ -1,15 +1,11 @@
 -- What is reported of the progress of a run, and then of how a call ends.
-use Rattle.std.proofs.Common.{◌≡◌, ◌∙◌, ◌&&◌, ◌++◌, Bool, true, false, List, [], ℕ, Option, Some, None, inl, option_map, refl, sym, ap, subst, append-nil, string_bytes}
-use Rattle.std.specs.Prelude.{IsTrue, IfErr, IfOk, OnOk, Result, Ok, Err}
-use Rattle.std.specs.Io.KnownBytes.{Appends}
-use Rattle.std.proofs.KnownBytes.{Appends-nil, Appends-trans}
+use Rattle.fbsim_command.proofs.lemmas.Common.{◌≡◌, ◌∙◌, ◌&&◌, ◌++◌, Bool, true, false, List, [], ℕ, Option, Some, None, inl, option_map, refl, sym, ap, subst, append-nil, string_bytes, IsTrue, IfErr, IfOk, OnOk, Result, Ok, Err, Appends, ReadError, Given, RunError, Hears, IsRightly, WritesPart, failure_of, numbered_input, Failure, End, Held, Refused, RefusedTrace, File, Write, Memory, Line, BadOption}
+use Rattle.fb_types.proofs.Common.{Appends-nil, Appends-trans}
 use Rattle.clap.specs.Words.{Text}
 use Rattle.fbsim_line.specs.Line.{AskHelp}
-use Rattle.fb_read.specs.declared.error.ReadError.{ReadError}
 use Rattle.fb_read.specs.declared.error.ReadError.TheVariants as read
 use Rattle.fb_check.specs.Refusals as check
 use Rattle.fb_inputs.specs.Refusals as input
-use Rattle.fb_sim.specs.Given.{Given}
 use Rattle.fb_sim.specs.Rounds.{FailsRun}
 use Rattle.fb_sim.specs.declared.outcome.Refusal as sim
 use Rattle.fb_sim.specs.declared.outcome.Refusal.TheVariants as of
@@ -17,16 +13,11 @@ use Rattle.fb_sim.specs.declared.outcome.RunError.TheVariants as run
 use Rattle.fb_sim.specs.declared.options.Options.{Options}
 use Rattle.fb_trace.specs.declared.last.Outcome.{Outcome}
 use Rattle.fb_trace.specs.declared.last.Outcome.TheVariants as sim_end
-use Rattle.fb_sim.specs.declared.outcome.RunError.{RunError}
-use Rattle.fb_sim.specs.Reports.{AreReports, Hears}
+use Rattle.fb_sim.specs.Reports.{AreReports}
 use Rattle.fb_trace.specs.End.{ending_of}
-use Rattle.fb_sim.specs.Serial.{AreWithin, IsRightly, Writes}
+use Rattle.fb_sim.specs.Serial.{AreWithin, Writes}
 use Rattle.fbsim_command.specs.Command.{Explains, IsDoneOf, IsEndOf, ReportsOn, Runs}
-use Rattle.fbsim_command.specs.Failures.{WritesPart, failure_of, numbered_input}
-use Rattle.fbsim_command.specs.declared.failure.Failure.{Failure}
-use Rattle.fbsim_command.specs.Outcomes.{End, Held}
 use Rattle.fbsim_command.specs.declared.program.Answer.{Answer}
-use Rattle.fbsim_command.specs.declared.failure.Failure.TheVariants.{Refused, RefusedTrace, File, Write, Memory, Line, BadOption}
 use Rattle.fbsim_command.specs.declared.statuses.Done.{Done}
 use Rattle.fbsim_command.specs.declared.statuses.Done.TheVariants.{Helped}
 

@@ -1,25 +1,16 @@
 -- How a call for waveforms with the inside of basic blocks ends where there are none, or no whole ones.
-use Rattle.std.proofs.Common.{◌≡◌, ℕ, Option, Some, None, Err, inl, inr, refl}
-use Rattle.fb_types.specs.Headline.{Inputs, system_of}
-use Rattle.fb_read.specs.declared.error.ReadError.{ReadError}
+use Rattle.fbsim_command.proofs.lemmas.Common.{◌≡◌, ℕ, Option, Some, None, Err, inl, inr, refl, Inputs, system_of, ReadError, Given, Declares, IsRefusal, IsRightly, RunError, Cut, failure_of, numbered_input, Held, OfRefusal, IsWrongIn}
 use Rattle.fb_read.specs.declared.error.ReadError.TheVariants as read
 use Rattle.fb_check.specs.Refusals as check
 use Rattle.fb_inputs.specs.Refusals as input
 use Rattle.fb_inspect.specs.declared.error.InspectError.{InspectError}
 use Rattle.fb_inspect.specs.declared.error.InspectError.TheVariants as inspection
-use Rattle.fb_sim.specs.Given.{Given}
-use Rattle.fb_sim.specs.Serial.{Declares, IsRefusal, IsRightly}
 use Rattle.fb_sim.specs.declared.outcome.Refusal as sim
 use Rattle.fb_sim.specs.declared.outcome.Refusal.TheVariants as of
-use Rattle.fb_sim.specs.declared.outcome.RunError.{RunError}
 use Rattle.fb_sim.specs.declared.outcome.RunError.TheVariants as run
-use Rattle.fb_wave.specs.declared.truncation.Cut.{Cut}
 use Rattle.fb_inspect.specs.StateWaves.{WritesFront}
-use Rattle.fbsim_command.specs.Failures.{failure_of, failure_of_inspection, numbered_input}
-use Rattle.fbsim_command.specs.Outcomes.{Held}
-use Rattle.fb_inspect.specs.Refusals.{OfRefusal}
+use Rattle.fbsim_command.specs.Failures.{failure_of_inspection}
 use Rattle.fbsim_command.specs.StateDumping.{DumpsStates}
-use Rattle.fbsim_command.specs.WrongLines.{IsWrongIn}
 
 -- nothing is written where the inputs are refused
 pub states_none : (may : Cut) (steps : ℕ) (given : Given) (trace old : Held) (error : RunError) → IsRefusal given error → DumpsStates may steps given trace old old (Err (failure_of error))

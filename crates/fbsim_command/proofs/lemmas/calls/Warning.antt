@@ -1,20 +1,13 @@
 -- Warnings about inputs that are accepted.
-use Rattle.std.proofs.Common.{◌≡◌, ℕ, ◌≤◌, List, [], ◌∷◌, Bool, true, length, take, drop, take-append-drop, drop_of_length-le, Option, Some, None, refl, sym, subst, arith}
-use Rattle.std.specs.Prelude.{IsTrue}
-use Rattle.std.specs.Io.KnownBytes.{Appends}
-use Rattle.fb_read.specs.declared.error.ReadError.{ReadError}
+use Rattle.fbsim_command.proofs.lemmas.Common.{◌≡◌, ℕ, ◌≤◌, List, [], ◌∷◌, Bool, true, length, take, drop, take-append-drop, Option, Some, None, refl, sym, subst, arith, IsTrue, Appends, ReadError, Given, Hears, IsRefusal, IsRightly, RunError, failure_of, numbered_input, Held}
+use Rattle.std.proofs.Common.{drop_of_length-le}
 use Rattle.fb_read.specs.declared.error.ReadError.TheVariants as read
 use Rattle.fb_check.specs.Refusals as check
 use Rattle.fb_inputs.specs.Refusals as input
-use Rattle.fb_sim.specs.Given.{Given}
-use Rattle.fb_sim.specs.Reports.{Hears}
-use Rattle.fb_sim.specs.Serial.{IsRefusal, IsRightly}
 use Rattle.fb_sim.specs.declared.outcome.Refusal as sim
 use Rattle.fb_sim.specs.declared.outcome.Refusal.TheVariants as of
-use Rattle.fb_sim.specs.declared.outcome.RunError.{RunError}
 use Rattle.fb_sim.specs.declared.outcome.RunError.TheVariants as run
-use Rattle.fbsim_command.specs.Failures.{failure_of, numbered_input}
-use Rattle.fbsim_command.specs.Outcomes.{Held, IsUndeclared}
+use Rattle.fbsim_command.specs.Outcomes.{IsUndeclared}
 use Rattle.fbsim_command.proofs.lemmas.calls.Reporting.{quiet}
 
 -- the inputs are refused

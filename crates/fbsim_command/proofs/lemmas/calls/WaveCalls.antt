@@ -1,34 +1,21 @@
 -- How a call for waveforms ends where there are none, or no whole ones.
-use Rattle.std.proofs.Common.{◌≡◌, ◌⊎◌, ℕ, List, Option, Some, None, Ok, Err, inl, inr, refl, ap, subst}
-use Rattle.fb_types.specs.Headline.{Inputs, system_of}
-use Rattle.fb_read.specs.declared.error.ReadError.{ReadError}
+use Rattle.fbsim_command.proofs.lemmas.Common.{◌≡◌, ◌⊎◌, ℕ, List, Option, Some, None, Ok, Err, inl, inr, refl, ap, subst, Inputs, system_of, ReadError, Given, Declares, IsRefusal, IsRightly, RunError, Cut, Task, failure_of, failure_of_source, numbered_input, Failure, End, Held, Notes, NotesOf, EndsIn, Reading, AreRead, IsUnread, Opening, SourceFault, Part}
 use Rattle.fb_read.specs.declared.error.ReadError.TheVariants as read
 use Rattle.fb_check.specs.Refusals as check
 use Rattle.fb_inputs.specs.Refusals as input
-use Rattle.fb_sim.specs.Given.{Given}
-use Rattle.fb_sim.specs.Serial.{Declares, IsRefusal, IsRightly}
 use Rattle.fb_sim.specs.declared.outcome.Refusal as sim
 use Rattle.fb_sim.specs.declared.outcome.Refusal.TheVariants as of
-use Rattle.fb_sim.specs.declared.outcome.RunError.{RunError}
 use Rattle.fb_sim.specs.declared.outcome.RunError.TheVariants as run
 use Rattle.fb_wave.specs.CutOff.{BlamesShown, FailsCut, FailsShown}
 use Rattle.fb_wave.specs.Waves.{WritesFront}
 use Rattle.fb_wave.specs.declared.error.WaveError.{WaveError}
 use Rattle.fb_wave.specs.declared.error.WaveError.TheVariants as wave
-use Rattle.fb_wave.specs.declared.truncation.Cut.{Cut}
 use Rattle.fb_wave.specs.declared.truncation.Cut.TheVariants as cut
 use Rattle.clap.specs.Words.{Text}
-use Rattle.fbsim_line.specs.declared.line.Task.{Task}
 use Rattle.fbsim_line.specs.declared.line.Wave.{Wave}
-use Rattle.fbsim_command.specs.Failures.{failure_of, failure_of_source, failure_of_wave, numbered_input}
-use Rattle.fbsim_command.specs.declared.failure.Failure.{Failure}
-use Rattle.fbsim_command.specs.Outcomes.{End, Held}
-use Rattle.fbsim_command.specs.Notes.{IsFileNote, Notes, NotesOf, NotesRest}
-use Rattle.fbsim_command.specs.OwnLines.{EndsIn}
-use Rattle.fbsim_command.specs.Reading.{Reading, AreRead, IsUnread}
-use Rattle.fbsim_command.specs.Showing.{Dumps, DumpsAs, IsTraceFileNote, NotesAs, Opening, Shows, cut_of, files_of}
-use Rattle.fbsim_command.specs.declared.sources.SourceFault.{SourceFault}
-use Rattle.fbsim_command.specs.declared.texts.Part.{Part}
+use Rattle.fbsim_command.specs.Failures.{failure_of_wave}
+use Rattle.fbsim_command.specs.Notes.{IsFileNote, NotesRest}
+use Rattle.fbsim_command.specs.Showing.{Dumps, DumpsAs, IsTraceFileNote, NotesAs, Shows, cut_of, files_of}
 use Rattle.fbsim_command.proofs.lemmas.notes.NotedLines.{noted_so}
 
 -- nothing is written where the inputs are refused

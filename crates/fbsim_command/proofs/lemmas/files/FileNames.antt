@@ -1,12 +1,8 @@
 -- Refusals and notes that name a file of a declaration and the line in it.
-use Rattle.std.proofs.Common.{◌≡◌, ◌<◌, ℕ, zero, suc, Bor, List, [], ◌∷◌, length, get_or, map, arith, Option, Some, None, String, Err, refl, sym, ap, ◌∙◌, subst, inl, inr, string_bytes}
-use Rattle.std.specs.Prelude.{IfSome}
+use Rattle.fbsim_command.proofs.lemmas.Common.{◌≡◌, ◌<◌, ℕ, zero, suc, Bor, List, [], ◌∷◌, length, get_or, map, arith, Option, Some, None, String, Err, refl, sym, ap, ◌∙◌, subst, inl, inr, string_bytes, IfSome, End, Failure, Refused, RefusedTrace, File, Write, Memory, Line, BadOption}
 use Rattle.clap.specs.Words.{Text}
 use Rattle.fbsim_command.specs.Joining.{IsLineOf, name_at}
 use Rattle.fbsim_command.specs.OwnLines.{EndsBy, IsInNone, IsPlaced, IsPlacedText, IsSyntaxIn, IsSyntaxText, placed_text, syntax_in}
-use Rattle.fbsim_command.specs.Outcomes.{End}
-use Rattle.fbsim_command.specs.declared.failure.Failure.{Failure}
-use Rattle.fbsim_command.specs.declared.failure.Failure.TheVariants.{Refused, RefusedTrace, File, Write, Memory, Line, BadOption}
 
 module _ (types : List Text) (own : Text) (lines : List ℕ) where
   pub syntax-of : (whole file line : ℕ) (name : Text) (f : Failure) → IsLineOf lines whole file line → name ≡ name_at types own file → IsSyntaxText name line f → IsSyntaxIn types own lines whole f

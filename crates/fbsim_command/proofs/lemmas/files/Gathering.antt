@@ -1,16 +1,11 @@
 -- The files of a declaration that are read one after the other.
-use Rattle.std.proofs.Common.{◌≡◌, ℕ, ◌+◌, ◌<◌, ◌≤◌, Bor, List, [], ◌∷◌, ◌++◌, length, get_or, map, take, drop, Result, Ok, Err, refl, sym, ap, ◌∙◌, subst, inr, arith}
-use Rattle.std.specs.Global.{Vec}
-use Rattle.std.specs.Prelude.{IfErr, IfOk}
-use Rattle.std.proofs.lemmas.List.{drop_more, length-map, length-take-le, map-append, take-append-drop, take_all, take_more}
+use Rattle.fbsim_command.proofs.lemmas.Common.{◌≡◌, ℕ, ◌+◌, ◌<◌, ◌≤◌, Bor, List, [], ◌∷◌, ◌++◌, length, get_or, map, take, drop, Result, Ok, Err, refl, sym, ap, ◌∙◌, subst, inr, arith, Vec, IfErr, IfOk, drop_more, length-map, map-append, take-append-drop, take_all, take_more, Reading, SourceFault, texts_of, Part}
+use Rattle.fb_types.proofs.Common.{length-take-le}
 use Rattle.clap.specs.Words.{Text}
 use Rattle.fbsim_command.specs.Joining.{line_count, text_of}
-use Rattle.fbsim_command.specs.Reading.{AreTextsRead, IsDeclarationRead, IsDeclarationUnread, IsNextUnread, IsOwnUnread, IsTypeUnread, LacksText, Reading, asked}
-use Rattle.fbsim_command.specs.declared.sources.SourceFault.{SourceFault}
+use Rattle.fbsim_command.specs.Reading.{AreTextsRead, IsDeclarationRead, IsDeclarationUnread, IsNextUnread, IsOwnUnread, IsTypeUnread, LacksText, asked}
 use Rattle.fbsim_command.specs.declared.sources.SourceFault.TheVariants as source
-use Rattle.fbsim_command.specs.Texts.{texts_of}
 use Rattle.fbsim_command.specs.declared.texts.Declared.{Declared}
-use Rattle.fbsim_command.specs.declared.texts.Part.{Part}
 use Rattle.fbsim_command.specs.declared.texts.Part.TheVariants.{BlockTypes, Declaration}
 use Rattle.fbsim_command.specs.declared.texts.Unread.{Unread}
 

@@ -1,8 +1,5 @@
 -- The text of a declaration in several files, file by file.
-use Rattle.std.proofs.Common.{◌≡◌, ℕ, ◌+◌, ◌<◌, ◌≤◌, Bool, true, false, List, [], ◌∷◌, ◌++◌, length, get_or, take, drop, refl, sym, ap, ◌∙◌, append_assoc, append-nil, arith, if◌then◌else◌, nat_lt, Result, Ok, Err}
-use Rattle.std.specs.Prelude.{IfOk}
-use Rattle.std.specs.Global.{Vec}
-use Rattle.std.proofs.lemmas.List.{drop_all, drop_more, get_or-drop, map-append, take_all, take_more}
+use Rattle.fb_types.proofs.Common.{◌≡◌, ℕ, ◌+◌, ◌<◌, ◌≤◌, Bool, true, false, List, [], ◌∷◌, ◌++◌, length, get_or, take, drop, refl, sym, ap, ◌∙◌, append_assoc, append-nil, arith, if◌then◌else◌, nat_lt, Result, Ok, Err, IfOk, Vec, drop_all, drop_more, get_or-drop, map-append, take_all, take_more}
 use Rattle.clap.specs.Words.{Text}
 use Rattle.fb_read.specs.Tokens.{after_mark}
 use Rattle.fb_read.specs.Whole.{most_bytes}

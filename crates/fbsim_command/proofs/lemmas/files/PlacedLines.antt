@@ -1,17 +1,11 @@
 -- Lines of warnings with their places, one after another.
-use Rattle.std.proofs.Common.{◌≡◌, ℕ, zero, suc, ◌+◌, ◌<◌, List, [], ◌∷◌, ◌++◌, ◌⊎◌, get_or, length, map, append_assoc, append-nil, Option, Some, None, Result, Ok, Err, inl, inr, refl, sym, ◌∙◌, ap, subst, arith}
-use Rattle.std.proofs.lemmas.List.{length-map}
+use Rattle.fbsim_command.proofs.lemmas.Common.{◌≡◌, ℕ, zero, suc, ◌+◌, ◌<◌, List, [], ◌∷◌, ◌++◌, ◌⊎◌, get_or, length, map, append_assoc, append-nil, Option, Some, None, Result, Ok, Err, inl, inr, refl, sym, ◌∙◌, ap, subst, arith, length-map, AllZip, IfOk, Library, Place, Given}
 use Rattle.std.proofs.lemmas.Slice.Zip.{AllZip-long}
-use Rattle.std.specs.List.{AllZip}
-use Rattle.std.specs.Prelude.{IfOk}
-use Rattle.fb_types.specs.declared.library.Library.{Library}
 use Rattle.fb_lint.specs.Positions.{position_of}
 use Rattle.fb_lint.specs.declared.warning.Warning.{Warning}
 use Rattle.fb_lint.specs.declared.warning.Warning.TheVariants.{UnusedLink}
 use Rattle.fb_read_positions.specs.Places.{IsPlaceFor}
 use Rattle.fb_read_positions.specs.declared.position.Position.{Position}
-use Rattle.fb_read_positions.specs.declared.places.Place.{Place}
-use Rattle.fb_sim.specs.Given.{Given}
 use Rattle.fb_inputs.specs.declared.deploy_location.TableLocation.TheVariants as table
 use Rattle.fb_inputs.specs.declared.position.DeployPosition.TheVariants as position
 use Rattle.fb_why.specs.InputStretches.{IsDeployPlace}

@@ -1,21 +1,14 @@
 -- What is reported of a run that stopped.
-use Rattle.std.proofs.Common.{◌≡◌, ◌++◌, ◌∙◌, ◌∷◌, ℕ, Bool, true, List, [], Option, String, refl, sym, ap, subst, append_assoc, append-nil, Ok, Err, inl, inr}
-use Rattle.std.specs.Prelude.{IfOk, IfSome, None, Result, Some, string_bytes}
-use Rattle.std.proofs.KnownBytes.{Appends-trans}
-use Rattle.fb_types.specs.Headline.{Inputs}
-use Rattle.fb_types.specs.declared.library.Library.{Library}
+use Rattle.fbsim_command.proofs.lemmas.Common.{◌≡◌, ◌++◌, ◌∙◌, ◌∷◌, ℕ, Bool, true, List, [], Option, String, refl, sym, ap, subst, append_assoc, append-nil, Ok, Err, inl, inr, IfOk, IfSome, None, Result, Some, string_bytes, Inputs, Library, Given, Hears, Place, Held}
+use Rattle.fb_types.proofs.Common.{Appends-trans}
 use Rattle.fb_read.specs.Blank.{Text}
 use Rattle.fb_read_positions.specs.declared.position.Position.{Position}
-use Rattle.fb_sim.specs.Given.{Given}
-use Rattle.fb_sim.specs.Reports.{Hears}
 use Rattle.fb_stop.specs.Found.{IsStop}
 use Rattle.fb_stop.specs.Places.{IsStopPosition}
 use Rattle.fb_stop.specs.Shown.{IsStopShown}
 use Rattle.fb_stop.specs.declared.found.FoundStop.{FoundStop}
 use Rattle.fb_stop.specs.declared.shown.Shown.{Shown}
 use Rattle.fb_read_positions.specs.Places.{IsPlaceAt, IsPlace, IsStretch}
-use Rattle.fb_read_positions.specs.declared.places.Place.{Place}
-use Rattle.fbsim_command.specs.Outcomes.{Held}
 use Rattle.fbsim_command.specs.Stops.{IsNoteAtStop, IsNoteOfRun, IsNoteOfStop, IsStopPlace}
 
 -- one report after another, of which all was taken

@@ -1,11 +1,7 @@
 -- The note to the line at which a trace is refused.
-use Rattle.std.proofs.Common.{◌≡◌, ◌⊎◌, ℕ, Bool, Option, Some, None, Result, Ok, Err, option_map, codes, decimal, ◌++◌, inl, inr, sym, ap, subst, ◌∙◌}
-use Rattle.std.specs.Prelude.{IfErr, IfSome, IsTrue}
+use Rattle.fbsim_command.proofs.lemmas.Common.{◌≡◌, ◌⊎◌, ℕ, Bool, Option, Some, None, Result, Ok, Err, option_map, codes, ◌++◌, inl, inr, sym, ap, subst, ◌∙◌, IfErr, IfSome, IsTrue, Inputs, system_of, Given, Declares, End, Held, Failure}
+use Rattle.fb_types.proofs.Common.{decimal, System}
 use Rattle.clap.specs.Words.{Text}
-use Rattle.fb_types.specs.Headline.{Inputs, system_of}
-use Rattle.fb_types.specs.Systems.{System}
-use Rattle.fb_sim.specs.Given.{Given}
-use Rattle.fb_sim.specs.Serial.{Declares}
 use Rattle.fb_wave.specs.CurrentLines.{IsRefusedLine}
 use Rattle.fb_wave.specs.declared.current_line.CurrentLine.{CurrentLine}
 use Rattle.fb_wave.specs.declared.error.WaveError.{WaveError}
@@ -14,8 +10,6 @@ use Rattle.fb_inspect.specs.refused.LineFaults.{Applies}
 use Rattle.fb_inspect.specs.declared.refused.line_fault.LineFault.{LineFault}
 use Rattle.fbsim_command.specs.Failures.{failure_of_wave}
 use Rattle.fbsim_command.specs.LineNotes.{NotesLine, SaysFault}
-use Rattle.fbsim_command.specs.Outcomes.{End, Held}
-use Rattle.fbsim_command.specs.declared.failure.Failure.{Failure}
 
 -- a note of a check, of a line, or of a trace that can't be read to its end
 pub noted_so :

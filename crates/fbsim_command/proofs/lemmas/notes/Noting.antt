@@ -1,16 +1,11 @@
 -- A note that is given only where it is asked for.
-use Rattle.std.proofs.Common.{◌≡◌, ◌+◌, ◌<◌, ◌&&◌, ℕ, zero, suc, List, [], ◌∷◌, ◌++◌, append_assoc, length, take, get_or, Bool, true, false, Option, Some, None, option_map, String, string_bytes, refl, sym, ◌∙◌, ap, subst, inl, inr, Ok, Err, arith}
-use Rattle.std.specs.Prelude.{All, IfOk, IfSome, Result, if◌then◌else◌, is_ok, nat_eq}
-use Rattle.std.proofs.lemmas.Bool.Decides.{nat_tests}
-use Rattle.std.proofs.lemmas.List.{append-nil, take_more}
-use Rattle.fb_sim.specs.Given.{Given}
-use Rattle.fbsim_command.specs.Expecting.{IsNoteAt, NotesRules, input_names_of, own_of, types_of}
-use Rattle.fbsim_command.specs.Texts.{given_of, lines_of, may_lines_of}
-use Rattle.fbsim_line.specs.declared.bench_line.Expect.{Expect}
+use Rattle.fbsim_command.proofs.lemmas.Common.{◌≡◌, ◌+◌, ◌<◌, ◌&&◌, ℕ, zero, suc, List, [], ◌∷◌, ◌++◌, append_assoc, length, take, get_or, Bool, true, false, Option, Some, None, option_map, String, string_bytes, refl, sym, ◌∙◌, ap, subst, inl, inr, Ok, Err, arith, IfOk, IfSome, Result, if◌then◌else◌, append-nil, take_more, AllZip, Given, types_of, given_of, lines_of, Expect, Notes, Place, End, Failure}
+use Rattle.fb_types.proofs.Common.{All, is_ok, nat_eq, nat_tests}
+use Rattle.fbsim_command.specs.Expecting.{IsNoteAt, NotesRules, input_names_of, own_of}
+use Rattle.fbsim_command.specs.Texts.{may_lines_of}
 use Rattle.fbsim_command.specs.declared.texts.Texts.{Texts}
-use Rattle.fbsim_command.specs.Notes.{AreNotesFrom, AreNotesOf, IsNote, IsNoteBy, IsNoteIn, IsNoteOfFindings, IsNoteOfNumber, Notes, number_of, on_line}
+use Rattle.fbsim_command.specs.Notes.{AreNotesFrom, AreNotesOf, IsNote, IsNoteBy, IsNoteIn, IsNoteOfFindings, IsNoteOfNumber, number_of, on_line}
 use Rattle.fbsim_command.specs.InputNotes.{FileNames, IsNoteThere, IsNoteWith}
-use Rattle.std.specs.List.{AllZip}
 use Rattle.fb_why.specs.InputPlaces.{IsPlaceOf}
 use Rattle.fb_why.specs.declared.input_place.InputPlace.{InputPlace}
 use Rattle.fb_why.specs.declared.location.FindingLocation.{FindingLocation}
@@ -18,9 +13,6 @@ use Rattle.fb_why.specs.Listings.{AreFound}
 use Rattle.fb_why.specs.declared.listing.Findings.{Findings}
 use Rattle.fb_why.specs.declared.place.PlacedFinding.{PlacedFinding}
 use Rattle.fb_why.specs.Places.{IsPlacedFinding}
-use Rattle.fb_read_positions.specs.declared.places.Place.{Place}
-use Rattle.fbsim_command.specs.Outcomes.{End}
-use Rattle.fbsim_command.specs.declared.failure.Failure.{Failure}
 
 pub noted :
     {T : Type 0} (show : T → List ℕ) (types : List (List ℕ)) (own : List ℕ) (names : FileNames) (lines : List ℕ) (given : Given) (why : Bool) (failure : Failure) (n : ℕ) (note : Option T) → why ≡ true

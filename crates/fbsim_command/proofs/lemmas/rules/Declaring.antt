@@ -1,18 +1,7 @@
 -- The declaration in which the names of rules must be, where one is named.
-use Rattle.std.proofs.Common.{◌≡◌, ℕ, Bor, List, [], map, Option, Some, None, Ok, Err, refl, sym, ap, subst, inl, inr}
+use Rattle.fbsim_command.proofs.lemmas.Common.{◌≡◌, ℕ, Bor, List, [], map, Option, Some, None, Ok, Err, refl, sym, ap, subst, inl, inr, Given, Holds, types_of, failure_of_source, End, Held, EndsIn, Reading, AreRead, IsUnread, Opening, Expect, Failure, Task, SourceFault, Part}
 use Rattle.clap.specs.Words.{Text}
-use Rattle.fb_sim.specs.Given.{Given}
-use Rattle.fbsim_command.specs.Expecting.{AreUnread, Expects, Holds, IsUndeclared, MayDeclare, NotesRules, asked_rules, files_of, own_of, types_of}
-use Rattle.fbsim_command.specs.Failures.{failure_of_source}
-use Rattle.fbsim_command.specs.Outcomes.{End, Held}
-use Rattle.fbsim_command.specs.OwnLines.{EndsIn}
-use Rattle.fbsim_command.specs.Reading.{Reading, AreRead, IsUnread}
-use Rattle.fbsim_command.specs.Showing.{Opening}
-use Rattle.fbsim_line.specs.declared.bench_line.Expect.{Expect}
-use Rattle.fbsim_command.specs.declared.failure.Failure.{Failure}
-use Rattle.fbsim_line.specs.declared.line.Task.{Task}
-use Rattle.fbsim_command.specs.declared.sources.SourceFault.{SourceFault}
-use Rattle.fbsim_command.specs.declared.texts.Part.{Part}
+use Rattle.fbsim_command.specs.Expecting.{AreUnread, Expects, IsUndeclared, MayDeclare, NotesRules, asked_rules, files_of, own_of}
 
 pub declares-none : {S : Type 0} (reads : Reading S) (x : Expect) (o : Option (Bor Text)) (s : S) → o ≡ None → MayDeclare reads x o s s [] None
 declares-none reads x o s none = subst (λ (o : Option (Bor Text)). MayDeclare reads x o s s [] None) (sym none) (refl, refl)

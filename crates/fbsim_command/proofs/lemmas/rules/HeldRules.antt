@@ -1,25 +1,15 @@
 -- Rules that are held against traces, one after the other.
-use Rattle.std.proofs.Common.{◌≡◌, ℕ, suc, ◌+◌, ◌*◌, ◌<◌, Bool, true, false, Bor, List, [], ◌∷◌, ◌++◌, length, get_or, map, take, drop, Option, Result, Ok, Err, refl, sym, ap, ◌∙◌, subst, append_assoc, append-nil, inl, arith}
-use Rattle.std.specs.Prelude.{◌&&◌, IfErr, IfSome, IsErrAnd, OnOk, if◌then◌else◌, is_ok, nat_lt}
-use Rattle.std.specs.Io.KnownBytes.{Appends}
-use Rattle.std.proofs.lemmas.List.{drop_more, length-map, length-take-le, map-append, take-append-drop, take_more}
-use Rattle.std.proofs.lemmas.List.Folds.{list_all-append}
+use Rattle.fbsim_command.proofs.lemmas.Common.{◌≡◌, ℕ, suc, ◌+◌, ◌<◌, Bool, true, false, Bor, List, [], ◌∷◌, ◌++◌, length, get_or, map, take, drop, Option, Result, Ok, Err, refl, sym, ap, ◌∙◌, subst, append_assoc, append-nil, inl, arith, ◌&&◌, IfErr, IfSome, OnOk, if◌then◌else◌, nat_lt, Appends, drop_more, length-map, map-append, take-append-drop, take_more, IsErrAnd, Given, AreUnheld, Holds, IsUnheld, WritesPart, failure_of_source, End, Held, Opening, Expect, Failure, Refused, RefusedTrace, File, Write, Memory, Line, BadOption, SourceFault}
+use Rattle.fb_types.proofs.Common.{◌*◌, is_ok, length-take-le, list_all-append}
 use Rattle.clap.specs.Words.{Text}
-use Rattle.fb_sim.specs.Given.{Given}
 use Rattle.fb_expect.specs.Judging.{Judges}
 use Rattle.fb_expect.specs.Reports.{are_well, points}
 use Rattle.fb_expect.specs.Suites.{suite, suites_tail}
 use Rattle.fb_expect.specs.declared.judging.Cut.{Cut}
 use Rattle.fb_expect.specs.declared.judging.Judged.{Judged}
 use Rattle.fb_expect.specs.declared.rule.Rule.{Rule}
-use Rattle.fbsim_command.specs.Expecting.{AreHeld, AreRules, AreUnheld, ComesTo, Holds, IsHeld, IsRefusedAt, IsUnheld, Puts, PutsOne, Reports, all_well, cut_of, head_of, part_of, points_of, tail_of}
-use Rattle.fbsim_command.specs.Failures.{IsPartWritten, WritesPart, failure_of_source}
-use Rattle.fbsim_command.specs.Outcomes.{End, Held}
-use Rattle.fbsim_command.specs.Showing.{Opening}
-use Rattle.fbsim_line.specs.declared.bench_line.Expect.{Expect}
-use Rattle.fbsim_command.specs.declared.failure.Failure.{Failure}
-use Rattle.fbsim_command.specs.declared.failure.Failure.TheVariants.{Refused, RefusedTrace, File, Write, Memory, Line, BadOption}
-use Rattle.fbsim_command.specs.declared.sources.SourceFault.{SourceFault}
+use Rattle.fbsim_command.specs.Expecting.{AreHeld, AreRules, ComesTo, IsHeld, IsRefusedAt, Puts, PutsOne, Reports, all_well, cut_of, head_of, part_of, points_of, tail_of}
+use Rattle.fbsim_command.specs.Failures.{IsPartWritten}
 use Rattle.fbsim_command.specs.declared.sources.SourceFault.TheVariants as source
 use Rattle.fbsim_command.specs.declared.statuses.Done.TheVariants.{Met, Unmet}
 

@@ -1,8 +1,6 @@
 -- Rules that are read, and whose names a declaration is to have.
-use Rattle.std.proofs.Common.{◌≡◌, ℕ, List, true, Option, Some, None, Ok, Err, refl, sym, subst, inl, inr}
-use Rattle.std.specs.Prelude.{IfSome}
+use Rattle.fbsim_command.proofs.lemmas.Common.{◌≡◌, ℕ, List, true, Option, Some, None, Ok, Err, refl, sym, subst, inl, inr, IfSome, ReadError, Given, IsRefusal, IsRightly, RunError, Holds, failure_of, numbered_input, Held, Opening, Expect, Failure, Refused, RefusedTrace, File, Write, Memory, Line, BadOption}
 use Rattle.clap.specs.Words.{Text}
-use Rattle.fb_read.specs.declared.error.ReadError.{ReadError}
 use Rattle.fb_read.specs.declared.error.ReadError.TheVariants as read
 use Rattle.fb_check.specs.Refusals as check
 use Rattle.fb_inputs.specs.Refusals as input
@@ -10,19 +8,11 @@ use Rattle.fb_expect.specs.Reading.{rules_of}
 use Rattle.fb_expect.specs.Refusals as rules
 use Rattle.fb_expect.specs.declared.error.RulesError.{RulesError}
 use Rattle.fb_expect.specs.declared.rule.Rule.{Rule}
-use Rattle.fb_sim.specs.Given.{Given}
-use Rattle.fb_sim.specs.Serial.{IsRefusal, IsRightly}
 use Rattle.fb_sim.specs.declared.outcome.Refusal as sim
 use Rattle.fb_sim.specs.declared.outcome.Refusal.TheVariants as of
-use Rattle.fb_sim.specs.declared.outcome.RunError.{RunError}
 use Rattle.fb_sim.specs.declared.outcome.RunError.TheVariants as run
-use Rattle.fbsim_command.specs.Expecting.{AreRules, Holds, IsUnnamed, Names, RefusesFor}
-use Rattle.fbsim_command.specs.Failures.{failure_of, failure_of_rules, numbered_input}
-use Rattle.fbsim_command.specs.Outcomes.{Held}
-use Rattle.fbsim_command.specs.Showing.{Opening}
-use Rattle.fbsim_line.specs.declared.bench_line.Expect.{Expect}
-use Rattle.fbsim_command.specs.declared.failure.Failure.{Failure}
-use Rattle.fbsim_command.specs.declared.failure.Failure.TheVariants.{Refused, RefusedTrace, File, Write, Memory, Line, BadOption}
+use Rattle.fbsim_command.specs.Expecting.{AreRules, IsUnnamed, Names, RefusesFor}
+use Rattle.fbsim_command.specs.Failures.{failure_of_rules}
 
 -- ---- What is declared is refused
 

@@ -1,13 +1,6 @@
 -- Whether a test holds for some number below another.
-use Rattle.std.proofs.Common.{List, [], ◌∷◌, length, get_or, map, drop, ◌≡◌, ℕ, zero, suc, ◌+◌, ◌<◌, Bool, true, false, refl, sym, ap, ◌∙◌, subst, arith, inl, inr}
-use Rattle.std.specs.Prelude.{◌&&◌, ◌||◌}
-use Rattle.std.specs.List.{list_any}
-use Rattle.std.proofs.lemmas.Bool.{cases_eq}
-use Rattle.std.proofs.lemmas.List.{drop_more}
+use Rattle.fb_types.proofs.Common.{List, [], ◌∷◌, length, get_or, map, drop, ◌≡◌, ℕ, zero, suc, ◌+◌, ◌<◌, Bool, true, false, refl, sym, ap, ◌∙◌, subst, arith, inl, inr, ◌&&◌, ◌||◌, list_any, cases_eq, drop_more, Name, System, Variable}
 use Rattle.fb_system.specs.IndexLists.{AreIndexes, variable_at}
-use Rattle.fb_types.specs.Names.{Name}
-use Rattle.fb_types.specs.Systems.{System}
-use Rattle.fb_types.specs.declared.library.Variable.{Variable}
 use Rattle.fb_expect.specs.Patterns as patterns
 use Rattle.fb_expect.specs.declared.pattern.Condition.{Condition}
 use Rattle.fb_expect.specs.declared.pattern.Pattern.{Pattern}

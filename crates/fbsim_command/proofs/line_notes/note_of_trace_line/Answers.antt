@@ -1,5 +1,4 @@
-use Rattle.std.proofs.Common.{◌≡◌, Err, rules, string_bytes}
-use Rattle.fb_types.specs.Headline.{system_of}
+use Rattle.fb_types.proofs.Common.{◌≡◌, Err, rules, string_bytes, system_of}
 use Rattle.fb_wave.specs.declared.error.WaveError.TheVariants.{Refused}
 use Rattle.fbsim_command.proofs.lemmas.notes.NotedLines.{refused_line, says}
 use Rattle.fbsim_command.proofs.line_notes.note_of_trace_line.Goals as goal

@@ -1,6 +1,4 @@
-use Rattle.std.proofs.Common.{◌∙◌, List, ℕ, length, nat_eq, sym, ap}
-use Rattle.std.specs.Prelude.{◌==◌}
-use Rattle.std.proofs.lemmas.Bool.{eqb-true, true≢false}
+use Rattle.fb_types.proofs.Common.{◌∙◌, List, ℕ, length, nat_eq, sym, ap, ◌==◌, eqb-true, true≢false}
 use Rattle.fbsim_command.proofs.lemmas.calls.Warning.{heard_lines, heard_none, no_lines}
 use Rattle.fbsim_command.proofs.lint.report_lines.Goals as goal
 

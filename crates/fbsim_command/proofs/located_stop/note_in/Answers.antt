@@ -1,8 +1,7 @@
-use Rattle.std.proofs.Common.{List, ℕ, Option, map, string_bytes, subst}
+use Rattle.fbsim_command.proofs.lemmas.Common.{List, ℕ, Option, map, string_bytes, subst, given_of, lines_of}
 use Rattle.fb_stop.specs.Found.{Finds}
 use Rattle.fb_stop.specs.declared.found.FoundStop.{FoundStop}
 use Rattle.fbsim_command.specs.Stops.{IsStopPlace}
-use Rattle.fbsim_command.specs.Texts.{given_of, lines_of}
 use Rattle.fbsim_command.proofs.lemmas.notes.Located.{noted_at, noted_run}
 use Rattle.fbsim_command.proofs.located_stop.note_in.Goals as goal
 

@@ -1,9 +1,6 @@
-use Rattle.std.proofs.Common.{Bor, List, Option, ℕ, map, string_bytes, refl, subst, sym}
-use Rattle.std.specs.Prelude.{IfSome}
-use Rattle.fb_read_positions.specs.declared.places.Place.{Place}
+use Rattle.fbsim_command.proofs.lemmas.Common.{Bor, List, Option, ℕ, map, string_bytes, refl, subst, sym, IfSome, Place, lines_of}
 use Rattle.fbsim_command.specs.OwnLines.{IsPlaced}
 use Rattle.fbsim_command.specs.Stops.{IsNoteAtStop}
-use Rattle.fbsim_command.specs.Texts.{lines_of}
 use Rattle.fbsim_command.proofs.located_stop.note_with.Goals as goal
 
 pub returns-in-Some : goal.returns-in-Some

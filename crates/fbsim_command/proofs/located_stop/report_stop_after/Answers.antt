@@ -1,6 +1,4 @@
-use Rattle.std.proofs.Common.{◌≡◌, ◌++◌, ◌∙◌, [], Bool, List, ℕ, false, true, inl, inr, refl, string_bytes, subst}
-use Rattle.fb_sim.specs.Reports.{Hears}
-use Rattle.fbsim_command.specs.Outcomes.{Held}
+use Rattle.fbsim_command.proofs.lemmas.Common.{◌≡◌, ◌++◌, ◌∙◌, [], Bool, List, ℕ, false, true, inl, inr, refl, string_bytes, subst, Hears, Held}
 use Rattle.fbsim_command.proofs.lemmas.notes.Located.{hears_after, hears_no_more}
 use Rattle.fbsim_command.proofs.located_stop.report_stop_after.Goals as goal
 

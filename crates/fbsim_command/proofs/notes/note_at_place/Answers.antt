@@ -1,5 +1,4 @@
-use Rattle.std.proofs.Common.{List, ℕ, string_bytes, subst}
-use Rattle.std.specs.Prelude.{IfSome}
+use Rattle.fb_types.proofs.Common.{List, ℕ, string_bytes, subst, IfSome}
 use Rattle.fbsim_command.specs.InputNotes.{types_in}
 use Rattle.fbsim_command.specs.OwnLines.{IsPlaced}
 use Rattle.fbsim_command.proofs.notes.note_at_place.Goals as goal

@@ -1,7 +1,5 @@
-use Rattle.std.proofs.Common.{List, ℕ, string_bytes, subst}
-use Rattle.std.specs.Prelude.{IfSome}
-use Rattle.fbsim_command.specs.InputNotes.{IsNoteThere, names_of}
-use Rattle.fbsim_command.specs.Texts.{given_of}
+use Rattle.fbsim_command.proofs.lemmas.Common.{List, ℕ, string_bytes, subst, IfSome, names_of, given_of}
+use Rattle.fbsim_command.specs.InputNotes.{IsNoteThere}
 use Rattle.fbsim_command.proofs.lemmas.notes.Noting.{noted-there}
 use Rattle.fbsim_command.proofs.notes.note_elsewhere.Goals as goal
 

@@ -1,6 +1,5 @@
-use Rattle.std.proofs.Common.{rules, ◌≡◌, ◌∙◌, sym, map, string_bytes, true}
+use Rattle.fbsim_command.proofs.lemmas.Common.{rules, ◌≡◌, ◌∙◌, sym, map, string_bytes, true, given_of, lines_of}
 use Rattle.fbsim_command.specs.Notes.{input_names}
-use Rattle.fbsim_command.specs.Texts.{given_of, lines_of}
 use Rattle.fbsim_command.proofs.lemmas.notes.Noting.{noted}
 use Rattle.fbsim_command.proofs.notes.note_of.Goals as goal
 

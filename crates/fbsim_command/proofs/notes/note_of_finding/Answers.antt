@@ -1,6 +1,5 @@
-use Rattle.std.proofs.Common.{Some, None, string_bytes}
-use Rattle.fbsim_command.specs.InputNotes.{names_of, types_in}
-use Rattle.fbsim_command.specs.Texts.{given_of, lines_of}
+use Rattle.fbsim_command.proofs.lemmas.Common.{Some, None, string_bytes, names_of, given_of, lines_of}
+use Rattle.fbsim_command.specs.InputNotes.{types_in}
 use Rattle.fbsim_command.proofs.lemmas.notes.Noting.{noted-by}
 use Rattle.fbsim_command.proofs.notes.note_of_finding.Goals as goal
 

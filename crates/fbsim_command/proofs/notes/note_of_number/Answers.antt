@@ -1,9 +1,7 @@
-use Rattle.std.proofs.Common.{Bor, List, ℕ, map, Option, option_map, subst}
-use Rattle.std.specs.Prelude.{All}
+use Rattle.fbsim_command.proofs.lemmas.Common.{Bor, List, ℕ, map, Option, option_map, subst, names_of, given_of, lines_of}
+use Rattle.fb_types.proofs.Common.{All}
 use Rattle.fb_why.specs.Listings.{AreFound}
 use Rattle.fb_why.specs.Places.{IsPlacedFinding}
-use Rattle.fbsim_command.specs.InputNotes.{names_of}
-use Rattle.fbsim_command.specs.Texts.{given_of, lines_of}
 use Rattle.fbsim_command.proofs.lemmas.notes.Noting.{noted-in}
 use Rattle.fbsim_command.proofs.notes.note_of_number.Goals as goal
 

@@ -1,9 +1,7 @@
-use Rattle.std.proofs.Common.{Bor, List, ℕ, Option, option_map, subst, sym}
-use Rattle.std.specs.List.{AllZip}
+use Rattle.fbsim_command.proofs.lemmas.Common.{Bor, List, ℕ, Option, option_map, subst, sym, AllZip, given_of}
 use Rattle.fb_why.specs.InputPlaces.{IsPlaceOf}
 use Rattle.fb_why.specs.declared.input_place.InputPlace.{InputPlace}
 use Rattle.fbsim_command.specs.Notes.{IsPlaceIn}
-use Rattle.fbsim_command.specs.Texts.{given_of}
 use Rattle.fbsim_command.proofs.notes.notes_of.Goals as goal
 
 pub notes_at-requires : goal.notes_at-requires

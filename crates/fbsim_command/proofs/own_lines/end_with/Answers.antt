@@ -1,5 +1,4 @@
-use Rattle.std.proofs.Common.{List, ℕ, map, subst}
-use Rattle.fbsim_command.specs.OwnLines.{EndsIn}
+use Rattle.fbsim_command.proofs.lemmas.Common.{List, ℕ, map, subst, EndsIn}
 use Rattle.fbsim_command.proofs.own_lines.end_with.Goals as goal
 
 pub returns : goal.returns

@@ -1,7 +1,5 @@
-use Rattle.std.proofs.Common.{◌≡◌, drop, map}
-use Rattle.std.specs.List.{list_any}
+use Rattle.fb_types.proofs.Common.{◌≡◌, drop, map, list_any, same_name}
 use Rattle.fb_system.specs.IndexLists.{variable_at}
-use Rattle.fb_types.specs.Names.{same_name}
 use Rattle.fbsim_command.proofs.possible.is_among.Given as goal
 
 abbrev pub invariant-loop-index : goal.invariant-loop-index

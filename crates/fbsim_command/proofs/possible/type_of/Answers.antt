@@ -1,6 +1,4 @@
-use Rattle.std.proofs.Common.{◌∙◌, Some, ap, sym}
-use Rattle.fb_types.specs.Names.{same_name}
-use Rattle.fb_types.specs.declared.library.Variable.{Variable}
+use Rattle.fb_types.proofs.Common.{◌∙◌, Some, ap, sym, same_name, Variable}
 use Rattle.fbsim_command.proofs.lemmas.TypeOf.{type-found, type-none, type-passed}
 use Rattle.fbsim_command.proofs.possible.type_of.Goals as goal
 

@@ -1,4 +1,4 @@
-use Rattle.std.proofs.Common.{Bor, Err, List, Option, map, option_map, string_bytes, inl, inr, refl, subst}
+use Rattle.fbsim_command.proofs.lemmas.Common.{Bor, Err, List, Option, map, option_map, string_bytes, inl, inr, refl, subst, End}
 use Rattle.clap.specs.Words.{Text}
 use Rattle.fbsim_line.specs.Line.{AreCall}
 use Rattle.fbsim_line.specs.declared.line.Call.{Call}
@@ -8,7 +8,6 @@ use Rattle.fbsim_command.specs.Covering.{ReportsCoverage}
 use Rattle.fbsim_command.specs.Inspecting.{ShowsInsides}
 use Rattle.fbsim_command.specs.Sessions.{TalksIn}
 use Rattle.fbsim_command.specs.Showing.{Shows}
-use Rattle.fbsim_command.specs.Outcomes.{End}
 use Rattle.fbsim_command.proofs.lemmas.calls.Reporting.{ended_so, noted_so}
 use Rattle.fbsim_command.proofs.program.answer_to.Goals as goal
 

@@ -1,5 +1,4 @@
-use Rattle.std.proofs.Common.{◌≡◌, ◌∙◌, ◌&&◌, Bool, option_map, string_bytes, sym, ap, subst}
-use Rattle.std.specs.Prelude.{IsTrue}
+use Rattle.fb_types.proofs.Common.{◌≡◌, ◌∙◌, ◌&&◌, Bool, option_map, string_bytes, sym, ap, subst, IsTrue}
 use Rattle.fbsim_command.specs.Failures.{reported_of}
 use Rattle.fbsim_command.proofs.lemmas.calls.Reporting.{quiet_all, reported_all}
 use Rattle.fbsim_command.proofs.program.command_with_clock.Goals as goal

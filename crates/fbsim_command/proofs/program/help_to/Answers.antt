@@ -1,5 +1,4 @@
-use Rattle.std.proofs.Common.{refl, subst}
-use Rattle.std.specs.Io.KnownBytes.{Appends}
+use Rattle.fb_types.proofs.Common.{refl, subst, Appends}
 use Rattle.fbsim_command.proofs.program.help_to.Goals as goal
 
 pub returns-clause-whole : goal.returns-clause-whole

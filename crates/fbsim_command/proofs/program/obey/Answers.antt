@@ -1,7 +1,6 @@
-use Rattle.std.proofs.Common.{Bor, List, ℕ, Option, map, inr, refl}
+use Rattle.fbsim_command.proofs.lemmas.Common.{Bor, List, ℕ, Option, map, inr, refl, End}
 use Rattle.clap.specs.Words.{Text}
 use Rattle.fbsim_command.specs.Command.{Does}
-use Rattle.fbsim_command.specs.Outcomes.{End}
 use Rattle.fbsim_command.proofs.lemmas.calls.Reporting.{ended_so}
 use Rattle.fbsim_command.proofs.program.obey.Goals as goal
 

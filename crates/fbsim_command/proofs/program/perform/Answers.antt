@@ -1,6 +1,5 @@
-use Rattle.std.proofs.Common.{◌++◌, [], List, ℕ, map, option_map, inl, inr, refl, ap, subst, Err}
+use Rattle.fbsim_command.proofs.lemmas.Common.{◌++◌, [], List, ℕ, map, option_map, inl, inr, refl, ap, subst, Err, given_of, lines_of}
 use Rattle.fbsim_command.specs.Command.{Reports}
-use Rattle.fbsim_command.specs.Texts.{given_of, lines_of}
 use Rattle.fbsim_command.proofs.lemmas.calls.Reporting.{quiet}
 use Rattle.fbsim_command.proofs.program.perform.Goals as goal
 

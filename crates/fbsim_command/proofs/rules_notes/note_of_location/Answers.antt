@@ -1,5 +1,4 @@
-use Rattle.std.proofs.Common.{Option, subst, arith}
-use Rattle.std.specs.Prelude.{IfSome}
+use Rattle.fb_types.proofs.Common.{Option, subst, arith, IfSome}
 use Rattle.fb_expect.specs.Locations.{IsLocation}
 use Rattle.fb_expect.specs.declared.location.RulesLocation.{RulesLocation}
 use Rattle.fbsim_command.proofs.rules_notes.note_of_location.Goals as goal

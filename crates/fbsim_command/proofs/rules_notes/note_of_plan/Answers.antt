@@ -1,8 +1,6 @@
-use Rattle.std.proofs.Common.{Bor, List, ℕ, map, string_bytes, subst}
-use Rattle.std.specs.Prelude.{IfSome}
-use Rattle.fbsim_command.specs.Expecting.{input_names_of, types_of}
+use Rattle.fbsim_command.proofs.lemmas.Common.{Bor, List, ℕ, map, string_bytes, subst, IfSome, types_of, given_of, lines_of}
+use Rattle.fbsim_command.specs.Expecting.{input_names_of}
 use Rattle.fbsim_command.specs.Notes.{IsNoteOfNumber}
-use Rattle.fbsim_command.specs.Texts.{given_of, lines_of}
 use Rattle.fbsim_command.proofs.rules_notes.note_of_plan.Goals as goal
 
 pub returns : goal.returns

@@ -1,7 +1,5 @@
-use Rattle.std.proofs.Common.{Err, subst, sym}
-use Rattle.fbsim_command.specs.Outcomes.{End}
+use Rattle.fbsim_command.proofs.lemmas.Common.{Err, subst, sym, End, Failure}
 use Rattle.fbsim_command.specs.Sessions.{Answers}
-use Rattle.fbsim_command.specs.declared.failure.Failure.{Failure}
 use Rattle.fbsim_command.proofs.lemmas.Talking.{answers_none, answers_so}
 use Rattle.fbsim_command.proofs.session.answer.Goals as goal
 

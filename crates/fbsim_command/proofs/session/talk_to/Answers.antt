@@ -1,9 +1,5 @@
-use Rattle.std.proofs.Common.{Err, ap, inl, inr, map, refl, subst}
-use Rattle.fb_sim.specs.Given.{Given}
-use Rattle.fbsim_line.specs.declared.line.Task.{Task}
-use Rattle.fbsim_command.specs.Reading.{AreRead, IsUnread}
+use Rattle.fbsim_command.proofs.lemmas.Common.{Err, ap, inl, inr, map, refl, subst, Given, Task, AreRead, IsUnread, given_of, lines_of}
 use Rattle.fbsim_command.specs.Sessions.{Answers}
-use Rattle.fbsim_command.specs.Texts.{given_of, lines_of}
 use Rattle.fbsim_command.proofs.session.talk_to.Goals as goal
 
 pub returns-in-Err : goal.returns-in-Err

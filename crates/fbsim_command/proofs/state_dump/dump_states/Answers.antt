@@ -1,13 +1,9 @@
-use Rattle.std.proofs.Common.{Err, string_bytes, subst, sym}
-use Rattle.std.specs.Prelude.{◌≤◌, IfErr, IfSome, OnErr, OnOk}
+use Rattle.fbsim_command.proofs.lemmas.Common.{Err, string_bytes, subst, sym, ◌≤◌, IfErr, IfSome, OnErr, OnOk, system_of, OfRefusal, IsWrongIn, Failure}
 use Rattle.fb_wave.specs.Named.{HasNames}
-use Rattle.fb_inspect.specs.Refusals.{IsWrongAt, OfRefusal}
+use Rattle.fb_inspect.specs.Refusals.{IsWrongAt}
 use Rattle.fb_inspect.specs.walk.Looks.{most}
-use Rattle.fbsim_command.specs.WrongLines.{IsWrongIn}
-use Rattle.fb_types.specs.Headline.{system_of}
 use Rattle.fb_inspect.specs.StateWaves.{IsShownWith, WritesFront}
 use Rattle.fbsim_command.specs.StateDumping.{DumpsStates}
-use Rattle.fbsim_command.specs.declared.failure.Failure.{Failure}
 use Rattle.fbsim_command.proofs.lemmas.calls.Inspecting.{line_noted_inside, none_noted_inside, wrong_so}
 use Rattle.fbsim_command.proofs.lemmas.calls.StateWaveCalls.{states_front, states_none}
 use Rattle.fbsim_command.proofs.state_dump.dump_states.Goals as goal

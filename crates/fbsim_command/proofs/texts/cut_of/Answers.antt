@@ -1,5 +1,4 @@
-use Rattle.std.proofs.Common.{Bool, sym, ap}
-use Rattle.std.specs.Prelude.{if◌then◌else◌}
+use Rattle.fb_types.proofs.Common.{Bool, sym, ap, if◌then◌else◌}
 use Rattle.fb_wave.specs.declared.truncation.Cut.TheVariants as cut
 use Rattle.fbsim_command.proofs.texts.cut_of.Goals as goal
 

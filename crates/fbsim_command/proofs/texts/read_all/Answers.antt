@@ -1,5 +1,4 @@
-use Rattle.std.proofs.Common.{map}
-use Rattle.fbsim_command.specs.Texts.{texts_of}
+use Rattle.fbsim_command.proofs.lemmas.Common.{map, texts_of}
 use Rattle.fbsim_command.proofs.lemmas.files.Gathering.{one-more-is, own-unread, type-unread}
 use Rattle.fbsim_command.proofs.texts.read_all.Goals as goal
 

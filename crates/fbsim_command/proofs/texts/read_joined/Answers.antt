@@ -1,7 +1,5 @@
-use Rattle.std.proofs.Common.{List, ℕ, map, ap, ◌∙◌}
-use Rattle.std.specs.Global.{Vec}
+use Rattle.fbsim_command.proofs.lemmas.Common.{List, ℕ, map, ap, ◌∙◌, Vec, texts_of}
 use Rattle.fbsim_command.specs.Joining.{line_count, text_of}
-use Rattle.fbsim_command.specs.Texts.{texts_of}
 use Rattle.fbsim_command.specs.declared.sources.SourceFault.TheVariants as source
 use Rattle.fbsim_command.proofs.lemmas.files.Gathering.{joined-read, memory-after, own-unread}
 use Rattle.fbsim_command.proofs.texts.read_joined.Goals as goal

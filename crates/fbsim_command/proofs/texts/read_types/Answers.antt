@@ -1,7 +1,5 @@
-use Rattle.std.proofs.Common.{List, [], ℕ, refl, sym, subst}
-use Rattle.std.specs.Global.{Vec}
+use Rattle.fbsim_command.proofs.lemmas.Common.{List, [], ℕ, refl, sym, subst, Vec, texts_of}
 use Rattle.fbsim_command.specs.Reading.{AreTextsRead}
-use Rattle.fbsim_command.specs.Texts.{texts_of}
 use Rattle.fbsim_command.proofs.lemmas.files.Gathering.{read-all, read-at, unread-at}
 use Rattle.fbsim_command.proofs.texts.read_types.Goals as goal
 

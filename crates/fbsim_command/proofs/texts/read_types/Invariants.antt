@@ -1,6 +1,5 @@
-use Rattle.std.proofs.Common.{map, take}
+use Rattle.fbsim_command.proofs.lemmas.Common.{map, take, texts_of}
 use Rattle.fbsim_command.specs.Reading.{AreTextsRead}
-use Rattle.fbsim_command.specs.Texts.{texts_of}
 use Rattle.fbsim_command.proofs.texts.read_types.Given as goal
 
 abbrev pub invariant-loop-i : goal.invariant-loop-i

@@ -1,6 +1,4 @@
-use Rattle.std.proofs.Common.{◌<◌, ℕ, length, subst, sym}
-use Rattle.fb_types.specs.Headline.{system_of}
-use Rattle.fb_types.specs.Numbers.{path_at}
+use Rattle.fb_types.proofs.Common.{◌<◌, ℕ, length, subst, sym, system_of, path_at}
 use Rattle.fb_wave.proofs.lemmas.Bounds.{resource_named}
 use Rattle.fbsim_command.proofs.unknown_pattern.fits.Goals as goal
 

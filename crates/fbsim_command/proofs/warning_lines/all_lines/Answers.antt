@@ -1,10 +1,6 @@
-use Rattle.std.proofs.Common.{ℕ, ◌<◌, ◌∙◌, ◌||◌, Bool, List, ap, map, subst, sym}
-use Rattle.std.specs.List.{AllZip}
+use Rattle.fbsim_command.proofs.lemmas.Common.{ℕ, ◌<◌, ◌∙◌, ◌||◌, Bool, List, ap, map, subst, sym, AllZip, Library, Given, naming_of}
 use Rattle.fb_lint.specs.Positions.{position_of}
 use Rattle.fb_read_positions.specs.Places.{IsPlaceFor}
-use Rattle.fb_sim.specs.Given.{Given}
-use Rattle.fb_types.specs.declared.library.Library.{Library}
-use Rattle.fbsim_command.specs.WarningLines.{naming_of}
 use Rattle.fbsim_command.proofs.lemmas.LeftOut.{sorted-all, sorted-left, sorted-next}
 use Rattle.fbsim_command.proofs.lemmas.files.PlacedLines.{as_many_places, place_at_index}
 use Rattle.fbsim_command.proofs.warning_lines.all_lines.Goals.{else-not-is_left_out, then-not-is_left_out+in_ok-push_line}

@@ -1,5 +1,4 @@
-use Rattle.std.proofs.Common.{◌∙◌, ℕ, Bor, List, ap, length, nat_lt, sym}
-use Rattle.std.proofs.lemmas.List.{length-map}
+use Rattle.fb_types.proofs.Common.{◌∙◌, ℕ, Bor, List, ap, length, nat_lt, sym, length-map}
 use Rattle.fbsim_command.specs.WarningLines.{is_of_types, naming_of}
 use Rattle.fbsim_command.proofs.lemmas.LeftOut.{in-types}
 use Rattle.fbsim_command.proofs.warning_lines.is_of_types.Goals as goal

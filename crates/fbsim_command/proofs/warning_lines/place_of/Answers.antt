@@ -1,7 +1,5 @@
-use Rattle.std.proofs.Common.{◌≡◌, ◌⊎◌, [], List, ℕ, Option, ap, inr, string_bytes, subst}
-use Rattle.std.specs.Prelude.{IfOk}
-use Rattle.fb_sim.specs.Given.{Given}
-use Rattle.fbsim_command.specs.WarningLines.{IsLinkPlace, naming_of}
+use Rattle.fbsim_command.proofs.lemmas.Common.{◌≡◌, ◌⊎◌, [], List, ℕ, Option, ap, inr, string_bytes, subst, IfOk, Given, naming_of}
+use Rattle.fbsim_command.specs.WarningLines.{IsLinkPlace}
 use Rattle.fbsim_command.proofs.lemmas.files.PlacedLines.{link_shown, place_shown}
 use Rattle.fbsim_command.proofs.warning_lines.place_of.Goals as goal
 

@@ -1,5 +1,4 @@
-use Rattle.std.proofs.Common.{Bor, List, ℕ, ap, option_map, string_bytes}
-use Rattle.fbsim_command.specs.WarningLines.{naming_of}
+use Rattle.fbsim_command.proofs.lemmas.Common.{Bor, List, ℕ, ap, option_map, string_bytes, naming_of}
 use Rattle.fbsim_command.proofs.lemmas.files.PlacedLines.{link_placed}
 use Rattle.fbsim_command.proofs.warning_lines.place_of_link.Goals as goal
 

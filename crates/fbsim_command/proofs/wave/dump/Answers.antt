@@ -1,11 +1,7 @@
-use Rattle.std.proofs.Common.{Bool, Ok, Err, option_map, string_bytes, sym, subst}
-use Rattle.std.specs.Prelude.{IfErr, IfSome, OnOk}
-use Rattle.fb_types.specs.Headline.{system_of}
+use Rattle.fbsim_command.proofs.lemmas.Common.{Bool, Ok, Err, option_map, string_bytes, sym, subst, IfErr, IfSome, OnOk, system_of, Cut, Failure}
 use Rattle.fb_wave.specs.CutOff.{BlamesShown, FailsShown, IsShown}
-use Rattle.fb_wave.specs.declared.truncation.Cut.{Cut}
 use Rattle.fbsim_command.specs.Showing.{Dumps, DumpsAs, NotesAs, cut_of}
 use Rattle.fbsim_command.specs.StateDumping.{DumpsStates}
-use Rattle.fbsim_command.specs.declared.failure.Failure.{Failure}
 use Rattle.fbsim_command.specs.declared.statuses.Done.TheVariants.{Shown}
 use Rattle.fbsim_command.proofs.lemmas.notes.NotedLines.{line_noted, none_noted}
 use Rattle.fbsim_command.proofs.lemmas.calls.WaveCalls.{dumps_front, dumps_none}

@@ -1,6 +1,5 @@
-use Rattle.std.proofs.Common.{map, option_map, refl, string_bytes}
+use Rattle.fbsim_command.proofs.lemmas.Common.{map, option_map, refl, string_bytes, given_of, lines_of}
 use Rattle.fbsim_command.specs.Showing.{cut_of}
-use Rattle.fbsim_command.specs.Texts.{given_of, lines_of}
 use Rattle.fbsim_command.proofs.lemmas.calls.WaveCalls.{read_and_shown, unopened, unread_for}
 use Rattle.fbsim_command.proofs.wave.show.Goals as goal
 

@@ -1,5 +1,4 @@
-use Rattle.std.proofs.Common.{◌≡◌, subst}
-use Rattle.std.specs.Prelude.{IfOk}
+use Rattle.fb_types.proofs.Common.{◌≡◌, subst, IfOk}
 use Rattle.clap.specs.Words.{App, app_of}
 use Rattle.fbsim_line.specs.Line.{with_arguments}
 use Rattle.fbsim_line.proofs.arguments.made.Goals as goal

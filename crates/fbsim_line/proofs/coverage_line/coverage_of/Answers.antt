@@ -1,8 +1,7 @@
-use Rattle.std.proofs.Common.{◌∙◌, ℕ, List, Bor, Option, option_map, subst, sym, ap, codes, Some, map}
+use Rattle.fb_types.proofs.Common.{◌∙◌, ℕ, List, Bor, Option, option_map, subst, sym, ap, codes, Some, map, IfNone}
 use Rattle.clap.specs.Words.{Text, found_of, rows_of}
 use Rattle.clap.proofs.WalkLemmas.{first_value-rows, raw_values-rows}
 use Rattle.fbsim_line.specs.Line.{IsNumber}
-use Rattle.std.specs.Prelude.{IfNone}
 use Rattle.fbsim_line.proofs.lemmas.LineLaws.{may_be_number, no_covered, no_covered_limit, no_covered_traces}
 use Rattle.fbsim_line.proofs.coverage_line.coverage_of.Goals as goal
 use Rattle.fbsim_line.proofs.coverage_line.coverage_of.Goals.{in_default-via-in-Some+in-Some+in_default, in_default-via-in-Some+in_default, in_default-via-in_default}

@@ -1,8 +1,7 @@
-use Rattle.std.proofs.Common.{◌∙◌, ℕ, List, Bor, Option, option_map, subst, sym, ap, codes}
+use Rattle.fb_types.proofs.Common.{◌∙◌, ℕ, List, Bor, Option, option_map, subst, sym, ap, codes, IfNone}
 use Rattle.clap.specs.Words.{found_of, rows_of}
 use Rattle.clap.proofs.WalkLemmas.{first_value-rows}
 use Rattle.fbsim_line.specs.Line.{IsNumber}
-use Rattle.std.specs.Prelude.{IfNone}
 use Rattle.fbsim_line.proofs.lemmas.LineLaws.{may_be_number, no_inspected, no_inspected_trace, no_limit}
 use Rattle.fbsim_line.proofs.inspect_line.inspect_of.Goals as goal
 use Rattle.fbsim_line.proofs.inspect_line.inspect_of.Goals.{in_default-via-in-Some+in-Some+in_default, in_default-via-in-Some+in_default, in_default-via-in_default}

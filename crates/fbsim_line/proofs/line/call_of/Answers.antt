@@ -1,5 +1,4 @@
-use Rattle.std.proofs.Common.{◌≡◌, ◌∙◌, None, sym, subst, codes}
-use Rattle.std.specs.Prelude.{IfSome}
+use Rattle.fb_types.proofs.Common.{◌≡◌, ◌∙◌, None, sym, subst, codes, IfSome}
 use Rattle.clap.specs.Words.{Text, first_of, found_of, rows_of}
 use Rattle.fbsim_line.specs.Line.{AsksCoverage, AsksDiff, AsksDraw, AsksExpect, AsksInspect, AsksSession, AsksWave, IsCall, IsNoTask, call_name}
 use Rattle.fbsim_line.specs.declared.bench_line.Diff.{Diff}

@@ -1,5 +1,4 @@
-use Rattle.std.proofs.Common.{◌≡◌, subst, sym}
-use Rattle.std.specs.Prelude.{IfOk}
+use Rattle.fb_types.proofs.Common.{◌≡◌, subst, sym, IfOk}
 use Rattle.clap.specs.Words.{app_of}
 use Rattle.fbsim_line.specs.Line.{command_for}
 use Rattle.fbsim_line.specs.declared.line.Subcommand.{Subcommand}

@@ -1,7 +1,6 @@
-use Rattle.std.proofs.Common.{rules, ◌≡◌, sym, ◌∙◌, codes, Some, None}
+use Rattle.fb_types.proofs.Common.{rules, ◌≡◌, sym, ◌∙◌, codes, Some, None, One, Two}
 use Rattle.clap.specs.Words.{found_of, first_value, rows_of}
 use Rattle.clap.proofs.WalkLemmas.{first_value-rows}
-use Rattle.fb_types.specs.declared.run.Form.TheVariants.{One, Two}
 use Rattle.fbsim_line.specs.Line.{word_of}
 use Rattle.fbsim_line.proofs.lemmas.LineLaws.{if_none, no_word, other_word}
 use Rattle.fbsim_line.proofs.line.form_of.Goals as goal

@@ -1,5 +1,4 @@
-use Rattle.std.proofs.Common.{rules, ◌≡◌, Bool, Option, sym, subst, ◌∙◌, codes, Some, None}
-use Rattle.std.specs.Prelude.{IfNone, IfSome}
+use Rattle.fb_types.proofs.Common.{rules, ◌≡◌, Bool, Option, sym, subst, ◌∙◌, codes, Some, None, IfNone, IfSome}
 use Rattle.clap.specs.Words.{found_of, first_value, rows_of}
 use Rattle.clap.proofs.WalkLemmas.{first_value-rows}
 use Rattle.fbsim_line.specs.Line.{AreLevels}

@@ -1,9 +1,7 @@
-use Rattle.std.proofs.Common.{◌∙◌, ℕ, List, Bor, Option, option_map, subst, sym, ap, codes}
+use Rattle.fb_types.proofs.Common.{◌∙◌, ℕ, List, Bor, Option, option_map, subst, sym, ap, codes, Form, IfNone}
 use Rattle.clap.specs.Words.{found_of, rows_of}
 use Rattle.clap.proofs.WalkLemmas.{first_value-rows}
-use Rattle.fb_types.specs.declared.run.Form.{Form}
 use Rattle.fbsim_line.specs.Line.{IsForm, IsNumber}
-use Rattle.std.specs.Prelude.{IfNone}
 use Rattle.fbsim_line.proofs.lemmas.LineLaws.{no_spoken, no_spoken_form, no_spoken_limit}
 use Rattle.fbsim_line.proofs.session_line.session_of.Goals as goal
 use Rattle.fbsim_line.proofs.session_line.session_of.Goals.{in_default-via-in-Some+in-Some+in_default, in_default-via-in-Some+in_default, in_default-via-in_default}

@@ -1,7 +1,5 @@
-use Rattle.std.proofs.Common.{◌∙◌, ◌||◌, Bool, List, ap, codes, map, sym}
+use Rattle.fb_types.proofs.Common.{◌∙◌, ◌||◌, Bool, List, ap, codes, map, sym, list_any, bytes_eq}
 use Rattle.std.specs.Borrow.{Bor}
-use Rattle.std.specs.List.{list_any}
-use Rattle.std.specs.Str.{bytes_eq}
 use Rattle.clap.specs.Words.{Text}
 use Rattle.clap.proofs.WalkLemmas.{list_any-map}
 use Rattle.fbsim_line.proofs.terminal.has_answer.Goals as goal

@@ -1,5 +1,4 @@
-use Rattle.std.proofs.Common.{◌∙◌, ◌+◌, ap}
-use Rattle.std.specs.Prelude.{min}
+use Rattle.fb_types.proofs.Common.{◌∙◌, ◌+◌, ap, min}
 use Rattle.fb_inputs.specs.Numbers.{natural}
 use Rattle.fbsim_session.specs.Commands.{clear_by}
 use Rattle.fbsim_session.proofs.lemmas.Commanding.{clear_equal, no_number}

@@ -1,6 +1,4 @@
-use Rattle.std.proofs.Common.{◌<◌, ◌∙◌, length, None, refl, sym, subst, arith, inl}
-use Rattle.std.specs.Prelude.{slice_index}
-use Rattle.fb_types.specs.Keys.{timer_key}
+use Rattle.fb_types.proofs.Common.{◌<◌, ◌∙◌, length, None, refl, sym, subst, arith, inl, slice_index, timer_key}
 use Rattle.fb_agenda.specs.Agendas.{Contents, IsTimed}
 use Rattle.fb_agenda.specs.Inside.{contents_of}
 use Rattle.fb_agenda.proofs.lemmas.QueueAndOthers.{later_apart, later_waits}

@@ -1,5 +1,4 @@
-use Rattle.std.proofs.Common.{sym, ◌∙◌}
-use Rattle.fb_agenda.specs.Inside.{contents_of}
+use Rattle.fb_agenda.proofs.lemmas.Common.{sym, ◌∙◌, contents_of}
 use Rattle.fb_agenda.proofs.lemmas.QueueAndOthers.{later_least, running_least}
 use Rattle.fb_agenda.proofs.lemmas.Orders.{less_is}
 use Rattle.fb_agenda.proofs.agenda.Agenda.first.Goals as goal

@@ -1,7 +1,4 @@
-use Rattle.std.proofs.Common.{sym, ap, subst, true, ◌∙◌}
-use Rattle.fb_agenda.specs.Agendas.{AreApart, local_events}
-use Rattle.fb_agenda.specs.Inside.{contents_of}
-use Rattle.fb_agenda.specs.Laters.{Pending}
+use Rattle.fb_agenda.proofs.lemmas.Common.{sym, ap, subst, true, ◌∙◌, AreApart, local_events, contents_of, Pending}
 use Rattle.fb_agenda.proofs.lemmas.QueueAndOthers.{contents}
 use Rattle.fb_agenda.proofs.lemmas.NothingWaits.{is_clear}
 use Rattle.fb_agenda.proofs.agenda.Agenda.is_clear.Goals as goal

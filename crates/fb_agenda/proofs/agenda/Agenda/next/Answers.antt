@@ -1,6 +1,5 @@
-use Rattle.std.proofs.Common.{subst, sym}
+use Rattle.fb_agenda.proofs.lemmas.Common.{subst, sym, contents_of}
 use Rattle.fb_agenda.specs.Agendas.{IsNext}
-use Rattle.fb_agenda.specs.Inside.{contents_of}
 use Rattle.fb_agenda.proofs.lemmas.QueueAndOthers.{next_first, next_of_both}
 use Rattle.fb_agenda.proofs.lemmas.Lists.{few_is_first, leads_none, many_is_first}
 use Rattle.fb_agenda.proofs.agenda.Agenda.next.Goals as goal

@@ -1,6 +1,5 @@
-use Rattle.std.proofs.Common.{ap}
+use Rattle.fb_agenda.proofs.lemmas.Common.{ap, local_events}
 use Rattle.fb_agenda.proofs.lemmas.QueueAndOthers.{apart_none}
-use Rattle.fb_agenda.specs.Agendas.{local_events}
 use Rattle.fb_agenda.proofs.agenda.Agenda.of.Goals as goal
 
 pub invariant_of-result : goal.invariant_of-result

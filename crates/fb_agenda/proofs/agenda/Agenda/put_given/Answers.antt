@@ -1,7 +1,4 @@
-use Rattle.std.proofs.Common.{◌≡◌, ap, arith, subst}
-use Rattle.std.specs.Prelude.{OnOk}
-use Rattle.fb_types.specs.declared.key.Key.{Key}
-use Rattle.fb_types.specs.declared.run.Event.TheVariants.{Given}
+use Rattle.fb_types.proofs.Common.{◌≡◌, ap, arith, subst, OnOk, Key, Given}
 use Rattle.fb_agenda.specs.Agendas.{IsPut, local_events}
 use Rattle.fb_agenda.proofs.lemmas.QueueAndOthers.{contents, put_later_apart, put_later_waits}
 use Rattle.fb_agenda.proofs.agenda.Agenda.put_given.Goals as goal

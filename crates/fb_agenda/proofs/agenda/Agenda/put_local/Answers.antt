@@ -1,11 +1,5 @@
-use Rattle.std.proofs.Common.{◌≡◌, None, ap, refl, subst}
-use Rattle.std.specs.Prelude.{OnOk}
-use Rattle.std.specs.Map.{lookup}
-use Rattle.fb_types.specs.Keys.{local_key, same_key}
-use Rattle.fb_types.specs.declared.key.Key.{Key}
+use Rattle.fb_agenda.proofs.lemmas.Common.{◌≡◌, None, ap, refl, subst, OnOk, lookup, local_key, same_key, Key, IsPut, contents_of}
 use Rattle.fb_types.specs.declared.run.Event.TheVariants.{Local}
-use Rattle.fb_agenda.specs.Agendas.{IsPut}
-use Rattle.fb_agenda.specs.Inside.{contents_of}
 use Rattle.fb_agenda.proofs.lemmas.Queueing.{put_now_apart, put_now_waits}
 use Rattle.fb_agenda.proofs.agenda.Agenda.put_local.Goals as goal
 

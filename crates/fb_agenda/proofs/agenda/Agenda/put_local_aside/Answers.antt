@@ -1,7 +1,5 @@
-use Rattle.std.proofs.Common.{arith}
+use Rattle.fb_agenda.proofs.lemmas.Common.{arith, local_events, contents_of}
 use Rattle.fb_types.specs.declared.run.Event.TheVariants.{Local}
-use Rattle.fb_agenda.specs.Agendas.{local_events}
-use Rattle.fb_agenda.specs.Inside.{contents_of}
 use Rattle.fb_agenda.proofs.lemmas.QueueAndOthers.{moved_apart, moved_waits}
 use Rattle.fb_agenda.proofs.agenda.Agenda.put_local_aside.Goals as goal
 

@@ -1,8 +1,5 @@
-use Rattle.std.proofs.Common.{◌≡◌, ap, arith, subst}
-use Rattle.std.specs.Prelude.{OnOk}
-use Rattle.fb_types.specs.declared.key.Key.{Key}
+use Rattle.fb_agenda.proofs.lemmas.Common.{◌≡◌, ap, arith, subst, OnOk, Key, IsPut, local_events}
 use Rattle.fb_types.specs.declared.run.Event.TheVariants.{Stimulus}
-use Rattle.fb_agenda.specs.Agendas.{IsPut, local_events}
 use Rattle.fb_agenda.proofs.lemmas.QueueAndOthers.{contents, put_later_apart, put_later_waits}
 use Rattle.fb_agenda.proofs.agenda.Agenda.put_stimulus.Goals as goal
 

@@ -1,9 +1,7 @@
-use Rattle.std.proofs.Common.{◌≡◌, false, Result, Ok, Err, is_err, sym, ◌∙◌}
-use Rattle.std.specs.Prelude.{OnOk}
-use Rattle.std.proofs.lemmas.Bool.{true≢false}
-use Rattle.fb_agenda.specs.Arrivals.{HasKeys, KeepsOthers, LacksKeys, arrivals_at}
+use Rattle.fb_agenda.proofs.lemmas.Common.{◌≡◌, false, Result, Ok, Err, sym, ◌∙◌, OnOk, HasKeys, KeepsOthers, LacksKeys, arrivals_at, contents_of}
+use Rattle.fb_types.proofs.Common.{true≢false}
+use Rattle.std.proofs.Common.{is_err}
 use Rattle.fb_agenda.proofs.lemmas.MessagesPut.{filled_keeps, filled_waits, freed_keeps, freed_waits, kept_apart}
-use Rattle.fb_agenda.specs.Inside.{contents_of}
 use Rattle.fb_agenda.proofs.agenda.Agenda.receive.Goals as goal
 
 pub invariant_of-self : goal.invariant_of-self

@@ -1,7 +1,4 @@
-use Rattle.std.proofs.Common.{◌<◌, length, sym, subst, arith}
-use Rattle.fb_types.specs.Keys.{timer_key}
-use Rattle.fb_types.specs.declared.run.Event.TheVariants.{Timer}
-use Rattle.fb_agenda.specs.Agendas.{Contents, local_events}
+use Rattle.fb_agenda.proofs.lemmas.Common.{◌<◌, length, sym, subst, arith, timer_key, Timer, Contents, local_events}
 use Rattle.fb_agenda.proofs.lemmas.QueueAndOthers.{put_later_apart, put_later_waits}
 use Rattle.fb_agenda.proofs.agenda.Agenda.start_timer.Goals as goal
 

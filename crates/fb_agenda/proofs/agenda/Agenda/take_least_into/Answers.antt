@@ -1,9 +1,4 @@
-use Rattle.std.proofs.Common.{◌≡◌, ◌++◌, sym, ap, subst, ◌∙◌}
-use Rattle.std.specs.Prelude.{IfNone}
-use Rattle.fb_agenda.specs.Agendas.{AreApart, Contents, local_events}
-use Rattle.fb_agenda.specs.Inside.{contents_of}
-use Rattle.fb_agenda.specs.Laters.{Pending}
-use Rattle.fb_agenda.specs.Lists.{BeginsAt, IsPopped}
+use Rattle.fb_agenda.proofs.lemmas.Common.{◌≡◌, ◌++◌, sym, ap, subst, ◌∙◌, IfNone, AreApart, Contents, local_events, contents_of, Pending, BeginsAt, IsPopped}
 use Rattle.fb_agenda.specs.LeastEvents.{taken}
 use Rattle.fb_agenda.proofs.lemmas.QueueAndOthers.{contents, later_popped, queue_popped, split_of, taken_below, taken_found, taken_kept, taken_least, taken_left, taken_none}
 use Rattle.fb_agenda.proofs.lemmas.Lists.{begins_few, begins_many, none_weaker, popped_few, popped_many}

@@ -1,6 +1,5 @@
-use Rattle.std.proofs.Common.{◌<◌, length, sym, subst}
-use Rattle.fb_agenda.specs.Agendas.{Contents, IsTimed}
-use Rattle.fb_agenda.specs.Inside.{contents_of}
+use Rattle.fb_agenda.proofs.lemmas.Common.{◌<◌, length, sym, subst, Contents, contents_of}
+use Rattle.fb_agenda.specs.Agendas.{IsTimed}
 use Rattle.fb_agenda.proofs.lemmas.Timers.{timer_none, timer_some}
 use Rattle.fb_agenda.proofs.agenda.Agenda.timer.Goals as goal
 

@@ -1,9 +1,5 @@
-use Rattle.std.proofs.Common.{◌≡◌, ◌<◌, ◌++◌, ◌∙◌, None, length, refl, sym, subst}
-use Rattle.std.specs.Prelude.{slice_index}
-use Rattle.std.proofs.lemmas.List.{get_or_default}
-use Rattle.fb_types.specs.Keys.{timer_key}
-use Rattle.fb_agenda.specs.Laters.{Pending}
-use Rattle.fb_agenda.specs.Lists.{Sets}
+use Rattle.fb_agenda.proofs.lemmas.Common.{◌≡◌, ◌<◌, ◌++◌, ◌∙◌, None, length, refl, sym, subst, timer_key, Pending, Sets}
+use Rattle.fb_types.proofs.Common.{slice_index, get_or_default}
 use Rattle.fb_agenda.proofs.lemmas.TimersAndOthers.{cleared_kept, timer_sets}
 use Rattle.fb_agenda.proofs.later.Later.clear_timer.Goals as goal
 

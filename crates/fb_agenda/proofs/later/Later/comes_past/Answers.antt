@@ -1,7 +1,4 @@
-use Rattle.std.proofs.Common.{subst}
-use Rattle.std.specs.Bool.{OnTrue}
-use Rattle.fb_agenda.specs.Laters.{Pending}
-use Rattle.fb_agenda.specs.Moments.{IsPast}
+use Rattle.fb_agenda.proofs.lemmas.Common.{subst, OnTrue, Pending, IsPast}
 use Rattle.fb_agenda.proofs.lemmas.NothingWaits.{past_none}
 use Rattle.fb_agenda.proofs.later.Later.comes_past.Goals as goal
 

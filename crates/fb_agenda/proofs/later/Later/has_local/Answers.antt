@@ -1,6 +1,4 @@
-use Rattle.std.proofs.Common.{◌∙◌, arith}
-use Rattle.std.specs.Map.{lookup}
-use Rattle.fb_types.specs.Keys.{same_key}
+use Rattle.fb_types.proofs.Common.{◌∙◌, arith, lookup, same_key}
 use Rattle.fb_types.proofs.lemmas.lists.Lookups.{or_else_nones}
 use Rattle.fb_agenda.proofs.lemmas.Lists.{lookup_both, when_false}
 use Rattle.fb_agenda.proofs.later.Later.has_local.Goals as goal

@@ -1,6 +1,4 @@
-use Rattle.std.proofs.Common.{sym, subst}
-use Rattle.fb_agenda.specs.Agendas.{IsFirst}
-use Rattle.fb_agenda.specs.Laters.{Pending}
+use Rattle.fb_agenda.proofs.lemmas.Common.{sym, subst, IsFirst, Pending}
 use Rattle.fb_agenda.proofs.lemmas.Moments.{quiet_first}
 use Rattle.fb_agenda.proofs.later.Later.note_first.Goals as goal
 

@@ -1,8 +1,5 @@
-use Rattle.std.proofs.Common.{Some, refl, sym, subst}
-use Rattle.fb_types.specs.Keys.{timer_key}
-use Rattle.fb_types.specs.declared.run.Event.TheVariants.{Timer}
+use Rattle.fb_agenda.proofs.lemmas.Common.{Some, refl, sym, subst, timer_key, Timer, Moment}
 use Rattle.fb_agenda.specs.Laters.{AreKept}
-use Rattle.fb_agenda.specs.declared.moment.Moment.{Moment}
 use Rattle.fb_agenda.proofs.lemmas.TimersAndOthers.{quieter, set_kept, timer_sets}
 use Rattle.fb_agenda.proofs.lemmas.Lists.{put_rises, put_sets}
 use Rattle.fb_agenda.proofs.later.Later.set_timer.Goals as goal

@@ -1,8 +1,4 @@
-use Rattle.std.proofs.Common.{◌≡◌, ◌<◌, ◌++◌, ◌∙◌, None, ap, length, refl, sym, subst}
-use Rattle.std.specs.Prelude.{IsSome}
-use Rattle.std.specs.Map.{lookup}
-use Rattle.std.proofs.lemmas.List.{get_or_default}
-use Rattle.fb_types.specs.Keys.{or_else, same_key, timer_key}
+use Rattle.fb_types.proofs.Common.{◌≡◌, ◌<◌, ◌++◌, ◌∙◌, None, ap, length, refl, sym, subst, IsSome, lookup, get_or_default, or_else, same_key, timer_key}
 use Rattle.fb_agenda.specs.Laters.{Pending}
 use Rattle.fb_agenda.proofs.lemmas.Lists.{lookup_both}
 use Rattle.fb_agenda.proofs.lemmas.Orders.{first_some}

@@ -1,7 +1,4 @@
-use Rattle.std.proofs.Common.{List, map, refl, sym, subst, arith}
-use Rattle.fb_types.specs.declared.key.Key.{Key}
-use Rattle.fb_types.specs.declared.run.Target.{Target}
-use Rattle.fb_agenda.specs.Agendas.{AreRising, IsFirst, keyed, local_events}
+use Rattle.fb_agenda.proofs.lemmas.Common.{List, map, refl, sym, subst, arith, Key, Target, AreRising, IsFirst, keyed, local_events}
 use Rattle.fb_agenda.proofs.lemmas.Queueing.{first_number}
 use Rattle.fb_agenda.proofs.queue.Queue.first.Goals as goal
 

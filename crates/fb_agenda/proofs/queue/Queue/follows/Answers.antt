@@ -1,9 +1,5 @@
-use Rattle.std.proofs.Common.{◌≡◌, ◌-◌, deque_len, List, map, refl, sym, subst, ◌∙◌, arith}
-use Rattle.std.proofs.lemmas.Bool.{eqb-true, ltb-true}
+use Rattle.fb_types.proofs.Common.{◌≡◌, ◌-◌, deque_len, List, map, refl, sym, subst, ◌∙◌, arith, eqb-true, ltb-true, local_key, Key, Target}
 use Rattle.std.specs.List.{AllByRecursion}
-use Rattle.fb_types.specs.Keys.{local_key}
-use Rattle.fb_types.specs.declared.key.Key.{Key}
-use Rattle.fb_types.specs.declared.run.Target.{Target}
 use Rattle.fb_agenda.specs.Agendas.{IsAt, IsQueue, MayFollow, keyed, local_events}
 use Rattle.fb_agenda.proofs.lemmas.Lists.{when_true}
 use Rattle.fb_agenda.proofs.lemmas.Queueing.{all_at, follows_number}

@@ -1,7 +1,4 @@
-use Rattle.std.proofs.Common.{◌≡◌, ◌<◌, ◌≤◌, length, get_or, true, false, sym, ap, subst, ◌∙◌, arith}
-use Rattle.std.specs.Ordering.{is_eq}
-use Rattle.fb_types.specs.Keys.{same_key}
-use Rattle.fb_types.specs.declared.key.Key.{Key}
+use Rattle.fb_types.proofs.Common.{◌≡◌, ◌<◌, ◌≤◌, length, get_or, true, false, sym, ap, subst, ◌∙◌, arith, is_eq, same_key, Key}
 use Rattle.fb_types.proofs.lemmas.events.KeyLaws.{same_key_is}
 use Rattle.fb_agenda.proofs.lemmas.Moments.{either_tick}
 use Rattle.fb_agenda.proofs.lemmas.Queueing.{absent_all, indexed, numbers_length}

@@ -1,7 +1,4 @@
-use Rattle.std.proofs.Common.{true, List, ap, map, sym, subst, ◌∙◌, arith}
-use Rattle.fb_types.specs.declared.key.Key.{Key}
-use Rattle.fb_types.specs.declared.run.Target.{Target}
-use Rattle.fb_agenda.specs.Agendas.{AreRising, keyed, local_events}
+use Rattle.fb_agenda.proofs.lemmas.Common.{true, List, ap, map, sym, subst, ◌∙◌, arith, Key, Target, AreRising, keyed, local_events}
 use Rattle.fb_agenda.specs.Moments.{IsMomentOf}
 use Rattle.fb_agenda.proofs.lemmas.Queueing.{empty_if, moment_of_first, some_if}
 use Rattle.fb_agenda.proofs.queue.Queue.moment.Goals as goal

@@ -1,5 +1,4 @@
-use Rattle.std.proofs.Common.{Some, ◌∙◌, arith}
-use Rattle.fb_agenda.specs.Agendas.{local_events}
+use Rattle.fb_agenda.proofs.lemmas.Common.{Some, ◌∙◌, arith, local_events}
 use Rattle.fb_agenda.proofs.lemmas.Lists.{below_first}
 use Rattle.fb_agenda.proofs.lemmas.Queueing.{number_popped, number_rises}
 use Rattle.fb_agenda.proofs.queue.Queue.pop_into.Goals as goal

@@ -1,8 +1,4 @@
-use Rattle.std.proofs.Common.{ℕ, List, [], ◌∷◌, ◌++◌, sym, ap, subst, ◌∙◌}
-use Rattle.std.specs.List.{AllByRecursion}
-use Rattle.fb_types.specs.Keys.{local_key}
-use Rattle.fb_types.specs.declared.key.Key.{Key}
-use Rattle.fb_types.specs.declared.run.Target.{Target}
+use Rattle.fb_agenda.proofs.lemmas.Common.{ℕ, List, [], ◌∷◌, ◌++◌, sym, ap, subst, ◌∙◌, local_key, Key, Target, AllByRecursion}
 use Rattle.fb_agenda.specs.Agendas.{IsAt}
 use Rattle.fb_agenda.proofs.lemmas.Queueing.{pushed}
 use Rattle.fb_agenda.proofs.queue.Queue.push.Goals as goal

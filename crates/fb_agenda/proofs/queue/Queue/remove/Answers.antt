@@ -1,8 +1,4 @@
-use Rattle.std.proofs.Common.{◌≡◌, List, map, ap, ◌∙◌, arith}
-use Rattle.std.specs.List.{remove}
-use Rattle.fb_types.specs.declared.key.Key.{Key}
-use Rattle.fb_types.specs.declared.run.Target.{Target}
-use Rattle.fb_agenda.specs.Agendas.{keyed, local_events}
+use Rattle.fb_agenda.proofs.lemmas.Common.{◌≡◌, List, map, ap, ◌∙◌, arith, Key, Target, remove, keyed, local_events}
 use Rattle.fb_agenda.proofs.lemmas.Queueing.{gone_queue, gone_sets, index_within, number_removed, numbers_length, where_some}
 use Rattle.fb_agenda.proofs.lemmas.TimerKeys.{none_sets}
 use Rattle.fb_agenda.proofs.queue.Queue.remove.Goals as goal

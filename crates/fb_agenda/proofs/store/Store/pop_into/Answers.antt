@@ -1,6 +1,4 @@
-use Rattle.std.proofs.Common.{◌<◌, refl, sym, subst, arith}
-use Rattle.std.specs.Prelude.{IfNone, IfSome}
-use Rattle.fb_agenda.specs.Lists.{BeginsAt, IsPopped}
+use Rattle.fb_agenda.proofs.lemmas.Common.{◌<◌, refl, sym, subst, arith, IfNone, IfSome, BeginsAt, IsPopped}
 use Rattle.fb_agenda.proofs.lemmas.Lists.{begins_empty, below_first}
 use Rattle.fb_agenda.proofs.store.Store.pop_into.Goals as goal
 

@@ -1,7 +1,4 @@
-use Rattle.std.proofs.Common.{◌≡◌, None, ap}
-use Rattle.std.specs.Map.{lookup}
-use Rattle.std.proofs.lemmas.List.{nil_from_length}
-use Rattle.fb_types.specs.Keys.{same_key}
+use Rattle.fb_types.proofs.Common.{◌≡◌, None, ap, lookup, nil_from_length, same_key}
 use Rattle.fb_agenda.proofs.lemmas.Lists.{put_absent, put_both, put_split}
 use Rattle.fb_agenda.proofs.store.Store.put.Goals as goal
 

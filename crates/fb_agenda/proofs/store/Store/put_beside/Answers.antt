@@ -1,7 +1,4 @@
-use Rattle.std.proofs.Common.{◌∙◌, Some, ap}
-use Rattle.std.specs.Prelude.{slice_set}
-use Rattle.std.specs.Map.{lookup}
-use Rattle.fb_types.specs.Keys.{or_else, same_key}
+use Rattle.fb_types.proofs.Common.{◌∙◌, Some, ap, slice_set, lookup, or_else, same_key}
 use Rattle.fb_agenda.proofs.lemmas.Lists.{alone, err_known, few_sets, few_split, lookup_both, many_sets, many_split, over_is, put_rises, put_sets}
 use Rattle.fb_agenda.proofs.store.Store.put_beside.Goals as goal
 

@@ -1,6 +1,4 @@
-use Rattle.std.proofs.Common.{None, sym, subst}
-use Rattle.fb_agenda.specs.Agendas.{AreRising}
-use Rattle.fb_agenda.specs.Lists.{Sets}
+use Rattle.fb_agenda.proofs.lemmas.Common.{None, sym, subst, AreRising, Sets}
 use Rattle.fb_agenda.proofs.lemmas.Lists.{alone, few_sets, few_split, many_sets, many_split, removed_rises, removed_sets}
 use Rattle.fb_agenda.proofs.store.Store.remove.Goals as goal
 

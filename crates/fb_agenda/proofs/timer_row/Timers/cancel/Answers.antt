@@ -1,6 +1,4 @@
-use Rattle.std.proofs.Common.{None, subst}
-use Rattle.fb_types.specs.declared.key.Key.{Key}
-use Rattle.fb_agenda.specs.Lists.{Sets}
+use Rattle.fb_agenda.proofs.lemmas.Common.{None, subst, Key, Sets}
 use Rattle.fb_agenda.proofs.lemmas.TimerKeys.{none_sets}
 use Rattle.fb_agenda.proofs.timer_row.Timers.cancel.Goals as goal
 

@@ -1,7 +1,4 @@
-use Rattle.std.proofs.Common.{refl, sym, subst, arith}
-use Rattle.fb_types.specs.declared.key.Key.{Key}
-use Rattle.fb_agenda.specs.Agendas.{AreRising, IsFirst}
-use Rattle.fb_agenda.specs.Timing.{timer_events}
+use Rattle.fb_agenda.proofs.lemmas.Common.{refl, sym, subst, arith, Key, AreRising, IsFirst, timer_events}
 use Rattle.fb_agenda.proofs.lemmas.TimerKeys.{first_timer}
 use Rattle.fb_agenda.proofs.timer_row.Timers.first.Goals as goal
 

@@ -1,12 +1,4 @@
-use Rattle.std.proofs.Common.{◌≡◌, None, sym, subst, arith, rules}
-use Rattle.std.specs.Prelude.{IsSome}
-use Rattle.std.specs.Map.{lookup}
-use Rattle.std.proofs.lemmas.List.Sorted.{answers_always}
-use Rattle.fb_types.specs.Keys.{same_key}
-use Rattle.fb_types.specs.declared.key.Key.{Key}
-use Rattle.fb_agenda.specs.Agendas.{AreRising}
-use Rattle.fb_agenda.specs.Timing.{timer_event, timer_events}
-use Rattle.fb_agenda.specs.declared.timer_row.Timed.{Timed}
+use Rattle.fb_agenda.proofs.lemmas.Common.{◌≡◌, None, sym, subst, arith, rules, IsSome, lookup, answers_always, same_key, Key, AreRising, timer_event, timer_events, Timed}
 use Rattle.fb_agenda.proofs.lemmas.TimerKeys.{timer_absent, timer_here, timers_searchable}
 use Rattle.fb_agenda.proofs.timer_row.Timers.has.Goals as goal
 

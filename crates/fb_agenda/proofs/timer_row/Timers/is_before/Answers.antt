@@ -1,11 +1,5 @@
-use Rattle.std.proofs.Common.{◌≡◌, None, refl, sym, subst, ◌∙◌, arith}
-use mathlib.Core.Bool.{false≢true}
-use Rattle.std.specs.Map.{lookup}
-use Rattle.fb_types.specs.Keys.{Precedes, key_cmp, same_key}
-use Rattle.fb_types.specs.declared.key.Key.{Key}
-use Rattle.fb_agenda.specs.Agendas.{AreRising}
-use Rattle.fb_agenda.specs.Timing.{timer_event, timer_events}
-use Rattle.fb_agenda.specs.declared.timer_row.Timed.{Timed}
+use Rattle.fb_agenda.proofs.lemmas.Common.{◌≡◌, None, refl, sym, subst, ◌∙◌, arith, lookup, Precedes, key_cmp, same_key, Key, AreRising, timer_event, timer_events, Timed}
+use Rattle.fb_types.proofs.Common.{false≢true}
 use Rattle.fb_agenda.proofs.lemmas.Lists.{when_true}
 use Rattle.fb_agenda.proofs.lemmas.Orders.{less_from, less_is}
 use Rattle.fb_agenda.proofs.lemmas.TimerKeys.{absent_no_timer, absent_timer}

@@ -1,10 +1,5 @@
-use Rattle.std.proofs.Common.{◌-◌, deque_len, refl, sym, subst, ◌∙◌, arith}
-use mathlib.Core.Bool.{false≢true}
-use Rattle.fb_types.specs.Keys.{Precedes, key_cmp}
-use Rattle.fb_types.specs.declared.key.Key.{Key}
-use Rattle.fb_agenda.specs.Agendas.{AreRising}
-use Rattle.fb_agenda.specs.Timing.{timer_event, timer_events}
-use Rattle.fb_agenda.specs.declared.timer_row.Timed.{Timed}
+use Rattle.fb_agenda.proofs.lemmas.Common.{deque_len, refl, sym, subst, ◌∙◌, arith, Precedes, key_cmp, Key, AreRising, timer_event, timer_events, Timed}
+use Rattle.fb_types.proofs.Common.{◌-◌, false≢true}
 use Rattle.fb_agenda.proofs.lemmas.Lists.{when_true}
 use Rattle.fb_agenda.proofs.lemmas.Orders.{AllBefore, less_from, less_is}
 use Rattle.fb_agenda.proofs.lemmas.TimerKeys.{before_no_timer, before_timer}

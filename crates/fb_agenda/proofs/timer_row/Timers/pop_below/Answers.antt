@@ -1,7 +1,4 @@
-use Rattle.std.proofs.Common.{refl, sym, subst, arith}
-use Rattle.fb_agenda.specs.Agendas.{AreRising}
-use Rattle.fb_agenda.specs.Lists.{BeginsAt}
-use Rattle.fb_agenda.specs.Timing.{timer_events}
+use Rattle.fb_agenda.proofs.lemmas.Common.{refl, sym, subst, arith, AreRising, BeginsAt, timer_events}
 use Rattle.fb_agenda.proofs.lemmas.TimerKeys.{first_timer, timer_popped}
 use Rattle.fb_agenda.proofs.timer_row.Timers.pop_below.Goals as goal
 

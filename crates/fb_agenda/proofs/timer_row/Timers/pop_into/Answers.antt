@@ -1,8 +1,4 @@
-use Rattle.std.proofs.Common.{None, Some, sym, subst}
-use Rattle.fb_types.specs.declared.key.Key.{Key}
-use Rattle.fb_types.specs.declared.run.Event.TheVariants.{Timer}
-use Rattle.fb_agenda.specs.Lists.{IsPopped}
-use Rattle.fb_agenda.specs.Timing.{timer_event}
+use Rattle.fb_agenda.proofs.lemmas.Common.{None, Some, sym, subst, Key, Timer, IsPopped, timer_event}
 use Rattle.fb_agenda.proofs.lemmas.Lists.{front_popped, rest_rises}
 use Rattle.fb_agenda.proofs.timer_row.Timers.pop_into.Goals as goal
 

@@ -1,11 +1,4 @@
-use Rattle.std.proofs.Common.{◌≡◌, ◌<◌, length, None, sym, subst, arith, rules}
-use Rattle.std.specs.Map.{lookup}
-use Rattle.std.proofs.lemmas.List.Sorted.{answers_always}
-use Rattle.fb_types.specs.Keys.{same_key}
-use Rattle.fb_agenda.specs.Agendas.{AreRising}
-use Rattle.fb_agenda.specs.Lists.{Sets}
-use Rattle.fb_agenda.specs.Timing.{timer_event, timer_events}
-use Rattle.fb_agenda.specs.declared.timer_row.Timed.{Timed}
+use Rattle.fb_agenda.proofs.lemmas.Common.{◌≡◌, ◌<◌, length, None, sym, subst, arith, rules, lookup, answers_always, same_key, AreRising, Sets, timer_event, timer_events, Timed}
 use Rattle.fb_agenda.proofs.lemmas.Queueing.{where_some}
 use Rattle.fb_agenda.proofs.lemmas.TimerKeys.{none_sets, timer_absent, timer_gone, timer_gone_rises, timers_searchable}
 use Rattle.fb_agenda.proofs.timer_row.Timers.remove_within.Goals as goal

@@ -1,6 +1,4 @@
-use Rattle.std.proofs.Common.{[], ◌∷◌, ◌++◌, ap, subst, ◌∙◌}
-use Rattle.fb_types.specs.declared.key.Key.{Key}
-use Rattle.fb_agenda.specs.declared.timer_row.Timed.{Timed}
+use Rattle.fb_agenda.proofs.lemmas.Common.{[], ◌∷◌, ◌++◌, ap, subst, ◌∙◌, Key, Timed}
 use Rattle.fb_agenda.proofs.lemmas.Orders.{AllBefore}
 use Rattle.fb_agenda.proofs.lemmas.TimerKeys.{timer_pushed}
 use Rattle.fb_agenda.proofs.timer_row.Timers.set.Goals as goal

@@ -1,12 +1,4 @@
-use Rattle.std.proofs.Common.{ap, sym, subst, ◌∙◌, arith, rules}
-use Rattle.std.specs.BTreeMap.{insert_entry}
-use Rattle.std.proofs.lemmas.List.Sorted.{answers_always}
-use Rattle.fb_types.specs.Keys.{key_cmp}
-use Rattle.fb_types.specs.declared.key.Key.{Key}
-use Rattle.fb_types.specs.declared.run.Event.TheVariants.{Timer}
-use Rattle.fb_agenda.specs.Agendas.{AreRising}
-use Rattle.fb_agenda.specs.Timing.{timer_event, timer_events}
-use Rattle.fb_agenda.specs.declared.timer_row.Timed.{Timed}
+use Rattle.fb_agenda.proofs.lemmas.Common.{ap, sym, subst, ◌∙◌, arith, rules, insert_entry, answers_always, key_cmp, Key, Timer, AreRising, timer_event, timer_events, Timed}
 use Rattle.fb_agenda.proofs.lemmas.TimerKeys.{timer_put_between, timer_put_over, timers_searchable}
 use Rattle.fb_agenda.proofs.timer_row.Timers.set_within.Goals as goal
 

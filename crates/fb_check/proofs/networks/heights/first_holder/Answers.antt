@@ -1,6 +1,5 @@
-use Rattle.std.proofs.Common.{sym, ◌∙◌}
+use Rattle.fb_check.proofs.lemmas.Common.{sym, ◌∙◌, HoldsNone}
 use Rattle.fb_types.proofs.lemmas.lists.LoopSteps.{all_next, all_of_taken}
-use Rattle.fb_check.specs.networks.Heights.{HoldsNone}
 use Rattle.fb_check.proofs.lemmas.networks.SearchLoops.{at_element}
 use Rattle.fb_check.proofs.networks.heights.first_holder.Goals as goal
 

@@ -1,6 +1,4 @@
-use Rattle.std.proofs.Common.{take}
-use Rattle.std.specs.Prelude.{All}
-use Rattle.fb_check.specs.networks.Heights.{HoldsNone}
+use Rattle.fb_check.proofs.lemmas.Common.{take, All, HoldsNone}
 use Rattle.fb_check.proofs.networks.heights.first_holder.Given as goal
 
 abbrev pub invariant-loop-block : goal.invariant-loop-block

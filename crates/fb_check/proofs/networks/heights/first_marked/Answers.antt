@@ -1,6 +1,4 @@
-use Rattle.std.proofs.Common.{sym, ◌∙◌}
-use Rattle.std.specs.Prelude.{position}
-use Rattle.fb_check.specs.networks.Heights.{is_marked}
+use Rattle.fb_check.proofs.lemmas.Common.{sym, ◌∙◌, position, is_marked}
 use Rattle.fb_check_names.proofs.lemmas.twice.Repeating.{same_within}
 use Rattle.fb_check.proofs.lemmas.networks.SearchLoops.{at_first, found_first, found_none, not_first}
 use Rattle.fb_check.proofs.networks.heights.first_marked.Goals as goal

@@ -1,7 +1,5 @@
-use Rattle.std.proofs.Common.{◌≡◌, drop}
-use Rattle.std.specs.Prelude.{position}
+use Rattle.fb_check.proofs.lemmas.Common.{◌≡◌, drop, position, is_marked}
 use Rattle.fb_check.proofs.lemmas.networks.SearchLoops.{following}
-use Rattle.fb_check.specs.networks.Heights.{is_marked}
 use Rattle.fb_check.proofs.networks.heights.first_marked.Given as goal
 
 abbrev pub invariant-loop-component : goal.invariant-loop-component

@@ -1,6 +1,4 @@
-use Rattle.std.proofs.Common.{◌++◌, ◌∷◌, [], map, sym, ◌∙◌, ap}
-use Rattle.std.specs.Prelude.{is_some}
-use Rattle.std.proofs.lemmas.List.{take_all}
+use Rattle.fb_types.proofs.Common.{◌++◌, ◌∷◌, [], map, sym, ◌∙◌, ap, is_some, take_all}
 use Rattle.fb_types.proofs.lemmas.lists.LoopSteps.{map_take_more}
 use Rattle.fb_check.proofs.networks.heights.mark_all.Goals as goal
 

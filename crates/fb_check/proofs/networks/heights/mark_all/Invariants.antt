@@ -1,5 +1,4 @@
-use Rattle.std.proofs.Common.{◌≡◌, map, take}
-use Rattle.std.specs.Prelude.{is_some}
+use Rattle.fb_types.proofs.Common.{◌≡◌, map, take, is_some}
 use Rattle.fb_check.proofs.networks.heights.mark_all.Given as goal
 
 abbrev pub invariant-loop-numbers : goal.invariant-loop-numbers

@@ -1,7 +1,4 @@
-use Rattle.std.proofs.Common.{[], List, Option, None, Some, sym, ◌∙◌, ap}
-use Rattle.std.specs.Option.{option_copied}
-use Rattle.fb_types.specs.Names.{Name}
-use Rattle.fb_types.specs.declared.library.EventPort.{EventPort}
+use Rattle.fb_types.proofs.Common.{[], List, Option, None, Some, sym, ◌∙◌, ap, option_copied, Name, EventPort}
 use Rattle.fb_check.proofs.networks.interfaces.variables_with.Goals as goal
 
 pub returns-in-Some : goal.returns-in-Some

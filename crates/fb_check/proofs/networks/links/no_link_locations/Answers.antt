@@ -1,17 +1,10 @@
-use Rattle.std.proofs.Common.{◌≡◌, ◌++◌, [], List, Contains, subst, ◌∙◌}
-use Rattle.std.specs.Prelude.{All}
-use Rattle.fb_types.specs.Mapped.{NoLink}
-use Rattle.fb_types.specs.declared.deploy.Link.{Link}
-use Rattle.fb_types.specs.declared.deploy.Plan.{Plan}
-use Rattle.fb_types.specs.declared.library.Connection.{Connection}
-use Rattle.fb_types.specs.declared.library.Library.{Library}
+use Rattle.fb_check.proofs.lemmas.Common.{◌≡◌, ◌++◌, [], List, Contains, subst, ◌∙◌, All, Link, Plan, Connection, Library, each_at, Events, Data, no_link_at}
+use Rattle.fb_types.proofs.Common.{NoLink}
 use Rattle.fb_types.proofs.lemmas.lists.Elements.{Contains-nil}
-use Rattle.fb_check_names.specs.Listed.{each_at}
-use Rattle.fb_check_names.specs.declared.location.FlowKind.TheVariants.{Events, Data}
 use Rattle.fb_check_names.specs.declared.location.NoLinkAt.{NoLinkAt}
 use Rattle.fb_check.proofs.lemmas.types.GrowingLists.{and_both, ok_joined}
 use Rattle.fb_check_names.proofs.lemmas.Listing.{of_list}
-use Rattle.fb_check.specs.networks.Links.{AreWays, IsNoLinkAt, no_link_all, no_link_at}
+use Rattle.fb_check.specs.networks.Links.{AreWays, IsNoLinkAt, no_link_all}
 use Rattle.fb_check.proofs.lemmas.networks.SetsOfSeen.{has_none, pair_cmp, pair_view}
 use Rattle.fb_check.proofs.lemmas.networks.NoLink.{each_no_link, none_no_link, ways_from}
 use Rattle.fb_check.proofs.networks.links.no_link_locations.Goals as goal

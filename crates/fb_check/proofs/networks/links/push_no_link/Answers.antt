@@ -1,5 +1,4 @@
-use Rattle.std.proofs.Common.{◌≡◌, ◌∙◌, ℕ, nat_eq, true, arith}
-use Rattle.std.proofs.lemmas.Bool.Decides.{nat_tests}
+use Rattle.fb_types.proofs.Common.{◌≡◌, ◌∙◌, ℕ, nat_eq, true, arith, nat_tests}
 use Rattle.fb_check_names.proofs.lemmas.Listing.{added_unless, each_done, each_more}
 use Rattle.fb_check.specs.networks.Links.{is_linked, no_link_at}
 use Rattle.fb_check.proofs.lemmas.networks.NoLink.{linked_is, linked_same}

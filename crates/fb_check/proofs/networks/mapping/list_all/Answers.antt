@@ -1,11 +1,6 @@
-use Rattle.std.proofs.Common.{◌≡◌, ◌++◌, List, ℕ, append_assoc, map, ◌∙◌, ap, subst}
-use Rattle.std.specs.Prelude.{flat_map}
-use Rattle.fb_types.specs.Names.{Name, same_name}
+use Rattle.fb_check.proofs.lemmas.Common.{◌≡◌, ◌++◌, List, ℕ, append_assoc, map, ◌∙◌, ap, subst, flat_map, Name, same_name, each_at, NotMappedAt, Again}
 use Rattle.fb_check_names.specs.Indexes.{names_in, AreLastIndexes}
-use Rattle.fb_check_names.specs.Listed.{each_at}
 use Rattle.fb_check_names.specs.Repeats.{repeats}
-use Rattle.fb_check_names.specs.declared.location.NotMappedAt.{NotMappedAt}
-use Rattle.fb_check_names.specs.declared.location.NotMappedAt.TheVariants.{Again}
 use Rattle.fb_check.proofs.lemmas.types.GrowingLists.{and_both, ok_joined}
 use Rattle.fb_check.specs.networks.NotMapped.{unlisted_at}
 use Rattle.fb_check.proofs.lemmas.networks.Owners.{unlisted_are}

@@ -1,7 +1,4 @@
-use Rattle.std.proofs.Common.{List, ◌++◌, ◌∙◌, ap}
-use Rattle.std.specs.Prelude.{flat_map}
-use Rattle.fb_types.specs.declared.deploy.ResourceEntry.{ResourceEntry}
-use Rattle.fb_check_names.specs.declared.location.NotMappedAt.{NotMappedAt}
+use Rattle.fb_check.proofs.lemmas.Common.{List, ◌++◌, ◌∙◌, ap, flat_map, ResourceEntry, NotMappedAt}
 use Rattle.fb_check.proofs.lemmas.networks.Mapped.{all_listed, all_mapped, found_among, none_of_all}
 use Rattle.fb_check.proofs.networks.mapping.mapping_of.Goals as goal
 

@@ -1,8 +1,5 @@
-use Rattle.std.proofs.Common.{◌++◌, List, ℕ, map, ◌∙◌, ap}
-use Rattle.fb_types.specs.Names.{Name}
-use Rattle.fb_check_names.specs.Listed.{each_at}
+use Rattle.fb_check.proofs.lemmas.Common.{◌++◌, List, ℕ, map, ◌∙◌, ap, Name, each_at, owners_in}
 use Rattle.fb_check_names.proofs.lemmas.Listing.{each_done, each_more}
-use Rattle.fb_check.specs.networks.Mapping.{owners_in}
 use Rattle.fb_check.proofs.networks.mapping.owners_of.Goals as goal
 
 pub loop-number-init : goal.loop-number-init

@@ -1,6 +1,4 @@
-use Rattle.std.proofs.Common.{◌≡◌, ◌++◌, drop}
-use Rattle.fb_check_names.specs.Listed.{each_at, each_from}
-use Rattle.fb_check.specs.networks.Mapping.{owners_in}
+use Rattle.fb_check.proofs.lemmas.Common.{◌≡◌, ◌++◌, drop, each_at, each_from, owners_in}
 use Rattle.fb_check.proofs.networks.mapping.owners_of.Given as goal
 
 abbrev pub invariant-loop-number : goal.invariant-loop-number

@@ -1,5 +1,4 @@
-use Rattle.std.proofs.Common.{ℕ, zero, List, map, refl}
-use Rattle.fb_check_names.specs.declared.location.NotMappedAt.TheVariants.{Again}
+use Rattle.fb_check.proofs.lemmas.Common.{ℕ, zero, List, map, refl, Again}
 use Rattle.fb_check_names.proofs.lemmas.Listing.{walk_done}
 use Rattle.fb_check_names.proofs.lemmas.twice.Repeating.{copied_more}
 use Rattle.fb_check.proofs.networks.mapping.push_again.Goals as goal

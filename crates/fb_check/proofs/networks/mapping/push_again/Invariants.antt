@@ -1,5 +1,4 @@
-use Rattle.std.proofs.Common.{◌≡◌, ◌++◌, ℕ, drop, map}
-use Rattle.fb_check_names.specs.declared.location.NotMappedAt.TheVariants.{Again}
+use Rattle.fb_check.proofs.lemmas.Common.{◌≡◌, ◌++◌, ℕ, drop, map, Again}
 use Rattle.fb_check.proofs.networks.mapping.push_again.Given as goal
 
 abbrev pub invariant-loop-pair : goal.invariant-loop-pair

@@ -1,5 +1,4 @@
-use Rattle.std.proofs.Common.{ℕ, List, [], map, refl}
-use Rattle.fb_types.specs.Names.{Name}
+use Rattle.fb_types.proofs.Common.{ℕ, List, [], map, refl, Name}
 use Rattle.fb_check_names.proofs.lemmas.Listing.{walk_done}
 use Rattle.fb_check_names.proofs.lemmas.twice.Repeating.{copied_more}
 use Rattle.fb_check.proofs.networks.mapping.push_owner.Goals as goal

@@ -1,5 +1,4 @@
-use Rattle.std.specs.Prelude.{is_some}
-use Rattle.fb_check_names.specs.Indexes.{index_in}
+use Rattle.fb_check.proofs.lemmas.Common.{is_some, index_in}
 use Rattle.fb_check_names.specs.declared.location.NotMappedAt.TheVariants.{Unlisted}
 use Rattle.fb_check_names.proofs.lemmas.Listing.{added_unless, each_done, each_more}
 use Rattle.fb_check.specs.networks.Mapping.{unlisted_by}

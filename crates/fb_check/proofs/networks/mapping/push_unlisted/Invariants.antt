@@ -1,5 +1,4 @@
-use Rattle.std.proofs.Common.{◌≡◌, ◌++◌, drop}
-use Rattle.fb_check_names.specs.Listed.{each_at, each_from}
+use Rattle.fb_check.proofs.lemmas.Common.{◌≡◌, ◌++◌, drop, each_at, each_from}
 use Rattle.fb_check.specs.networks.Mapping.{unlisted_by}
 use Rattle.fb_check.proofs.networks.mapping.push_unlisted.Given as goal
 

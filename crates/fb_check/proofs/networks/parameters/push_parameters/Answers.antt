@@ -1,9 +1,4 @@
-use Rattle.std.proofs.Common.{ℕ, List, ◌++◌, sym, ◌∙◌, ap}
-use Rattle.std.specs.Prelude.{slice_get}
-use Rattle.std.proofs.lemmas.Option.{slice_get_past}
-use Rattle.fb_types.specs.declared.library.Parameter.{Parameter}
-use Rattle.fb_check_names.specs.Listed.{each_at}
-use Rattle.fb_check_names.specs.declared.location.KindWrongAt.{KindWrongAt}
+use Rattle.fb_check.proofs.lemmas.Common.{ℕ, List, ◌++◌, sym, ◌∙◌, ap, slice_get, slice_get_past, Parameter, each_at, KindWrongAt}
 use Rattle.fb_check_names.proofs.lemmas.Listing.{each_done, each_more}
 use Rattle.fb_check.proofs.lemmas.networks.SearchLoops.{at_element}
 use Rattle.fb_check.proofs.lemmas.networks.Valued.{has_input, kind_wrong_parameter, parameter_is, parameters_are}

@@ -1,5 +1,4 @@
-use Rattle.std.proofs.Common.{◌≡◌, ◌++◌, drop}
-use Rattle.fb_check_names.specs.Listed.{each_at, each_from}
+use Rattle.fb_check.proofs.lemmas.Common.{◌≡◌, ◌++◌, drop, each_at, each_from}
 use Rattle.fb_check.proofs.lemmas.networks.Valued.{kind_wrong_parameter}
 use Rattle.fb_check.proofs.networks.parameters.push_parameters.Given as goal
 

@@ -1,6 +1,4 @@
-use Rattle.std.proofs.Common.{◌≡◌, ◌++◌, drop}
-use Rattle.fb_check_names.specs.Listed.{each_at, each_from}
-use Rattle.fb_check.specs.networks.Parameters.{kind_wrong_parameters}
+use Rattle.fb_check.proofs.lemmas.Common.{◌≡◌, ◌++◌, drop, each_at, each_from, kind_wrong_parameters}
 use Rattle.fb_check.proofs.networks.parameters.push_wrong_parameters.Given as goal
 
 abbrev pub invariant-loop-instance : goal.invariant-loop-instance

@@ -1,17 +1,8 @@
-use Rattle.std.proofs.Common.{◌≡◌, ◌++◌, [], List, None, ◌∙◌, ap}
-use Rattle.std.specs.Prelude.{All}
-use Rattle.fb_types.specs.Joined.{OutOfRange}
-use Rattle.fb_types.specs.Repeated.{NameTwice}
-use Rattle.fb_types.specs.declared.deploy.Plan.{Plan}
-use Rattle.fb_types.specs.declared.library.Library.{Library}
-use Rattle.fb_check_names.specs.Listed.{each_at}
-use Rattle.fb_check_names.specs.Numbers.{IsResolved}
-use Rattle.fb_check_names.specs.declared.location.OutOfRangeAt.{OutOfRangeAt}
-use Rattle.fb_check_names.specs.declared.location.Site.TheVariants.{Application}
-use Rattle.fb_check_names.specs.declared.numbers.Resolved.{Resolved}
+use Rattle.fb_check.proofs.lemmas.Common.{◌≡◌, ◌++◌, [], List, None, ◌∙◌, ap, All, NameTwice, Plan, Library, each_at, IsResolved, OutOfRangeAt, Application, Resolved, out_at_index}
+use Rattle.fb_types.proofs.Common.{OutOfRange}
 use Rattle.fb_check.proofs.lemmas.types.GrowingLists.{and_both, ok_joined}
 use Rattle.fb_check_names.proofs.lemmas.Listing.{of_list}
-use Rattle.fb_check.specs.networks.OutOfRange.{IsOutOfRangeAt, out_of_range_all, out_at_index, out_in}
+use Rattle.fb_check.specs.networks.OutOfRange.{IsOutOfRangeAt, out_of_range_all, out_in}
 use Rattle.fb_check.proofs.lemmas.networks.Ranges.{each_out_of_range, out_of_range_are, none_out_of_range}
 use Rattle.fb_check.proofs.networks.ranges.out_of_range_locations.Goals as goal
 

@@ -1,6 +1,4 @@
-use Rattle.std.proofs.Common.{◌≡◌, ◌++◌, drop}
-use Rattle.fb_check_names.specs.Listed.{each_at, each_from}
-use Rattle.fb_check.specs.networks.OutOfRange.{out_at_index}
+use Rattle.fb_check.proofs.lemmas.Common.{◌≡◌, ◌++◌, drop, each_at, each_from, out_at_index}
 use Rattle.fb_check.proofs.networks.ranges.push_in_blocks.Given as goal
 
 abbrev pub invariant-loop-block : goal.invariant-loop-block

@@ -1,7 +1,4 @@
-use Rattle.std.proofs.Common.{◌≡◌, ℕ, ◌+◌, ◌<◌, Bool, List, ◌++◌, drop, get_or, length, not, ◌∙◌, ap}
-use Rattle.std.specs.Option.{option_copied}
-use Rattle.fb_check_names.specs.Listed.{each_at, each_from, unless}
-use Rattle.fb_check_names.specs.declared.location.OutOfRangeAt.{OutOfRangeAt}
+use Rattle.fb_check.proofs.lemmas.Common.{◌≡◌, ℕ, ◌+◌, ◌<◌, Bool, List, ◌++◌, drop, get_or, length, not, ◌∙◌, ap, option_copied, each_at, each_from, unless, OutOfRangeAt}
 use Rattle.fb_check_names.proofs.lemmas.Listing.{each_done, each_more}
 use Rattle.fb_check_names.proofs.lemmas.twice.Repeating.{same_within}
 use Rattle.fb_check.specs.networks.OutOfRange.{out_at}

@@ -1,6 +1,4 @@
-use Rattle.std.proofs.Common.{◌≡◌, ◌++◌, drop}
-use Rattle.std.specs.Option.{option_copied}
-use Rattle.fb_check_names.specs.Listed.{each_at, each_from}
+use Rattle.fb_check.proofs.lemmas.Common.{◌≡◌, ◌++◌, drop, option_copied, each_at, each_from}
 use Rattle.fb_check.specs.networks.OutOfRange.{out_at}
 use Rattle.fb_check.proofs.networks.ranges.push_in_network.Given as goal
 

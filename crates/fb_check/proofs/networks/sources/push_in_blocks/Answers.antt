@@ -1,6 +1,5 @@
-use Rattle.fb_check_names.specs.Sites.{inside_of}
+use Rattle.fb_check.proofs.lemmas.Common.{inside_of, two_sources_in}
 use Rattle.fb_check_names.proofs.lemmas.Listing.{each_done, each_more}
-use Rattle.fb_check.specs.networks.Sources.{two_sources_in}
 use Rattle.fb_check.proofs.networks.sources.push_in_blocks.Goals as goal
 
 pub loop-block-preserved : goal.loop-block-preserved

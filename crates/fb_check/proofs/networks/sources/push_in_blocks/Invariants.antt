@@ -1,7 +1,4 @@
-use Rattle.std.proofs.Common.{◌≡◌, ◌++◌, drop}
-use Rattle.fb_check_names.specs.Listed.{each_at, each_from}
-use Rattle.fb_check_names.specs.Sites.{inside_of}
-use Rattle.fb_check.specs.networks.Sources.{two_sources_in}
+use Rattle.fb_check.proofs.lemmas.Common.{◌≡◌, ◌++◌, drop, each_at, each_from, inside_of, two_sources_in}
 use Rattle.fb_check.proofs.networks.sources.push_in_blocks.Given as goal
 
 abbrev pub invariant-loop-block : goal.invariant-loop-block

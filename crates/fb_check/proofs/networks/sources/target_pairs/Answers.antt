@@ -1,7 +1,5 @@
-use Rattle.std.proofs.Common.{◌++◌, List, ℕ, ◌∙◌, ap}
-use Rattle.fb_types.specs.Names.{same_port}
+use Rattle.fb_check.proofs.lemmas.Common.{◌++◌, List, ℕ, ◌∙◌, ap, same_port, each_at}
 use Rattle.fb_check_names.specs.Ends.{end_port}
-use Rattle.fb_check_names.specs.Listed.{each_at}
 use Rattle.fb_check_names.proofs.lemmas.Listing.{each_done, each_more}
 use Rattle.fb_check_names.proofs.lemmas.twice.Repeating.{last_more, last_none, pair_in, pairs_are, index_in_table}
 use Rattle.fb_check.specs.networks.Sources.{target}

@@ -1,7 +1,5 @@
-use Rattle.std.proofs.Common.{◌≡◌, ◌++◌, drop, take}
-use Rattle.fb_types.specs.Names.{same_port}
+use Rattle.fb_check.proofs.lemmas.Common.{◌≡◌, ◌++◌, drop, take, same_port, each_at, each_from}
 use Rattle.fb_check_names.specs.Ends.{end_port}
-use Rattle.fb_check_names.specs.Listed.{each_at, each_from}
 use Rattle.fb_check_names.proofs.lemmas.twice.Repeating.{AreLast, pair_in}
 use Rattle.fb_check.specs.networks.Sources.{target, targets}
 use Rattle.fb_check.proofs.lemmas.networks.Targets.{end_cmp}

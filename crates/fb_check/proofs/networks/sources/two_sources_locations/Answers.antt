@@ -1,16 +1,9 @@
-use Rattle.std.proofs.Common.{◌≡◌, ◌++◌, [], List, ◌∙◌}
-use Rattle.std.specs.Prelude.{All}
+use Rattle.fb_check.proofs.lemmas.Common.{◌≡◌, ◌++◌, [], List, ◌∙◌, All, BlockType, Connection, Library, each_at, inside_of, Application, two_sources_in}
 use Rattle.fb_types.specs.Joined.{TwoSources}
-use Rattle.fb_types.specs.declared.library.BlockType.{BlockType}
-use Rattle.fb_types.specs.declared.library.Connection.{Connection}
-use Rattle.fb_types.specs.declared.library.Library.{Library}
-use Rattle.fb_check_names.specs.Listed.{each_at}
-use Rattle.fb_check_names.specs.Sites.{inside_of}
 use Rattle.fb_check_names.specs.declared.location.TwoSourcesAt.{TwoSourcesAt}
-use Rattle.fb_check_names.specs.declared.location.Site.TheVariants.{Application}
 use Rattle.fb_check.proofs.lemmas.types.GrowingLists.{and_both, ok_joined}
 use Rattle.fb_check_names.proofs.lemmas.Listing.{of_list}
-use Rattle.fb_check.specs.networks.Sources.{IsTwoSourcesAt, two_sources_all, two_sources_among, two_sources_in}
+use Rattle.fb_check.specs.networks.Sources.{IsTwoSourcesAt, two_sources_all, two_sources_among}
 use Rattle.fb_check.proofs.lemmas.networks.Targets.{each_two_sources, none_two_sources}
 use Rattle.fb_check.proofs.networks.sources.two_sources_locations.Goals as goal
 

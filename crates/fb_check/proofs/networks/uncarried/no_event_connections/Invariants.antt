@@ -1,5 +1,4 @@
-use Rattle.std.proofs.Common.{◌≡◌, ◌++◌, drop}
-use Rattle.fb_check_names.specs.Listed.{each_at, each_from}
+use Rattle.fb_check.proofs.lemmas.Common.{◌≡◌, ◌++◌, drop, each_at, each_from}
 use Rattle.fb_check.specs.networks.NoEvent.{no_event_at}
 use Rattle.fb_check.proofs.networks.uncarried.no_event_connections.Given as goal
 

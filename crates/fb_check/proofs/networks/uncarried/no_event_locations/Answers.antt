@@ -1,6 +1,4 @@
-use Rattle.std.proofs.Common.{◌≡◌, ℕ, [], List, subst, sym}
-use Rattle.std.specs.Prelude.{All}
-use Rattle.fb_types.specs.EventPorts.{ArePortsOfKinds}
+use Rattle.fb_types.proofs.Common.{◌≡◌, ℕ, [], List, subst, sym, All, ArePortsOfKinds}
 use Rattle.fb_types.specs.Mapped.{NoEvent}
 use Rattle.fb_check_names.proofs.lemmas.Listing.{of_list}
 use Rattle.fb_check.specs.networks.NoEvent.{IsNoEventAt}

@@ -1,14 +1,4 @@
-use Rattle.std.proofs.Common.{◌≡◌, List, map, refl, subst, sym, inl, inr}
-use Rattle.fb_types.specs.Blocks.{ports_of}
-use Rattle.fb_types.specs.EventPorts.{ArePortsOfKinds}
-use Rattle.fb_types.specs.Flat.{kind_of}
-use Rattle.fb_types.specs.Headline.{AreAccepted, Inputs}
-use Rattle.fb_types.specs.Repeated.{NameTwice}
-use Rattle.fb_types.specs.Unknown.{NameUnknown}
-use Rattle.fb_types.specs.declared.deploy.Plan.{Plan}
-use Rattle.fb_types.specs.declared.library.BlockType.{BlockType}
-use Rattle.fb_types.specs.declared.library.Connection.{Connection}
-use Rattle.fb_types.specs.declared.library.Library.{Library}
+use Rattle.fb_types.proofs.Common.{◌≡◌, List, map, refl, subst, sym, inl, inr, ports_of, ArePortsOfKinds, kind_of, AreAccepted, Inputs, NameTwice, NameUnknown, Plan, BlockType, Connection, Library}
 use Rattle.fb_check.specs.Directory.{AreInputs, AreTargets}
 use Rattle.fb_check.proofs.lemmas.FilledByName.{event_inputs}
 use Rattle.fb_check.proofs.row_judge.RowJudge.of.Goals as goal

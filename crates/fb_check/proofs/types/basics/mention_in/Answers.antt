@@ -1,6 +1,4 @@
-use Rattle.std.proofs.Common.{sym, ap}
-use Rattle.fb_check.specs.declared.types.basics.Naming.{Naming}
-use Rattle.fb_check.specs.types.Unknowns.{mention_in}
+use Rattle.fb_check.proofs.lemmas.Common.{sym, ap, Naming, mention_in}
 use Rattle.fb_check.proofs.types.basics.mention_in.Goals as goal
 
 pub returns-in-Guard : goal.returns-in-Guard

@@ -1,10 +1,6 @@
-use Rattle.std.proofs.Common.{◌++◌, length, append_assoc, refl, sym, ◌∙◌, ap, arith}
-use Rattle.std.proofs.lemmas.Option.{slice_get_read}
-use Rattle.fb_types.specs.declared.library.BasicType.{BasicType}
+use Rattle.fb_check.proofs.lemmas.Common.{◌++◌, length, append_assoc, refl, sym, ◌∙◌, ap, arith, slice_get_read, BasicType, Input, Output, Declared, unknown_withs}
 use Rattle.fb_types.specs.declared.library.BlockType.TheVariants as block
-use Rattle.fb_check_names.specs.declared.location.Direction.TheVariants.{Input, Output}
-use Rattle.fb_check.specs.types.Roles.{Declared}
-use Rattle.fb_check.specs.types.Unknowns.{unknown_in_chart, unknown_withs}
+use Rattle.fb_check.specs.types.Unknowns.{unknown_in_chart}
 use Rattle.fb_check.proofs.lemmas.types.GrowingLists.{and_added, all_added}
 use Rattle.fb_check.proofs.lemmas.types.BlockNumbers.{has_indexes}
 use Rattle.fb_check.proofs.types.basics.push_in_basic.Goals as goal

@@ -1,6 +1,4 @@
-use Rattle.std.proofs.Common.{◌≡◌, ◌++◌, drop}
-use Rattle.fb_check.specs.types.Unknowns.{unknown_in_body}
-use Rattle.fb_check_names.specs.Listed.{each_at, each_from}
+use Rattle.fb_check.proofs.lemmas.Common.{◌≡◌, ◌++◌, drop, unknown_in_body, each_at, each_from}
 use Rattle.fb_check.proofs.types.basics.push_in_bodies.Given as goal
 
 abbrev pub invariant-loop-algorithm : goal.invariant-loop-algorithm

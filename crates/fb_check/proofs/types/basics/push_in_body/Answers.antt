@@ -1,10 +1,6 @@
-use Rattle.std.proofs.Common.{◌++◌, List, sym, ◌∙◌, ap}
-use Rattle.fb_types.specs.Syntax.{body_of}
-use Rattle.fb_types.specs.Unknown.{mentions_body}
-use Rattle.fb_check_names.specs.declared.location.UnknownName.{UnknownName}
+use Rattle.fb_check.proofs.lemmas.Common.{◌++◌, List, sym, ◌∙◌, ap, body_of, mentions_body, UnknownName, meant_all}
 use Rattle.fb_check.specs.declared.types.basics.Naming.TheVariants as naming
 use Rattle.fb_check.specs.declared.types.mentions.Mention as gathered
-use Rattle.fb_check.specs.types.Mentions.{meant_all}
 use Rattle.fb_check.proofs.lemmas.types.GrowingLists.{and_both}
 use Rattle.fb_check.proofs.lemmas.types.Mentioned.{mentions_are}
 use Rattle.fb_check.proofs.types.basics.push_in_body.Goals as goal

@@ -1,8 +1,4 @@
-use Rattle.std.proofs.Common.{◌++◌, List, append_assoc, refl, sym, ◌∙◌, ap}
-use Rattle.fb_types.specs.declared.library.BasicType.{BasicType}
-use Rattle.fb_check_names.specs.Listed.{each_at}
-use Rattle.fb_check_names.specs.declared.location.UnknownName.{UnknownName}
-use Rattle.fb_check.specs.types.Unknowns.{unknown_in_body, unknown_in_state, unknown_in_transition}
+use Rattle.fb_check.proofs.lemmas.Common.{◌++◌, List, append_assoc, refl, sym, ◌∙◌, ap, BasicType, each_at, UnknownName, unknown_in_body, unknown_in_state, unknown_in_transition}
 use Rattle.fb_check.proofs.lemmas.types.GrowingLists.{and_added}
 use Rattle.fb_check.proofs.types.basics.push_in_chart.Goals as goal
 

@@ -1,12 +1,6 @@
-use Rattle.std.proofs.Common.{◌++◌, List, Option, sym, ◌∙◌, ap}
-use Rattle.fb_types.specs.Syntax.{expr_of}
-use Rattle.fb_types.specs.Unknown.{mentions}
-use Rattle.fb_types.specs.declared.text.Expr.{Expr}
-use Rattle.fb_check_names.specs.declared.location.UnknownName.{UnknownName}
+use Rattle.fb_check.proofs.lemmas.Common.{◌++◌, List, Option, sym, ◌∙◌, ap, expr_of, mentions, Expr, UnknownName, meant_all, unknown_mentions}
 use Rattle.fb_check.specs.declared.types.basics.Naming.TheVariants as naming
 use Rattle.fb_check.specs.declared.types.mentions.Mention as gathered
-use Rattle.fb_check.specs.types.Mentions.{meant_all}
-use Rattle.fb_check.specs.types.Unknowns.{unknown_mentions}
 use Rattle.fb_check.proofs.lemmas.types.GrowingLists.{and_both}
 use Rattle.fb_check.proofs.lemmas.types.Mentioned.{mentions_are, mentions_of}
 use Rattle.fb_check.proofs.types.basics.push_in_guard.Goals as goal

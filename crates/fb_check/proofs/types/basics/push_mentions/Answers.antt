@@ -1,10 +1,5 @@
-use Rattle.std.proofs.Common.{◌++◌, ◌∙◌, ap}
-use Rattle.fb_types.specs.Unknown.{is_known}
+use Rattle.fb_check.proofs.lemmas.Common.{◌++◌, ◌∙◌, ap, is_known, UnknownName, unless, meant, mention_in}
 use Rattle.fb_check.specs.declared.types.mentions.Mention as gathered
-use Rattle.fb_check_names.specs.declared.location.UnknownName.{UnknownName}
-use Rattle.fb_check_names.specs.Listed.{unless}
-use Rattle.fb_check.specs.types.Mentions.{meant}
-use Rattle.fb_check.specs.types.Unknowns.{mention_in}
 use Rattle.fb_check_names.proofs.lemmas.Listing.{added_unless, each_done, each_more}
 use Rattle.fb_check.proofs.types.basics.push_mentions.Goals as goal
 

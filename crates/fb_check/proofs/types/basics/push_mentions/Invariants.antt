@@ -1,9 +1,5 @@
-use Rattle.std.proofs.Common.{◌≡◌, ◌++◌, drop}
-use Rattle.fb_types.specs.Unknown.{is_known}
+use Rattle.fb_check.proofs.lemmas.Common.{◌≡◌, ◌++◌, drop, is_known, each_at, each_from, unless, meant, mention_in}
 use Rattle.fb_check.specs.declared.types.mentions.Mention as gathered
-use Rattle.fb_check_names.specs.Listed.{each_at, each_from, unless}
-use Rattle.fb_check.specs.types.Mentions.{meant}
-use Rattle.fb_check.specs.types.Unknowns.{mention_in}
 use Rattle.fb_check.proofs.types.basics.push_mentions.Given as goal
 
 abbrev pub invariant-loop-index : goal.invariant-loop-index

@@ -1,18 +1,9 @@
-use Rattle.std.proofs.Common.{◌≡◌, ◌++◌, [], List, length, Some, ℕ, Bor, append_assoc, refl, sym, ◌∙◌, ap, subst, arith}
-use Rattle.std.specs.BTreeMap.{BTreeMap}
-use Rattle.std.proofs.lemmas.Option.{same_Some, slice_get_read}
-use Rattle.fb_types.specs.Names.{Name}
+use Rattle.fb_check.proofs.lemmas.Common.{◌≡◌, ◌++◌, [], List, length, Some, ℕ, Bor, append_assoc, refl, sym, ◌∙◌, ap, subst, arith, same_Some, slice_get_read, Name, CompositeType, BlockType, Input, Output, Inside, Declared, unknown_in_network, unknown_withs, unknown_in_block, UnknownName}
+use Rattle.fb_types.proofs.Common.{BTreeMap}
 use Rattle.fb_types.specs.declared.library.BlockType.TheVariants as block
-use Rattle.fb_types.specs.declared.library.CompositeType.{CompositeType}
 use Rattle.fb_check_names.specs.PortKinds.{AreIndexesOf}
-use Rattle.fb_check_names.specs.declared.location.Direction.TheVariants.{Input, Output}
-use Rattle.fb_check_names.specs.declared.location.Site.TheVariants.{Inside}
 use Rattle.fb_check_names.proofs.lemmas.Listing.{none_right}
-use Rattle.fb_check.specs.types.Roles.{Declared}
-use Rattle.fb_check.specs.types.Unknowns.{unknown_in_network, unknown_withs, unknown_in_block}
 use Rattle.fb_check.proofs.lemmas.types.BlockNumbers.{composite_ports, composite_instances, has_indexes}
-use Rattle.fb_types.specs.declared.library.BlockType.{BlockType}
-use Rattle.fb_check_names.specs.declared.location.UnknownName.{UnknownName}
 use Rattle.fb_check_names.specs.Unknown.{IsBlockNumbers}
 use Rattle.fb_check.proofs.types.blocks.block_numbers.Goals as goal
 

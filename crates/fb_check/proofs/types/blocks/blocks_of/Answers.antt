@@ -1,9 +1,5 @@
-use Rattle.std.proofs.Common.{◌≡◌, List, length, refl, ap, ◌∙◌, arith}
-use Rattle.std.proofs.lemmas.Option.{slice_get_read}
-use Rattle.fb_types.specs.declared.library.BlockType.{BlockType}
-use Rattle.fb_check_names.specs.Listed.{each_at}
+use Rattle.fb_check.proofs.lemmas.Common.{◌≡◌, List, length, refl, ap, ◌∙◌, arith, slice_get_read, BlockType, each_at, unknown_in_block}
 use Rattle.fb_check_names.proofs.lemmas.Listing.{each_done_of, each_more}
-use Rattle.fb_check.specs.types.Unknowns.{unknown_in_block}
 use Rattle.fb_check.proofs.lemmas.types.BlockNumbers.{first_all, first_none, next_block, none_at_index, reached}
 use Rattle.fb_check.proofs.types.blocks.blocks_of.Goals as goal
 

@@ -1,6 +1,4 @@
-use Rattle.std.proofs.Common.{◌≡◌, ◌++◌, [], drop}
-use Rattle.fb_check_names.specs.Listed.{each_at, each_from}
-use Rattle.fb_check.specs.types.Unknowns.{unknown_in_block}
+use Rattle.fb_check.proofs.lemmas.Common.{◌≡◌, ◌++◌, [], drop, each_at, each_from, unknown_in_block}
 use Rattle.fb_check.proofs.lemmas.types.BlockNumbers.{AreFirst}
 use Rattle.fb_check.proofs.types.blocks.blocks_of.Given as goal
 

@@ -1,5 +1,4 @@
-use Rattle.fb_check_names.specs.PortKinds.{names_of_kind}
-use Rattle.fb_check.specs.types.Unknowns.{unknown_variables}
+use Rattle.fb_check.proofs.lemmas.Common.{names_of_kind, unknown_variables}
 use Rattle.fb_check_names.proofs.lemmas.Listing.{each_done, each_more}
 use Rattle.fb_check.proofs.types.charts.push_in_events.Goals as goal
 

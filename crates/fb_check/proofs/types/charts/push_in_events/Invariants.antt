@@ -1,7 +1,4 @@
-use Rattle.std.proofs.Common.{◌≡◌, ◌++◌, drop}
-use Rattle.fb_check_names.specs.PortKinds.{names_of_kind}
-use Rattle.fb_check.specs.types.Unknowns.{unknown_variables}
-use Rattle.fb_check_names.specs.Listed.{each_at, each_from}
+use Rattle.fb_check.proofs.lemmas.Common.{◌≡◌, ◌++◌, drop, names_of_kind, unknown_variables, each_at, each_from}
 use Rattle.fb_check.proofs.types.charts.push_in_events.Given as goal
 
 abbrev pub invariant-loop-event : goal.invariant-loop-event

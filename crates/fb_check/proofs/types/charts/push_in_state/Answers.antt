@@ -1,9 +1,6 @@
-use Rattle.std.proofs.Common.{◌≡◌, ◌++◌}
-use Rattle.fb_check_names.specs.Listed.{unless}
+use Rattle.fb_check.proofs.lemmas.Common.{◌≡◌, ◌++◌, unless, required_action, unknown_in_action}
 use Rattle.fb_check_names.specs.declared.location.ActionPart.TheVariants.{Algorithm, Output}
 use Rattle.fb_check_names.specs.declared.location.UnknownName.TheVariants as location
-use Rattle.fb_check.specs.types.Unknown.{required_action}
-use Rattle.fb_check.specs.types.Unknowns.{unknown_in_action}
 use Rattle.fb_check_names.proofs.lemmas.Listing.{each_done_of, each_more}
 use Rattle.fb_check.proofs.lemmas.types.GrowingLists.{and_added, of_ok}
 use Rattle.fb_check.proofs.lemmas.types.RequiredNames.{unmet_is}

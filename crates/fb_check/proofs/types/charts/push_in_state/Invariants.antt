@@ -1,6 +1,4 @@
-use Rattle.std.proofs.Common.{◌≡◌, ◌++◌, drop}
-use Rattle.fb_check.specs.types.Unknowns.{unknown_in_action}
-use Rattle.fb_check_names.specs.Listed.{each_at, each_from}
+use Rattle.fb_check.proofs.lemmas.Common.{◌≡◌, ◌++◌, drop, unknown_in_action, each_at, each_from}
 use Rattle.fb_check.proofs.types.charts.push_in_state.Given as goal
 
 abbrev pub invariant-loop-action : goal.invariant-loop-action

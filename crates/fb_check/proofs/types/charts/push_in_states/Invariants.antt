@@ -1,6 +1,4 @@
-use Rattle.std.proofs.Common.{◌≡◌, ◌++◌, drop}
-use Rattle.fb_check.specs.types.Unknowns.{unknown_in_state}
-use Rattle.fb_check_names.specs.Listed.{each_at, each_from}
+use Rattle.fb_check.proofs.lemmas.Common.{◌≡◌, ◌++◌, drop, unknown_in_state, each_at, each_from}
 use Rattle.fb_check.proofs.types.charts.push_in_states.Given as goal
 
 abbrev pub invariant-loop-state : goal.invariant-loop-state

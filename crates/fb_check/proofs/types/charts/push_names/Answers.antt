@@ -1,8 +1,6 @@
-use Rattle.std.proofs.Common.{◌++◌, append_assoc, refl, sym, ◌∙◌}
-use Rattle.fb_check_names.specs.Listed.{unless}
+use Rattle.fb_check.proofs.lemmas.Common.{◌++◌, append_assoc, refl, sym, ◌∙◌, unless, required_transition}
 use Rattle.fb_check_names.specs.declared.location.TransitionPart.TheVariants.{From, To, Event}
 use Rattle.fb_check_names.specs.declared.location.UnknownName.TheVariants as location
-use Rattle.fb_check.specs.types.Unknown.{required_transition}
 use Rattle.fb_check.proofs.lemmas.types.GrowingLists.{and_added}
 use Rattle.fb_check.proofs.lemmas.types.RequiredNames.{unmet_is}
 use Rattle.fb_check.proofs.types.charts.push_names.Goals as goal

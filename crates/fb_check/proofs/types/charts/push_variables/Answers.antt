@@ -1,7 +1,4 @@
-use Rattle.fb_types.specs.Blocks.{among}
-use Rattle.fb_types.specs.Names.{Name}
-use Rattle.fb_check_names.specs.PortKinds.{names_of_kind}
-use Rattle.fb_check_names.specs.Listed.{unless}
+use Rattle.fb_check.proofs.lemmas.Common.{among, Name, names_of_kind, unless}
 use Rattle.fb_check_names.specs.declared.location.UnknownName.TheVariants as location
 use Rattle.fb_check_names.proofs.lemmas.Listing.{added_unless, each_done_of, each_more}
 use Rattle.fb_check.proofs.types.charts.push_variables.Goals as goal

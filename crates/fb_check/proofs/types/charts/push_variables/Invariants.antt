@@ -1,8 +1,4 @@
-use Rattle.std.proofs.Common.{◌≡◌, ◌++◌, drop}
-use Rattle.fb_types.specs.Blocks.{among}
-use Rattle.fb_types.specs.Names.{Name}
-use Rattle.fb_check_names.specs.PortKinds.{names_of_kind}
-use Rattle.fb_check_names.specs.Listed.{each_at, each_from, unless}
+use Rattle.fb_check.proofs.lemmas.Common.{◌≡◌, ◌++◌, drop, among, Name, names_of_kind, each_at, each_from, unless}
 use Rattle.fb_check_names.specs.declared.location.UnknownName.TheVariants as location
 use Rattle.fb_check.proofs.types.charts.push_variables.Given as goal
 

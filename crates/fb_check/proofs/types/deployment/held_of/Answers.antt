@@ -1,10 +1,4 @@
-use Rattle.std.proofs.Common.{◌∷◌, [], ℕ, List, Option, Some, ◌++◌, refl, ◌∙◌, ap}
-use Rattle.fb_types.specs.Names.{Name}
-use Rattle.fb_types.specs.declared.deploy.ResourceEntry.{ResourceEntry}
-use Rattle.fb_check_names.specs.Indexes.{index_in}
-use Rattle.fb_check.specs.types.Present.{each_some, mapped_unless, some_of}
-use Rattle.fb_check_names.specs.Listed.{each_at}
-use Rattle.fb_check_names.specs.declared.location.UnknownName.{UnknownName}
+use Rattle.fb_check.proofs.lemmas.Common.{◌∷◌, [], ℕ, List, Option, Some, ◌++◌, refl, ◌∙◌, ap, Name, ResourceEntry, index_in, each_some, mapped_unless, some_of, each_at, UnknownName}
 use Rattle.fb_check_names.proofs.lemmas.Listing.{each_done, each_more}
 use Rattle.fb_check.proofs.lemmas.types.GrowingLists.{list_added, one_added}
 use Rattle.fb_check.proofs.types.deployment.held_of.Goals as goal

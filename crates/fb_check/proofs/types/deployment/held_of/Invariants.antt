@@ -1,8 +1,4 @@
-use Rattle.std.proofs.Common.{◌≡◌, ◌++◌, Some, drop}
-use Rattle.fb_types.specs.declared.deploy.ResourceEntry.{ResourceEntry}
-use Rattle.fb_check_names.specs.Indexes.{index_in}
-use Rattle.fb_check.specs.types.Present.{each_some, mapped_unless}
-use Rattle.fb_check_names.specs.Listed.{each_at, each_from}
+use Rattle.fb_check.proofs.lemmas.Common.{◌≡◌, ◌++◌, Some, drop, ResourceEntry, index_in, each_some, mapped_unless, each_at, each_from}
 use Rattle.fb_check.proofs.types.deployment.held_of.Given as goal
 
 abbrev pub invariant-loop-resource : goal.invariant-loop-resource

@@ -1,11 +1,7 @@
-use Rattle.std.proofs.Common.{◌≡◌, List, ◌++◌, Option, ℕ, refl, sym, ◌∙◌, ap}
-use Rattle.std.proofs.lemmas.Result.{IfOk-equal}
-use Rattle.std.specs.Prelude.{is_some, option_and_then, option_map}
+use Rattle.fb_check.proofs.lemmas.Common.{◌≡◌, List, ◌++◌, Option, ℕ, refl, sym, ◌∙◌, ap, IfOk-equal, is_some, option_and_then, option_map, unless, From, To, each_some, sides_unless, some_of}
 use Rattle.fb_check_names.specs.declared.numbers.LinkEnds.{LinkEnds}
-use Rattle.fb_check_names.specs.Listed.{unless}
-use Rattle.fb_check_names.specs.declared.location.Side.TheVariants.{From, To}
 use Rattle.fb_check_names.specs.declared.location.UnknownName.TheVariants as location
-use Rattle.fb_check.specs.types.Present.{each_some, ends_in, sides_unless, some_of}
+use Rattle.fb_check.specs.types.Present.{ends_in}
 use Rattle.fb_check_names.proofs.lemmas.Listing.{each_done, each_more}
 use Rattle.fb_check.proofs.lemmas.types.GrowingLists.{and_added, and_first, and_last, list_added, of_ok, one_added}
 use Rattle.fb_check.proofs.types.deployment.links_of.Goals as goal

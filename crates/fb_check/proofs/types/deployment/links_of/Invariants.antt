@@ -1,6 +1,5 @@
-use Rattle.std.proofs.Common.{◌≡◌, ◌++◌, drop}
-use Rattle.fb_check.specs.types.Present.{each_some, ends_in, sides_unless}
-use Rattle.fb_check_names.specs.Listed.{each_at, each_from}
+use Rattle.fb_check.proofs.lemmas.Common.{◌≡◌, ◌++◌, drop, each_some, sides_unless, each_at, each_from}
+use Rattle.fb_check.specs.types.Present.{ends_in}
 use Rattle.fb_check.proofs.types.deployment.links_of.Given as goal
 
 abbrev pub invariant-loop-link : goal.invariant-loop-link

@@ -1,9 +1,5 @@
-use Rattle.std.proofs.Common.{ℕ, List, Option, ◌++◌, refl, ◌∙◌, ap}
-use Rattle.std.specs.Prelude.{is_some}
-use Rattle.fb_check_names.specs.Indexes.{index_in}
-use Rattle.fb_check.specs.types.Present.{each_some, mapped_unless, some_of}
+use Rattle.fb_check.proofs.lemmas.Common.{ℕ, List, Option, ◌++◌, refl, ◌∙◌, ap, is_some, index_in, each_some, mapped_unless, some_of, unless}
 use Rattle.fb_check_names.specs.declared.location.UnknownName.TheVariants as location
-use Rattle.fb_check_names.specs.Listed.{unless}
 use Rattle.fb_check_names.proofs.lemmas.Listing.{each_done, each_more}
 use Rattle.fb_check.proofs.lemmas.types.GrowingLists.{list_added, one_added}
 use Rattle.fb_check.proofs.types.deployment.listed_of.Goals as goal

@@ -1,7 +1,4 @@
-use Rattle.std.proofs.Common.{◌≡◌, ◌++◌, drop}
-use Rattle.fb_check_names.specs.Indexes.{index_in}
-use Rattle.fb_check.specs.types.Present.{each_some, mapped_unless}
-use Rattle.fb_check_names.specs.Listed.{each_at, each_from}
+use Rattle.fb_check.proofs.lemmas.Common.{◌≡◌, ◌++◌, drop, index_in, each_some, mapped_unless, each_at, each_from}
 use Rattle.fb_check.proofs.types.deployment.listed_of.Given as goal
 
 abbrev pub invariant-loop-instance : goal.invariant-loop-instance

@@ -1,16 +1,5 @@
-use Rattle.std.proofs.Common.{◌≡◌, ◌∙◌, List, Option, None, Some, ap, sym}
-use Rattle.std.specs.Prelude.{option_and_then}
-use Rattle.fb_types.specs.Names.{Name}
-use Rattle.fb_types.specs.Repeated.{OwnedNetwork}
-use Rattle.fb_types.specs.declared.library.Library.{Library}
-use Rattle.fb_types.specs.declared.library.PortName.{PortName}
-use Rattle.fb_types.specs.declared.library.Ports.{Ports}
-use Rattle.fb_check_names.specs.Numbers.{end_at, end_number}
-use Rattle.fb_check_names.specs.PortKinds.{names_of_kind}
-use Rattle.fb_check_names.specs.Types.{port_number}
-use Rattle.fb_check_names.specs.declared.numbers.ConnectionEnd.{ConnectionEnd}
-use Rattle.fb_check_names.specs.declared.numbers.TypeNumber.{TypeNumber}
-use Rattle.fb_check.specs.types.Scopes.{component_number, placed}
+use Rattle.fb_check.proofs.lemmas.Common.{◌≡◌, ◌∙◌, List, Option, None, Some, ap, sym, option_and_then, Name, OwnedNetwork, Library, PortName, Ports, end_at, end_number, names_of_kind, port_number, ConnectionEnd, TypeNumber, placed}
+use Rattle.fb_check.specs.types.Scopes.{component_number}
 use Rattle.fb_check.proofs.lemmas.types.NumbersOfNames.{component_is, end_there}
 use Rattle.fb_check.proofs.types.ends.end_of.Goals as goal
 

@@ -1,7 +1,5 @@
-use Rattle.std.proofs.Common.{sym, ◌∙◌, ap}
-use Rattle.fb_check_names.specs.Numbers.{end_number}
-use Rattle.fb_check_names.specs.declared.location.Side.{Side}
-use Rattle.fb_check.specs.types.Scopes.{placed, side_number}
+use Rattle.fb_check.proofs.lemmas.Common.{sym, ◌∙◌, ap, end_number, Side, placed}
+use Rattle.fb_check.specs.types.Scopes.{side_number}
 use Rattle.fb_check.proofs.types.ends.side_of.Goals as goal
 
 pub returns-in-From : goal.returns-in-From

@@ -1,15 +1,7 @@
-use Rattle.std.proofs.Common.{◌≡◌, refl, ◌∙◌, ap, List, ◌++◌, Option, sym}
-use Rattle.std.proofs.lemmas.Result.{IfOk-equal}
-use Rattle.std.specs.Prelude.{is_some}
+use Rattle.fb_check.proofs.lemmas.Common.{◌≡◌, refl, ◌∙◌, ap, List, ◌++◌, Option, sym, IfOk-equal, is_some, unless, From, To, UnknownName, connection_number, placed, each_some, some_of, unknown_ends}
 use Rattle.fb_check_names.specs.Numbers.{both_ends}
 use Rattle.fb_check_names.specs.declared.numbers.NumberedConnection.{NumberedConnection}
-use Rattle.fb_check_names.specs.Listed.{unless}
-use Rattle.fb_check_names.specs.declared.location.Side.TheVariants.{From, To}
-use Rattle.fb_check_names.specs.declared.location.UnknownName.{UnknownName}
 use Rattle.fb_check_names.specs.declared.location.UnknownName.TheVariants as location
-use Rattle.fb_check.specs.types.Scopes.{connection_number, placed}
-use Rattle.fb_check.specs.types.Present.{each_some, some_of}
-use Rattle.fb_check.specs.types.Unknowns.{unknown_ends}
 use Rattle.fb_check_names.proofs.lemmas.Listing.{each_done, each_more}
 use Rattle.fb_check.proofs.lemmas.types.GrowingLists.{and_added, and_first, and_last, list_added, of_ok, one_added}
 use Rattle.fb_check.proofs.lemmas.types.NumbersOfNames.{side_met}

@@ -1,8 +1,4 @@
-use Rattle.std.proofs.Common.{◌≡◌, ◌++◌, drop}
-use Rattle.fb_check.specs.types.Scopes.{connection_number, placed}
-use Rattle.fb_check.specs.types.Present.{each_some}
-use Rattle.fb_check.specs.types.Unknowns.{unknown_ends}
-use Rattle.fb_check_names.specs.Listed.{each_at, each_from}
+use Rattle.fb_check.proofs.lemmas.Common.{◌≡◌, ◌++◌, drop, connection_number, placed, each_some, unknown_ends, each_at, each_from}
 use Rattle.fb_check.proofs.types.ends.wires_of.Given as goal
 
 abbrev pub invariant-loop-connection : goal.invariant-loop-connection

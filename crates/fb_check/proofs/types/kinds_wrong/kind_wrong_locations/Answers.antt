@@ -1,17 +1,10 @@
-use Rattle.std.proofs.Common.{◌≡◌, [], List, None, sym, subst, ◌∙◌, ap, ◌++◌, refl}
-use Rattle.std.specs.Prelude.{All}
-use Rattle.fb_types.specs.Kinds.{KindWrong}
-use Rattle.fb_types.specs.declared.library.Library.{Library}
+use Rattle.fb_check.proofs.lemmas.Common.{◌≡◌, [], List, None, sym, subst, ◌∙◌, ap, ◌++◌, refl, All, KindWrong, Library, each_at, KindWrongAt, Application, kinds_wrong_in_block, IsKindWrongAt}
 use Rattle.fb_check_names.specs.declared.catalog.BlockIndexes.{BlockIndexes}
 use Rattle.fb_check.specs.types.Checks.{AreBlocks}
-use Rattle.fb_check_names.specs.Listed.{each_at}
-use Rattle.fb_check_names.specs.declared.location.KindWrongAt.{KindWrongAt}
-use Rattle.fb_check_names.specs.declared.location.Site.TheVariants.{Application}
 use Rattle.fb_check.proofs.lemmas.types.GrowingLists.{and_both, ok_joined}
 use Rattle.fb_check_names.proofs.lemmas.Listing.{of_list}
 use Rattle.fb_check.specs.networks.Parameters.{kinds_wrong_in_network}
-use Rattle.fb_check.specs.types.KindWrongLists.{kinds_wrong_all, kinds_wrong_in_block}
-use Rattle.fb_check.specs.types.KindsWrong.{IsKindWrongAt}
+use Rattle.fb_check.specs.types.KindWrongLists.{kinds_wrong_all}
 use Rattle.fb_check.proofs.lemmas.types.KindWitnesses.{each_kind_wrong, none_kind_wrong}
 use Rattle.fb_check.proofs.lemmas.types.NumberedKinds.{all_inside}
 use Rattle.fb_check.proofs.types.kinds_wrong.kind_wrong_locations.Goals as goal

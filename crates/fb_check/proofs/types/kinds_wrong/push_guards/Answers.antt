@@ -1,6 +1,5 @@
-use Rattle.fb_check.specs.types.Checks.{is_guard_right}
+use Rattle.fb_check.proofs.lemmas.Common.{is_guard_right, kind_wrong_guard}
 use Rattle.fb_check_names.specs.declared.location.KindWrongAt.TheVariants as kind_wrong
-use Rattle.fb_check.specs.types.KindWrongLists.{kind_wrong_guard}
 use Rattle.fb_check_names.proofs.lemmas.Listing.{added_unless, each_done, each_more}
 use Rattle.fb_check.proofs.types.kinds_wrong.push_guards.Goals as goal
 

@@ -1,7 +1,4 @@
-use Rattle.std.proofs.Common.{◌++◌, List, sym}
-use Rattle.fb_check_names.specs.Listed.{each_at}
-use Rattle.fb_check_names.specs.declared.location.KindWrongAt.{KindWrongAt}
-use Rattle.fb_check.specs.types.KindWrongLists.{kind_wrong_guard, kinds_wrong_in_body}
+use Rattle.fb_check.proofs.lemmas.Common.{◌++◌, List, sym, each_at, KindWrongAt, kind_wrong_guard, kinds_wrong_in_body}
 use Rattle.fb_check.proofs.lemmas.types.GrowingLists.{and_added}
 use Rattle.fb_check.proofs.types.kinds_wrong.push_in_basic.Goals as goal
 

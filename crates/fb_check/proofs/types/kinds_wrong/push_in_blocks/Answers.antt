@@ -1,12 +1,7 @@
-use Rattle.std.proofs.Common.{◌≡◌, List, Option, Some, None, length, sym, ◌∙◌, ap, subst, refl, arith}
-use Rattle.std.specs.Prelude.{slice_get}
-use Rattle.std.proofs.lemmas.Option.{slice_get_read}
-use Rattle.fb_types.specs.declared.library.BlockType.{BlockType}
-use Rattle.fb_check_names.specs.declared.numbers.NetworkNumbers.{NetworkNumbers}
+use Rattle.fb_check.proofs.lemmas.Common.{◌≡◌, List, Option, Some, None, length, sym, ◌∙◌, ap, subst, refl, arith, slice_get, slice_get_read, BlockType, NetworkNumbers, kinds_wrong_in_block}
 use Rattle.fb_check_names.proofs.lemmas.Listing.{each_done_of, each_more}
 use Rattle.fb_check.proofs.lemmas.networks.SearchLoops.{at_element}
 use Rattle.fb_check.specs.types.Insides.{AreInside}
-use Rattle.fb_check.specs.types.KindWrongLists.{kinds_wrong_in_block}
 use Rattle.fb_check.proofs.types.kinds_wrong.push_in_blocks.Goals as goal
 
 pub bounds-indexes-block : goal.bounds-indexes-block

@@ -1,6 +1,4 @@
-use Rattle.std.proofs.Common.{◌≡◌, ◌++◌, drop}
-use Rattle.fb_check_names.specs.Listed.{each_at, each_from}
-use Rattle.fb_check.specs.types.KindWrongLists.{kinds_wrong_in_block}
+use Rattle.fb_check.proofs.lemmas.Common.{◌≡◌, ◌++◌, drop, each_at, each_from, kinds_wrong_in_block}
 use Rattle.fb_check.proofs.types.kinds_wrong.push_in_blocks.Given as goal
 
 abbrev pub invariant-loop-block : goal.invariant-loop-block

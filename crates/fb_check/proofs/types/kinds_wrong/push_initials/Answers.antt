@@ -1,9 +1,5 @@
-use Rattle.std.proofs.Common.{◌++◌, List, append_assoc, refl, sym, ◌∙◌, ap}
-use Rattle.fb_types.specs.declared.library.Ports.{Ports}
-use Rattle.fb_check_names.specs.Listed.{each_at}
-use Rattle.fb_check_names.specs.declared.location.KindWrongAt.{KindWrongAt}
+use Rattle.fb_check.proofs.lemmas.Common.{◌++◌, List, append_assoc, refl, sym, ◌∙◌, ap, Ports, each_at, KindWrongAt, kind_wrong_initial}
 use Rattle.fb_check_names.specs.declared.location.Variables.TheVariants.{Inputs, Outputs, Internals}
-use Rattle.fb_check.specs.types.KindWrongLists.{kind_wrong_initial}
 use Rattle.fb_check.proofs.lemmas.types.GrowingLists.{and_added}
 use Rattle.fb_check.proofs.types.kinds_wrong.push_initials.Goals as goal
 

@@ -1,6 +1,4 @@
-use Rattle.std.proofs.Common.{◌≡◌, ◌++◌, drop}
-use Rattle.fb_check.specs.types.KindWrongLists.{kind_wrong_initial}
-use Rattle.fb_check_names.specs.Listed.{each_at, each_from}
+use Rattle.fb_check.proofs.lemmas.Common.{◌≡◌, ◌++◌, drop, kind_wrong_initial, each_at, each_from}
 use Rattle.fb_check.proofs.types.kinds_wrong.push_variables.Given as goal
 
 abbrev pub invariant-loop-variable : goal.invariant-loop-variable

@@ -1,9 +1,5 @@
-use Rattle.std.proofs.Common.{◌++◌, List, refl, ◌∙◌, ap}
-use Rattle.fb_types.specs.Syntax.{expr_of}
-use Rattle.fb_types.specs.Unknown.{mentions, mentions_all}
-use Rattle.fb_types.specs.declared.text.Expr.{Expr}
-use Rattle.fb_check.specs.types.Trees.{arguments_of}
-use Rattle.fb_check.specs.types.Mentions.{meant_all}
+use Rattle.fb_check.proofs.lemmas.Common.{◌++◌, List, refl, ◌∙◌, ap, expr_of, mentions, Expr, arguments_of, meant_all}
+use Rattle.fb_types.specs.Unknown.{mentions_all}
 use Rattle.fb_check.proofs.lemmas.types.GrowingLists.{all_added, and_added, list_added, one_added}
 use Rattle.fb_check.proofs.lemmas.types.Mentioned.{binary_names, call_names, group_names, unary_names, variable_names}
 use Rattle.fb_check.proofs.types.mentions.+expression.Goals as goal

@@ -1,7 +1,5 @@
-use Rattle.std.proofs.Common.{◌≡◌, ◌++◌, drop}
+use Rattle.fb_check.proofs.lemmas.Common.{◌≡◌, ◌++◌, drop, arguments_of, meant_all}
 use Rattle.fb_types.specs.Unknown.{mentions_all}
-use Rattle.fb_check.specs.types.Trees.{arguments_of}
-use Rattle.fb_check.specs.types.Mentions.{meant_all}
 use Rattle.fb_check.proofs.types.mentions.+expression.Given as goal
 
 -- with what the rest names, all is there

@@ -1,11 +1,5 @@
-use Rattle.std.proofs.Common.{◌++◌, List, refl, sym, ◌∙◌, ap}
-use Rattle.fb_types.specs.Syntax.{stmt_of}
-use Rattle.fb_types.specs.Unknown.{mentions, mentions_body, mentions_branches, mentions_choices, mentions_in}
-use Rattle.fb_types.specs.declared.text.Branch.{Branch}
-use Rattle.fb_types.specs.declared.text.Choice.{Choice}
-use Rattle.fb_types.specs.declared.text.Stmt.{Stmt}
-use Rattle.fb_check.specs.types.Trees.{all_of, branch_of, branches_of, choice_of, choices_of}
-use Rattle.fb_check.specs.types.Mentions.{meant_all}
+use Rattle.fb_check.proofs.lemmas.Common.{◌++◌, List, refl, sym, ◌∙◌, ap, stmt_of, mentions, mentions_body, Branch, Choice, Stmt, all_of, branch_of, branches_of, choice_of, choices_of, meant_all}
+use Rattle.fb_types.specs.Unknown.{mentions_branches, mentions_choices, mentions_in}
 use Rattle.fb_check.proofs.lemmas.types.GrowingLists.{all_added, and_added, both_added, list_added, one_added}
 use Rattle.fb_check.proofs.lemmas.types.Mentioned.{assign_names, branch_names, case_names, choice_names, for_names, if_names, repeat_names, while_names}
 use Rattle.fb_check.proofs.types.mentions.+statement.Goals as goal

@@ -1,7 +1,5 @@
-use Rattle.std.proofs.Common.{◌≡◌, ◌++◌, drop}
-use Rattle.fb_types.specs.Unknown.{mentions_body, mentions_branches, mentions_choices}
-use Rattle.fb_check.specs.types.Trees.{all_of, branches_of, choices_of}
-use Rattle.fb_check.specs.types.Mentions.{meant_all}
+use Rattle.fb_check.proofs.lemmas.Common.{◌≡◌, ◌++◌, drop, mentions_body, all_of, branches_of, choices_of, meant_all}
+use Rattle.fb_types.specs.Unknown.{mentions_branches, mentions_choices}
 use Rattle.fb_check.proofs.types.mentions.+statement.Given as goal
 
 -- with what the rest names, all is there

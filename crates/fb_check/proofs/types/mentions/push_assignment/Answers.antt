@@ -1,8 +1,5 @@
-use Rattle.std.proofs.Common.{◌∷◌, sym, ap}
-use Rattle.fb_types.specs.Names.{Name}
-use Rattle.fb_types.specs.Syntax.{expr_of}
-use Rattle.fb_types.specs.Unknown.{OfVariable, mentions}
-use Rattle.fb_check.specs.types.Mentions.{meant_all}
+use Rattle.fb_check.proofs.lemmas.Common.{◌∷◌, sym, ap, Name, expr_of, mentions, meant_all}
+use Rattle.fb_types.specs.Unknown.{OfVariable}
 use Rattle.fb_check.proofs.lemmas.types.GrowingLists.{and_added}
 use Rattle.fb_check.proofs.types.mentions.push_assignment.Goals as goal
 

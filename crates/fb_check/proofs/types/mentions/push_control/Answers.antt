@@ -1,7 +1,5 @@
-use Rattle.std.proofs.Common.{◌∷◌, ◌++◌, List, [], refl, sym, ap}
-use Rattle.fb_types.specs.Names.{Name}
-use Rattle.fb_types.specs.Syntax.{expr_of}
-use Rattle.fb_types.specs.Unknown.{Mention, OfVariable, mentions}
+use Rattle.fb_types.proofs.Common.{◌∷◌, ◌++◌, List, [], refl, sym, ap, Name, expr_of, Mention, mentions}
+use Rattle.fb_types.specs.Unknown.{OfVariable}
 use Rattle.fb_check.specs.types.Mentions.{meant_all, mentions_of_step}
 use Rattle.fb_check.proofs.lemmas.types.GrowingLists.{and_added}
 use Rattle.fb_check.proofs.types.mentions.push_control.Goals as goal

@@ -1,11 +1,4 @@
-use Rattle.std.proofs.Common.{ℕ, List, Option, ◌++◌, refl, ◌∙◌, ap}
-use Rattle.std.specs.Prelude.{is_some}
-use Rattle.fb_types.specs.Unknown.{data_ins}
-use Rattle.fb_types.specs.declared.library.Parameter.{Parameter}
-use Rattle.fb_check_names.specs.Types.{port_number}
-use Rattle.fb_check.specs.types.Present.{each_some, some_of}
-use Rattle.fb_check_names.specs.Listed.{unless}
-use Rattle.fb_check_names.specs.declared.location.UnknownName.{UnknownName}
+use Rattle.fb_check.proofs.lemmas.Common.{ℕ, List, Option, ◌++◌, refl, ◌∙◌, ap, is_some, data_ins, Parameter, port_number, each_some, some_of, unless, UnknownName}
 use Rattle.fb_check_names.specs.declared.location.UnknownName.TheVariants as location
 use Rattle.fb_check_names.proofs.lemmas.Listing.{each_done, each_more}
 use Rattle.fb_check.proofs.lemmas.types.GrowingLists.{list_added, one_added}

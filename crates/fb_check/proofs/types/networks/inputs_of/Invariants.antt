@@ -1,10 +1,4 @@
-use Rattle.std.proofs.Common.{◌≡◌, ◌++◌, drop}
-use Rattle.std.specs.Prelude.{is_some}
-use Rattle.fb_types.specs.Unknown.{data_ins}
-use Rattle.fb_types.specs.declared.library.Parameter.{Parameter}
-use Rattle.fb_check_names.specs.Types.{port_number}
-use Rattle.fb_check.specs.types.Present.{each_some}
-use Rattle.fb_check_names.specs.Listed.{each_at, each_from, unless}
+use Rattle.fb_check.proofs.lemmas.Common.{◌≡◌, ◌++◌, drop, is_some, data_ins, Parameter, port_number, each_some, each_at, each_from, unless}
 use Rattle.fb_check_names.specs.declared.location.UnknownName.TheVariants as location
 use Rattle.fb_check.proofs.types.networks.inputs_of.Given as goal
 

@@ -1,12 +1,5 @@
-use Rattle.std.proofs.Common.{◌++◌, List, Option, Some, ℕ, ◌∙◌, ap}
-use Rattle.fb_types.specs.declared.library.Connection.{Connection}
-use Rattle.fb_types.specs.declared.library.Instance.{Instance}
-use Rattle.fb_check_names.specs.declared.numbers.TypeNumber.{TypeNumber}
-use Rattle.fb_check_names.specs.Listed.{each_at}
-use Rattle.fb_check_names.specs.declared.location.FlowKind.TheVariants.{Events, Data}
-use Rattle.fb_check.specs.types.Scopes.{connection_number, inputs_in, number_in, placed}
-use Rattle.fb_check.specs.types.Present.{each_some}
-use Rattle.fb_check.specs.types.Unknowns.{unknown_ends, unknown_in_instance}
+use Rattle.fb_check.proofs.lemmas.Common.{◌++◌, List, Option, Some, ℕ, ◌∙◌, ap, Connection, Instance, TypeNumber, each_at, Events, Data, connection_number, number_in, placed, each_some, unknown_ends, unknown_in_instance}
+use Rattle.fb_check.specs.types.Scopes.{inputs_in}
 use Rattle.fb_check.proofs.lemmas.types.GrowingLists.{three_added}
 use Rattle.fb_check.proofs.lemmas.types.NumbersOfNames.{network_resolved}
 use Rattle.fb_check.proofs.types.networks.network_numbers.Goals as goal

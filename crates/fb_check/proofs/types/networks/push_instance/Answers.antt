@@ -1,15 +1,7 @@
-use Rattle.std.proofs.Common.{◌∷◌, ◌++◌, [], List, Option, ℕ, sym, ◌∙◌, ap}
-use Rattle.std.proofs.lemmas.Result.{IfOk-equal}
-use Rattle.fb_types.specs.Unknown.{data_ins}
-use Rattle.fb_types.specs.declared.library.Parameter.{Parameter}
-use Rattle.fb_check_names.specs.Types.{port_number}
-use Rattle.fb_check_names.specs.Listed.{unless}
-use Rattle.fb_check_names.specs.declared.numbers.TypeNumber.{TypeNumber}
+use Rattle.fb_check.proofs.lemmas.Common.{◌∷◌, ◌++◌, [], List, Option, ℕ, sym, ◌∙◌, ap, IfOk-equal, data_ins, Parameter, port_number, unless, TypeNumber, UnknownName, each_some}
 use Rattle.fb_check_names.specs.declared.numbers.TypeNumber.TheVariants as number
-use Rattle.fb_check_names.specs.declared.location.UnknownName.{UnknownName}
 use Rattle.fb_check_names.specs.declared.location.UnknownName.TheVariants as location
 use Rattle.fb_check.specs.types.Scopes.{inputs_of_type, number_or, number_past}
-use Rattle.fb_check.specs.types.Present.{each_some}
 use Rattle.fb_check.proofs.lemmas.types.GrowingLists.{and_first, and_last, in_any_case}
 use Rattle.fb_check.proofs.lemmas.types.NetworkLocations.{no_parameters}
 use Rattle.fb_check.proofs.lemmas.types.NumbersOfNames.{known_instance, no_kind, type_unmet}

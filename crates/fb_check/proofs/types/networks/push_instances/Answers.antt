@@ -1,9 +1,5 @@
-use Rattle.std.proofs.Common.{ℕ, List, Option, Some, refl}
-use Rattle.fb_types.specs.declared.library.Instance.{Instance}
-use Rattle.fb_check_names.specs.declared.numbers.TypeNumber.{TypeNumber}
-use Rattle.fb_check.specs.types.Scopes.{inputs_in, number_in}
-use Rattle.fb_check.specs.types.Present.{each_some, some_of}
-use Rattle.fb_check.specs.types.Unknowns.{unknown_in_instance}
+use Rattle.fb_check.proofs.lemmas.Common.{ℕ, List, Option, Some, refl, Instance, TypeNumber, number_in, each_some, some_of, unknown_in_instance}
+use Rattle.fb_check.specs.types.Scopes.{inputs_in}
 use Rattle.fb_check_names.proofs.lemmas.Listing.{each_done, each_more}
 use Rattle.fb_check.proofs.lemmas.types.GrowingLists.{list_added, one_added}
 use Rattle.fb_check.proofs.types.networks.push_instances.Goals as goal

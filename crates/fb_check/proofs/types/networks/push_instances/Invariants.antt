@@ -1,9 +1,5 @@
-use Rattle.std.proofs.Common.{◌≡◌, ◌++◌, Some, drop}
-use Rattle.fb_types.specs.declared.library.Instance.{Instance}
-use Rattle.fb_check.specs.types.Scopes.{inputs_in, number_in}
-use Rattle.fb_check.specs.types.Present.{each_some}
-use Rattle.fb_check.specs.types.Unknowns.{unknown_in_instance}
-use Rattle.fb_check_names.specs.Listed.{each_at, each_from}
+use Rattle.fb_check.proofs.lemmas.Common.{◌≡◌, ◌++◌, Some, drop, Instance, number_in, each_some, unknown_in_instance, each_at, each_from}
+use Rattle.fb_check.specs.types.Scopes.{inputs_in}
 use Rattle.fb_check.proofs.types.networks.push_instances.Given as goal
 
 abbrev pub invariant-loop-instance : goal.invariant-loop-instance

@@ -1,10 +1,7 @@
-use Rattle.std.proofs.Common.{◌≡◌, ◌++◌, [], sym, subst}
-use Rattle.std.specs.Prelude.{IfOk}
-use Rattle.fb_types.specs.declared.library.Library.{Library}
+use Rattle.fb_check.proofs.lemmas.Common.{◌≡◌, ◌++◌, [], sym, subst, Library, IsResolved, unknown_all}
+use Rattle.fb_types.proofs.Common.{IfOk}
 use Rattle.fb_check_names.specs.Catalog.{IsCatalog}
-use Rattle.fb_check_names.specs.Numbers.{IsResolved}
 use Rattle.fb_check_names.specs.declared.catalog.Catalog.{Catalog}
-use Rattle.fb_check.specs.types.Unknowns.{unknown_all}
 use Rattle.fb_check.proofs.types.resolution.resolve.Goals as goal
 
 pub resolve_by-requires-clause-catalog : goal.resolve_by-requires-clause-catalog

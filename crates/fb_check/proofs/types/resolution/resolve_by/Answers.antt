@@ -1,10 +1,4 @@
-use Rattle.std.proofs.Common.{◌++◌, List, ℕ, ◌∙◌, ap, None}
-use Rattle.fb_types.specs.declared.deploy.ResourceEntry.{ResourceEntry}
-use Rattle.fb_check_names.specs.Listed.{each_at}
-use Rattle.fb_check_names.specs.declared.location.Site.TheVariants.{Application}
-use Rattle.fb_check_names.specs.declared.location.UnknownName.{UnknownName}
-use Rattle.fb_check.specs.types.Present.{mapped_unless, sides_unless}
-use Rattle.fb_check.specs.types.Unknowns.{unknown_in_block, unknown_in_network}
+use Rattle.fb_check.proofs.lemmas.Common.{◌++◌, List, ℕ, ◌∙◌, ap, None, ResourceEntry, each_at, Application, UnknownName, mapped_unless, sides_unless, unknown_in_block, unknown_in_network}
 use Rattle.fb_check.proofs.lemmas.types.NumbersOfNames.{deployment_is, four_added, resolved}
 use Rattle.fb_check.proofs.types.resolution.resolve_by.Goals as goal
 

@@ -1,11 +1,5 @@
-use Rattle.std.proofs.Common.{◌∷◌, ◌++◌, List, refl, sym, ◌∙◌, ap}
-use Rattle.std.proofs.lemmas.List.{map-append}
-use Rattle.fb_types.specs.Syntax.{stmt_of}
-use Rattle.fb_types.specs.declared.text.Branch.{Branch}
-use Rattle.fb_types.specs.declared.text.Choice.{Choice}
-use Rattle.fb_types.specs.declared.text.Stmt.{Stmt}
-use Rattle.fb_check.specs.types.Trees.{all_of, branch_of, branches_of, choice_of, choices_of}
-use Rattle.fb_check.specs.types.Statements.{all_standing, each_in_body, each_in_branches, each_in_choices, each_inside, standing_of}
+use Rattle.fb_check.proofs.lemmas.Common.{◌∷◌, ◌++◌, List, refl, sym, ◌∙◌, ap, map-append, stmt_of, Branch, Choice, Stmt, all_of, branch_of, branches_of, choice_of, choices_of, all_standing, each_in_body, each_in_branches, each_in_choices, standing_of}
+use Rattle.fb_check.specs.types.Statements.{each_inside}
 use Rattle.fb_check.proofs.lemmas.types.GrowingLists.{all_added, and_added, both_added, list_added, one_added}
 use Rattle.fb_check.proofs.lemmas.types.InnerStatements.{inside_branch, inside_case, inside_choice, inside_if, inside_loop}
 use Rattle.fb_check.proofs.types.statements.+statement.Goals as goal

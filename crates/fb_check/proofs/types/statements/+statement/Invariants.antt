@@ -1,6 +1,4 @@
-use Rattle.std.proofs.Common.{◌≡◌, ◌++◌, drop}
-use Rattle.fb_check.specs.types.Trees.{all_of, branches_of, choices_of}
-use Rattle.fb_check.specs.types.Statements.{all_standing, each_in_body, each_in_branches, each_in_choices}
+use Rattle.fb_check.proofs.lemmas.Common.{◌≡◌, ◌++◌, drop, all_of, branches_of, choices_of, all_standing, each_in_body, each_in_branches, each_in_choices}
 use Rattle.fb_check.proofs.types.statements.+statement.Given as goal
 
 -- with the statements of the rest, all are there

@@ -1,6 +1,4 @@
-use Rattle.std.proofs.Common.{false, List, ◌++◌, ◌∙◌, ap}
-use Rattle.fb_types.specs.Syntax.{body_of}
-use Rattle.fb_check.specs.types.Statements.{all_standing, each_in_body}
+use Rattle.fb_check.proofs.lemmas.Common.{false, List, ◌++◌, ◌∙◌, ap, body_of, all_standing, each_in_body}
 use Rattle.fb_check.specs.declared.types.statements.Standing.{Standing}
 use Rattle.fb_check.proofs.lemmas.types.GrowingLists.{ok_joined}
 use Rattle.fb_check.proofs.types.statements.all_statements.Goals as goal

@@ -1,11 +1,7 @@
-use Rattle.std.proofs.Common.{ℕ, List, refl, sym, ◌∙◌, ap}
-use Rattle.fb_types.specs.Kinds.{context_in, is_condition}
-use Rattle.fb_types.specs.declared.text.Choice.{Choice}
-use Rattle.fb_check.specs.types.Trees.{choice_of, choices_of}
+use Rattle.fb_check.proofs.lemmas.Common.{ℕ, List, refl, sym, ◌∙◌, ap, context_in, is_condition, Choice, choice_of, choices_of, unless, part_at}
 use Rattle.fb_check.proofs.lemmas.types.Meanings.{choice_says}
 use Rattle.fb_check_names.specs.declared.location.StatementPart.TheVariants as part
-use Rattle.fb_check_names.specs.Listed.{unless}
-use Rattle.fb_check.specs.types.KindWrongLists.{part_at, wrong_choices}
+use Rattle.fb_check.specs.types.KindWrongLists.{wrong_choices}
 use Rattle.fb_check_names.proofs.lemmas.Listing.{added_unless, walk_done, walk_more}
 use Rattle.fb_check.proofs.types.statements.push_choice_parts.Goals as goal
 

@@ -1,7 +1,5 @@
-use Rattle.std.proofs.Common.{◌≡◌, ◌++◌, drop}
-use Rattle.fb_types.specs.Kinds.{context_in}
-use Rattle.fb_check.specs.types.Trees.{choices_of}
-use Rattle.fb_check.specs.types.KindWrongLists.{part_at, wrong_choices}
+use Rattle.fb_check.proofs.lemmas.Common.{◌≡◌, ◌++◌, drop, context_in, choices_of, part_at}
+use Rattle.fb_check.specs.types.KindWrongLists.{wrong_choices}
 use Rattle.fb_check.proofs.types.statements.push_choice_parts.Given as goal
 
 abbrev pub invariant-loop-index : goal.invariant-loop-index

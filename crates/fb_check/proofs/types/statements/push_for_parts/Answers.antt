@@ -1,9 +1,6 @@
-use Rattle.std.proofs.Common.{◌++◌, List, append_assoc, refl, sym, ◌∙◌}
-use Rattle.fb_types.specs.Kinds.{context_in}
-use Rattle.fb_check_names.specs.Listed.{unless}
-use Rattle.fb_check_names.specs.declared.location.KindWrongAt.{KindWrongAt}
+use Rattle.fb_check.proofs.lemmas.Common.{◌++◌, List, append_assoc, refl, sym, ◌∙◌, context_in, unless, KindWrongAt, part_at}
 use Rattle.fb_check_names.specs.declared.location.StatementPart.TheVariants as part
-use Rattle.fb_check.specs.types.KindWrongLists.{part_at, wrong_control}
+use Rattle.fb_check.specs.types.KindWrongLists.{wrong_control}
 use Rattle.fb_check.proofs.lemmas.types.GrowingLists.{and_added}
 use Rattle.fb_check.proofs.types.statements.push_for_parts.Goals as goal
 

@@ -1,7 +1,5 @@
-use Rattle.std.proofs.Common.{List, sym, ◌∙◌, ap}
-use Rattle.fb_check_names.specs.Listed.{each_at}
-use Rattle.fb_check.specs.types.KindWrongLists.{kinds_wrong_in_statement}
-use Rattle.fb_check.specs.types.Statements.{Standing, all_standing, standing_of}
+use Rattle.fb_check.proofs.lemmas.Common.{List, sym, ◌∙◌, ap, each_at, kinds_wrong_in_statement, all_standing, standing_of}
+use Rattle.fb_check.specs.types.Statements.{Standing}
 use Rattle.fb_check.proofs.lemmas.types.GrowingLists.{all_added}
 use Rattle.fb_check_names.proofs.lemmas.Listing.{each_from-map}
 use Rattle.fb_check.proofs.types.statements.push_in_body.Goals as goal

@@ -1,6 +1,5 @@
 use Rattle.fb_check.specs.declared.types.statements.Standing as code
-use Rattle.fb_check.specs.types.KindWrongLists.{kinds_wrong_in_statement}
-use Rattle.fb_check.specs.types.Statements.{standing_of}
+use Rattle.fb_check.proofs.lemmas.Common.{kinds_wrong_in_statement, standing_of}
 use Rattle.fb_check_names.proofs.lemmas.Listing.{each_done, each_more}
 use Rattle.fb_check.proofs.types.statements.push_in_statements.Goals as goal
 

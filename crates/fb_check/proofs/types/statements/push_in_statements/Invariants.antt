@@ -1,8 +1,5 @@
-use Rattle.std.proofs.Common.{◌≡◌, ◌++◌, drop}
+use Rattle.fb_check.proofs.lemmas.Common.{◌≡◌, ◌++◌, drop, kinds_wrong_in_statement, standing_of, each_at, each_from}
 use Rattle.fb_check.specs.declared.types.statements.Standing as code
-use Rattle.fb_check.specs.types.KindWrongLists.{kinds_wrong_in_statement}
-use Rattle.fb_check.specs.types.Statements.{standing_of}
-use Rattle.fb_check_names.specs.Listed.{each_at, each_from}
 use Rattle.fb_check.proofs.types.statements.push_in_statements.Given as goal
 
 abbrev pub invariant-loop-statement : goal.invariant-loop-statement

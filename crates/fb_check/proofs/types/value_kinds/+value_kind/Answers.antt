@@ -1,5 +1,4 @@
-use Rattle.std.proofs.Common.{None, Some, refl, sym, ◌∙◌, ap}
-use Rattle.fb_types.specs.Kinds.{value_kind_of_type}
+use Rattle.fb_check.proofs.lemmas.Common.{None, Some, refl, sym, ◌∙◌, ap, value_kind_of_type}
 use Rattle.fb_types.specs.declared.value_kind.ValueKind.{ValueKind}
 use Rattle.fb_check.proofs.lemmas.types.Arguments.{no_value_kind}
 use Rattle.fb_check.proofs.lemmas.types.ExpressionKinds.{binary_from, call_from, group_value_kind, one_from, one_is, three_are, three_from, two_are, two_from, unary_from, variable_value_kind}

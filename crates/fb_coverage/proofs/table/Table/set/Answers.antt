@@ -1,7 +1,6 @@
-use Rattle.std.proofs.Common.{◌≡◌, Bool, List, [], Option, sym, ◌∙◌, ap}
+use Rattle.fb_types.proofs.Common.{◌≡◌, Bool, List, [], Option, sym, ◌∙◌, ap, slice_set, true, unwrap_or}
 use Rattle.std.specs.Option.{option_copied_mut}
 use Rattle.fb_coverage.specs.Tables.{row_of}
-use Rattle.std.specs.Prelude.{slice_set, true, unwrap_or}
 use Rattle.fb_coverage.proofs.lemmas.Listed.{set_none}
 use Rattle.fb_coverage.proofs.table.Table.set.Goals as goal
 

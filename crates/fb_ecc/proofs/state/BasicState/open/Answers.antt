@@ -1,5 +1,4 @@
-use Rattle.std.proofs.Common.{refl, ◌∙◌, ap}
-use Rattle.fb_types.specs.Blocks.{variables_of}
+use Rattle.fb_types.proofs.Common.{refl, ◌∙◌, ap, variables_of}
 use Rattle.fb_st.specs.Frames.{declared_in}
 use Rattle.fb_ecc.proofs.lemmas.Acceptance.{sound_in_declaration}
 use Rattle.fb_ecc.proofs.lemmas.Links.{first_index}

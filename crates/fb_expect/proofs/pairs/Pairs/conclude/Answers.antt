@@ -1,9 +1,6 @@
-use Rattle.std.proofs.Common.{◌≡◌, ℕ, List, Option, false, length, ap, subst, sym, ◌∙◌, arith}
-use Rattle.std.specs.Prelude.{is_some}
-use Rattle.std.proofs.lemmas.Bool.{eq-eqb, eqb-true, true≢false}
+use Rattle.fb_expect.proofs.lemmas.Common.{◌≡◌, ℕ, List, Option, false, length, ap, subst, sym, ◌∙◌, arith, is_some, eq-eqb, true≢false, Waiting, Breach}
+use Rattle.fb_types.proofs.Common.{eqb-true}
 use Rattle.fb_expect.specs.Paired.{IsInTime, IsOverdue}
-use Rattle.fb_expect.specs.declared.pairs.Waiting.{Waiting}
-use Rattle.fb_expect.specs.declared.verdict.Breach.{Breach}
 use Rattle.fb_expect.proofs.lemmas.pairs.Coupled.{end-holds, end-late, end-open, end-over}
 use Rattle.fb_expect.proofs.pairs.Pairs.conclude.Goals as goal
 

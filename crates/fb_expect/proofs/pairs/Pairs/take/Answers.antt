@@ -1,6 +1,5 @@
-use Rattle.std.proofs.Common.{List, Some, refl, subst, sym, ◌∙◌}
+use Rattle.fb_expect.proofs.lemmas.Common.{List, Some, refl, subst, sym, ◌∙◌, Waiting}
 use Rattle.fb_expect.specs.Paired.{IsInTime, IsOverdue, seen_line}
-use Rattle.fb_expect.specs.declared.pairs.Waiting.{Waiting}
 use Rattle.fb_expect.proofs.lemmas.pairs.Coupled.{on-late, on-overdue, on-time-ok}
 use Rattle.fb_expect.proofs.pairs.Pairs.take.Goals as goal
 

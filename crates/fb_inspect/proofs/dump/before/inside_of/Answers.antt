@@ -1,5 +1,4 @@
-use Rattle.fb_types.specs.Headline.{system_of}
-use Rattle.fb_types.specs.Numbers.{path_at}
+use Rattle.fb_types.proofs.Common.{system_of, path_at}
 use Rattle.fb_inspect.specs.declared.walk.blocks.Remembered.TheVariants as kept
 use Rattle.fb_inspect.proofs.lemmas.walk.Walked.{chart_kept_at}
 use Rattle.fb_inspect.proofs.lemmas.dump.Changing.{no_chart, none_any}

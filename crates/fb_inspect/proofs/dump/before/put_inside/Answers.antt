@@ -1,8 +1,4 @@
-use Rattle.std.proofs.Common.{◌≡◌, ℕ, List, ◌++◌, sym, ap, ◌∙◌, append_assoc}
-use Rattle.fb_types.specs.Blocks.{variable_names}
-use Rattle.fb_types.specs.Names.{Name}
-use Rattle.fb_types.specs.Reactions.{state_of}
-use Rattle.fb_coverage.specs.Listed.{listed}
+use Rattle.fb_inspect.proofs.lemmas.Common.{◌≡◌, ℕ, List, ◌++◌, sym, ap, ◌∙◌, append_assoc, variable_names, Name, state_of, listed}
 use Rattle.fb_wave.proofs.lemmas.Handing.{on_ok}
 use Rattle.fb_inspect.specs.dump.Inner.{internal_begun, state_changed}
 use Rattle.fb_inspect.proofs.dump.before.put_inside.Goals as goal

@@ -1,7 +1,4 @@
-use Rattle.std.proofs.Common.{ℕ, List, ◌++◌, ap, ◌∙◌}
-use Rattle.std.proofs.lemmas.Bool.{both_ways}
-use Rattle.std.proofs.lemmas.Bool.Decides.{Decides-eqb}
-use Rattle.std.proofs.lemmas.Slice.Eq.{slice_eq-Decides}
+use Rattle.fb_types.proofs.Common.{ℕ, List, ◌++◌, ap, ◌∙◌, both_ways, Decides-eqb, slice_eq-Decides}
 use Rattle.fb_wave.proofs.lemmas.Handing.{on_ok}
 use Rattle.fb_inspect.proofs.lemmas.dump.Changing.{state_other, state_same}
 use Rattle.fb_inspect.proofs.dump.before.put_state_change.Goals as goal

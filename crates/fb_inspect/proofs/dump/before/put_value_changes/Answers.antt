@@ -1,7 +1,5 @@
-use Rattle.std.proofs.Common.{◌<◌, List, length, sym, ◌∙◌, arith}
-use Rattle.fb_types.specs.Names.{Name}
+use Rattle.fb_inspect.proofs.lemmas.Common.{◌<◌, List, length, sym, ◌∙◌, arith, Name, internal_change}
 use Rattle.fb_coverage.proofs.lemmas.Listed.{listed_done, listed_next}
-use Rattle.fb_inspect.specs.dump.Inner.{internal_change}
 use Rattle.fb_inspect.proofs.lemmas.dump.Changing.{change_as, value_at}
 use Rattle.fb_inspect.proofs.dump.before.put_value_changes.Goals as goal
 

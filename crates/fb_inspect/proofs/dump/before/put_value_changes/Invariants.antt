@@ -1,9 +1,4 @@
-use Rattle.std.proofs.Common.{◌≡◌, ◌++◌, drop, map}
-use Rattle.fb_types.specs.Names.{Name}
-use Rattle.fb_st.specs.Frames.{values_of}
-use Rattle.fb_coverage.specs.Listed.{listed}
-use Rattle.fb_inspect.specs.walk.Looks.{Seen}
-use Rattle.fb_inspect.specs.dump.Inner.{internal_change}
+use Rattle.fb_inspect.proofs.lemmas.Common.{◌≡◌, ◌++◌, drop, map, Name, values_of, listed, Seen, internal_change}
 use Rattle.fb_inspect.proofs.dump.before.put_value_changes.Given as goal
 
 -- with what the rest adds, all is there

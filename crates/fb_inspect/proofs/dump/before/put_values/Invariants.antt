@@ -1,8 +1,4 @@
-use Rattle.std.proofs.Common.{◌≡◌, ◌++◌, drop}
-use Rattle.fb_types.specs.Names.{Name}
-use Rattle.fb_st.specs.Frames.{values_of}
-use Rattle.fb_coverage.specs.Listed.{listed}
-use Rattle.fb_inspect.specs.walk.Looks.{Seen}
+use Rattle.fb_inspect.proofs.lemmas.Common.{◌≡◌, ◌++◌, drop, Name, values_of, listed, Seen}
 use Rattle.fb_inspect.specs.dump.Inner.{internal_begun}
 use Rattle.fb_inspect.proofs.dump.before.put_values.Given as goal
 

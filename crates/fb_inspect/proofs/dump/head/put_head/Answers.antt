@@ -1,9 +1,6 @@
-use Rattle.std.proofs.Common.{◌≡◌, ◌<◌, ℕ, List, ◌++◌, ap, arith, codes, length, ◌∙◌, append_assoc, true}
-use Rattle.fb_types.specs.Headline.{system_of}
-use Rattle.fb_wave.specs.Changes.{line}
+use Rattle.fb_inspect.proofs.lemmas.Common.{◌≡◌, ◌<◌, ℕ, List, ◌++◌, ap, arith, codes, length, ◌∙◌, append_assoc, true, system_of, line, insides_begun, resources_opened}
 use Rattle.fb_wave.specs.Scopes.{instances_begun}
 use Rattle.fb_wave.proofs.lemmas.Handing.{on_ok, on_put}
-use Rattle.fb_inspect.specs.dump.Heads.{insides_begun, resources_opened}
 use Rattle.fb_inspect.proofs.lemmas.dump.Heading.{resources_done, resources_on}
 use Rattle.fb_inspect.proofs.lemmas.results.Joined.{both_put}
 use Rattle.fb_inspect.proofs.dump.head.put_head.Goals as goal

@@ -1,6 +1,4 @@
-use Rattle.std.proofs.Common.{◌≡◌, ◌++◌, drop, true}
-use Rattle.fb_types.specs.Headline.{system_of}
-use Rattle.fb_inspect.specs.dump.Heads.{resources_opened}
+use Rattle.fb_inspect.proofs.lemmas.Common.{◌≡◌, ◌++◌, drop, true, system_of, resources_opened}
 use Rattle.fb_inspect.proofs.dump.head.put_head.Given as goal
 
 abbrev pub invariant-loop-resource : goal.invariant-loop-resource

@@ -1,8 +1,5 @@
-use Rattle.std.proofs.Common.{ℕ, ◌<◌, List, ◌++◌, length, sym, ap, ◌∙◌, append-nil, arith}
-use Rattle.fb_types.specs.Headline.{system_of}
-use Rattle.fb_types.specs.Numbers.{path_at}
+use Rattle.fb_inspect.proofs.lemmas.Common.{ℕ, ◌<◌, List, ◌++◌, length, sym, ap, ◌∙◌, append-nil, arith, system_of, path_at, opening_look}
 use Rattle.fb_inspect.specs.dump.Inner.{chart_begun}
-use Rattle.fb_inspect.specs.walk.Looks.{opening_look}
 use Rattle.fb_inspect.proofs.lemmas.dump.Changing.{chart_text, no_chart_text}
 use Rattle.fb_inspect.proofs.lemmas.dump.Heading.{insides_on}
 use Rattle.fb_inspect.proofs.dump.head.put_insides_begun.Goals as goal

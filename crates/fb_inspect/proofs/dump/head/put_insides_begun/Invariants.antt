@@ -1,6 +1,4 @@
-use Rattle.std.proofs.Common.{◌≡◌, ◌++◌, drop, true}
-use Rattle.fb_types.specs.Headline.{system_of}
-use Rattle.fb_inspect.specs.dump.Heads.{insides_begun}
+use Rattle.fb_inspect.proofs.lemmas.Common.{◌≡◌, ◌++◌, drop, true, system_of, insides_begun}
 use Rattle.fb_inspect.proofs.dump.head.put_insides_begun.Given as goal
 
 abbrev pub invariant-loop-index : goal.invariant-loop-index

@@ -1,9 +1,6 @@
-use Rattle.std.proofs.Common.{◌≡◌, ◌<◌, ℕ, ◌+◌, ◌-◌, List, ◌++◌, drop, length, sym, ap, ◌∙◌, append-nil, append_assoc, arith, true}
-use Rattle.fb_types.specs.Headline.{system_of}
-use Rattle.fb_types.specs.Numbers.{path_at, ports_at}
+use Rattle.fb_inspect.proofs.lemmas.Common.{◌≡◌, ◌<◌, ℕ, ◌+◌, ◌-◌, List, ◌++◌, drop, length, sym, ap, ◌∙◌, append-nil, append_assoc, arith, true, system_of, path_at, ports_at, instances_opened}
 use Rattle.fb_wave.specs.Scopes.{closed, opened, own_name, ports_declared}
 use Rattle.fb_wave.specs.Signals.{first_signal}
-use Rattle.fb_inspect.specs.dump.Heads.{instances_opened}
 use Rattle.fb_inspect.specs.dump.Inner.{chart_declared, inner_declared}
 use Rattle.fb_inspect.proofs.lemmas.dump.Changing.{chart_text, no_chart_text}
 use Rattle.fb_inspect.proofs.lemmas.dump.Heading.{opened_on, opened_past, whole_declared}

@@ -1,7 +1,5 @@
-use Rattle.std.proofs.Common.{◌≡◌, ◌++◌, drop, true}
-use Rattle.fb_types.specs.Headline.{system_of}
+use Rattle.fb_inspect.proofs.lemmas.Common.{◌≡◌, ◌++◌, drop, true, system_of, instances_opened}
 use Rattle.fb_wave.specs.Signals.{first_signal}
-use Rattle.fb_inspect.specs.dump.Heads.{instances_opened}
 use Rattle.fb_inspect.proofs.dump.head.put_instances.Given as goal
 
 abbrev pub invariant-loop-index : goal.invariant-loop-index

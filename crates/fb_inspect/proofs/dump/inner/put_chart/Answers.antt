@@ -1,7 +1,5 @@
-use Rattle.std.proofs.Common.{◌≡◌, ℕ, List, ◌++◌, codes, ap, ◌∙◌, append_assoc}
-use Rattle.fb_types.specs.declared.library.Variable.{Variable}
+use Rattle.fb_inspect.proofs.lemmas.Common.{◌≡◌, ℕ, List, ◌++◌, codes, ap, ◌∙◌, append_assoc, Variable, listed}
 use Rattle.fb_wave.specs.Scopes.{declares}
-use Rattle.fb_coverage.specs.Listed.{listed}
 use Rattle.fb_wave.proofs.lemmas.Handing.{on_ok}
 use Rattle.fb_inspect.specs.dump.Inner.{internal_declared, lost_code, state_code}
 use Rattle.fb_inspect.proofs.dump.inner.put_chart.Goals as goal

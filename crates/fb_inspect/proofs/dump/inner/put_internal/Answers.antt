@@ -1,7 +1,6 @@
-use Rattle.std.proofs.Common.{◌≡◌, ◌++◌, List, ℕ, codes, append_assoc, ap, ◌∙◌}
+use Rattle.fb_inspect.proofs.lemmas.Common.{◌≡◌, ◌++◌, List, ℕ, codes, append_assoc, ap, ◌∙◌, internal_code}
 use Rattle.fb_wave.specs.Scopes.{variable_kind}
 use Rattle.fb_wave.proofs.lemmas.Handing.{on_put}
-use Rattle.fb_inspect.specs.dump.Inner.{internal_code}
 use Rattle.fb_inspect.proofs.dump.inner.put_internal.Goals as goal
 
 declared : (o v k b i n e f : List ℕ) → ((((o ++ (v ++ k ++ b)) ++ i) ++ b) ++ n) ++ (e ++ f) ≡ o ++ ((v ++ k ++ b ++ i ++ b ++ n ++ e) ++ f)

@@ -1,5 +1,4 @@
-use Rattle.std.proofs.Common.{◌≡◌, ◌++◌, drop}
-use Rattle.fb_coverage.specs.Listed.{listed}
+use Rattle.fb_inspect.proofs.lemmas.Common.{◌≡◌, ◌++◌, drop, listed}
 use Rattle.fb_inspect.specs.dump.Inner.{internal_declared}
 use Rattle.fb_inspect.proofs.dump.inner.put_internals.Given as goal
 

@@ -1,5 +1,4 @@
-use Rattle.std.proofs.Common.{◌++◌, ℕ, Bool, codes, decimal, sym, ap, ◌∙◌}
-use Rattle.fb_wave.specs.Changes.{line}
+use Rattle.fb_inspect.proofs.lemmas.Common.{◌++◌, ℕ, Bool, codes, decimal, sym, ap, ◌∙◌, line}
 use Rattle.fb_wave.proofs.lemmas.Handing.{on_ok}
 use Rattle.fb_inspect.specs.dump.Inner.{lost_change}
 use Rattle.fb_inspect.proofs.dump.inner.put_lost.Goals as goal

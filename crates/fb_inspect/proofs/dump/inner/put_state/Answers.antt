@@ -1,5 +1,4 @@
-use Rattle.std.proofs.Common.{◌≡◌, ◌∷◌, [], ◌++◌, ℕ, List, codes, decimal, append_assoc, ap, ◌∙◌}
-use Rattle.fb_wave.specs.Changes.{line}
+use Rattle.fb_inspect.proofs.lemmas.Common.{◌≡◌, ◌∷◌, [], ◌++◌, ℕ, List, codes, decimal, append_assoc, ap, ◌∙◌, line}
 use Rattle.fb_wave.proofs.lemmas.Handing.{on_ok}
 use Rattle.fb_inspect.specs.dump.Inner.{state_changed}
 use Rattle.fb_inspect.proofs.dump.inner.put_state.Goals as goal

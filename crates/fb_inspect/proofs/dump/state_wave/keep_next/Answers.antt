@@ -1,7 +1,4 @@
-use Rattle.std.proofs.Common.{List, refl, sym, subst}
-use Rattle.fb_types.specs.Headline.{system_of}
-use Rattle.fb_inspect.specs.walk.Walking.{AreKept}
-use Rattle.fb_inspect.specs.declared.walk.blocks.Remembered.{Remembered}
+use Rattle.fb_inspect.proofs.lemmas.Common.{List, refl, sym, subst, system_of, AreKept, Remembered}
 use Rattle.fb_inspect.proofs.dump.state_wave.keep_next.Goals as goal
 
 pub keep-requires-clause-instance : goal.keep-requires-clause-instance

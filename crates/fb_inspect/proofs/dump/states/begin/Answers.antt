@@ -1,8 +1,4 @@
-use Rattle.std.proofs.Common.{List, refl, sym, subst}
-use Rattle.fb_types.specs.Headline.{system_of}
-use Rattle.fb_inspect.specs.walk.Looks.{opening_look}
-use Rattle.fb_inspect.specs.walk.Walking.{AreKept}
-use Rattle.fb_inspect.specs.declared.walk.blocks.Remembered.{Remembered}
+use Rattle.fb_inspect.proofs.lemmas.Common.{List, refl, sym, subst, system_of, opening_look, AreKept, Remembered}
 use Rattle.fb_inspect.proofs.dump.states.begin.Goals as goal
 
 pub begin-requires : goal.begin-requires

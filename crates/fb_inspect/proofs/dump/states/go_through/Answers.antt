@@ -1,8 +1,5 @@
-use Rattle.std.proofs.Common.{◌≡◌, List, ℕ, Bool, true, sym, subst}
-use Rattle.fb_types.specs.Headline.{system_of}
-use Rattle.fb_wave.specs.CutOff.{is_unended}
+use Rattle.fb_inspect.proofs.lemmas.Common.{◌≡◌, List, ℕ, Bool, true, sym, subst, system_of, is_unended, BeginsText}
 use Rattle.fb_wave.proofs.lemmas.Handing.{on_ok}
-use Rattle.fb_inspect.specs.walk.Standing.{BeginsText}
 use Rattle.fb_inspect.proofs.lemmas.dump.Ending.{cut_done, cut_none, cut_part, front_none, shown_cut}
 use Rattle.fb_inspect.proofs.lemmas.walk.UpToRefusal.{well_opens}
 use Rattle.fb_inspect.proofs.lemmas.reactions.Placed.{err_any, err_then}

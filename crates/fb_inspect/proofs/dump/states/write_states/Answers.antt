@@ -1,12 +1,7 @@
-use Rattle.std.proofs.Common.{subst, ◌∙◌}
-use Rattle.std.specs.Prelude.{IfSome, OnErr, OnOk, IfErr, ◌≤◌}
-use Rattle.fb_types.specs.Headline.{Inputs, system_of}
+use Rattle.fb_inspect.proofs.lemmas.Common.{subst, ◌∙◌, IfSome, OnErr, OnOk, IfErr, ◌≤◌, Inputs, system_of, HasNames, most, IsWrongAt, OfRefusal}
 use Rattle.fb_inspect.proofs.lemmas.reactions.Placed.{err_any, of_table}
 use Rattle.fb_inspect.specs.StateWaves.{IsShownWith, WritesFront}
 use Rattle.fb_inspect.proofs.lemmas.dump.Ending.{front_none}
-use Rattle.fb_wave.specs.Named.{HasNames}
-use Rattle.fb_inspect.specs.walk.Looks.{most}
-use Rattle.fb_inspect.specs.Refusals.{IsWrongAt, OfRefusal}
 use Rattle.fb_inspect.proofs.lemmas.results.Joined.{ok_passed}
 use Rattle.fb_inspect.proofs.lemmas.results.Refused.{none_passed}
 use Rattle.fb_inspect.proofs.dump.states.write_states.Goals as goal

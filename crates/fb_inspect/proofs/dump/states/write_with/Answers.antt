@@ -1,12 +1,5 @@
-use Rattle.std.proofs.Common.{◌≡◌, List, ℕ, false, refl, sym, ap, subst, ◌∙◌}
-use Rattle.std.specs.Io.KnownBytes.{Consumes}
-use Rattle.fb_types.specs.Headline.{system_of}
-use Rattle.fb_wave.specs.Copying.{IsFirstLine}
-use Rattle.fb_inspect.specs.walk.Lines.{IsNext}
-use Rattle.fb_inspect.specs.Refusals.{IsWrongAt}
-use Rattle.fb_inspect.specs.walk.Standing.{BeginsText}
+use Rattle.fb_inspect.proofs.lemmas.Common.{◌≡◌, List, ℕ, false, refl, sym, ap, subst, ◌∙◌, Consumes, system_of, IsFirstLine, IsNext, IsWrongAt, BeginsText, Reading}
 use Rattle.fb_inspect.specs.dump.Waving.{Begins}
-use Rattle.fb_inspect.specs.declared.walk.reading.Reading.{Reading}
 use Rattle.fb_inspect.proofs.lemmas.dump.Ending.{front_none}
 use Rattle.fb_inspect.proofs.lemmas.walk.UpToRefusal.{text_begins}
 use Rattle.fb_inspect.proofs.lemmas.reactions.Placed.{err_any}

@@ -1,5 +1,4 @@
-use Rattle.std.proofs.Common.{◌≡◌, ◌<◌, ℕ}
-use Rattle.fb_types.specs.Numbers.{event_at}
+use Rattle.fb_types.proofs.Common.{◌≡◌, ◌<◌, ℕ, event_at}
 use Rattle.fb_inspect.proofs.refused.fault_names.event_of.Given as goal
 
 abbrev pub invariant-loop-event : goal.invariant-loop-event

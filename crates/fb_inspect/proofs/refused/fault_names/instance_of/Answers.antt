@@ -1,7 +1,4 @@
-use Rattle.std.proofs.Common.{below_more, sym, ◌∙◌, arith}
-use Rattle.std.proofs.lemmas.Bool.{both_ways}
-use Rattle.std.proofs.lemmas.Bool.Decides.{Decides-eqb}
-use Rattle.std.proofs.lemmas.Slice.Eq.{slice_eq-Decides}
+use Rattle.fb_types.proofs.Common.{below_more, sym, ◌∙◌, arith, both_ways, Decides-eqb, slice_eq-Decides}
 use Rattle.fb_inspect.proofs.refused.fault_names.instance_of.Goals as goal
 
 pub loop-instance-preserved : goal.loop-instance-preserved

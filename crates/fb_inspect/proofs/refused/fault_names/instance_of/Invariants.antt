@@ -1,7 +1,4 @@
-use Rattle.std.proofs.Common.{◌≡◌, ◌<◌, ℕ}
-use Rattle.fb_types.specs.Headline.{system_of}
-use Rattle.fb_types.specs.Numbers.{path_at}
-use Rattle.fb_types.specs.Text.{path_text}
+use Rattle.fb_types.proofs.Common.{◌≡◌, ◌<◌, ℕ, system_of, path_at, path_text}
 use Rattle.fb_inspect.proofs.refused.fault_names.instance_of.Given as goal
 
 abbrev pub invariant-loop-instance : goal.invariant-loop-instance

@@ -1,6 +1,4 @@
-use Rattle.std.proofs.Common.{◌∙◌}
-use Rattle.std.proofs.lemmas.Bool.Decides.{Decides-eqb}
-use Rattle.std.proofs.lemmas.Slice.Eq.{slice_eq-Decides}
+use Rattle.fb_types.proofs.Common.{◌∙◌, Decides-eqb, slice_eq-Decides}
 use Rattle.fb_inspect.proofs.refused.fault_names.taken_of.Goals as goal
 
 pub returns-then-eq : goal.returns-then-eq

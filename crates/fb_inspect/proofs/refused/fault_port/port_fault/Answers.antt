@@ -1,8 +1,4 @@
-use Rattle.std.proofs.Common.{◌≡◌, ◌<◌, ℕ, [], get_or, length, refl, sym, subst, ap, ◌∙◌}
-use Rattle.std.proofs.lemmas.Bool.Decides.{Decides-eqb}
-use Rattle.std.proofs.lemmas.Slice.Eq.{slice_eq-Decides}
-use Rattle.fb_types.specs.Headline.{system_of}
-use Rattle.fb_types.specs.Numbers.{path_at}
+use Rattle.fb_types.proofs.Common.{◌≡◌, ◌<◌, ℕ, [], get_or, length, refl, sym, subst, ap, ◌∙◌, Decides-eqb, slice_eq-Decides, system_of, path_at}
 use Rattle.fb_wave.specs.Ports.{holder_name}
 use Rattle.fb_wave.proofs.lemmas.Bounds.{resource_named}
 use Rattle.fb_inspect.specs.refused.LineFaults.{path_event, sign_text}

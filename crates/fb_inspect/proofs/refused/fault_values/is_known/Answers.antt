@@ -1,8 +1,4 @@
-use Rattle.std.proofs.Common.{◌≡◌, ◌<◌, ℕ, below_more, get_or, length, sym, ap, ◌∙◌, arith}
-use Rattle.std.proofs.lemmas.Bool.{both_ways, true≢false}
-use Rattle.std.proofs.lemmas.Bool.Decides.{Decides-eqb}
-use Rattle.std.proofs.lemmas.List.{get_or_default}
-use Rattle.std.proofs.lemmas.Slice.Eq.{slice_eq-Decides}
+use Rattle.fb_types.proofs.Common.{◌≡◌, ◌<◌, ℕ, below_more, get_or, length, sym, ap, ◌∙◌, arith, both_ways, true≢false, Decides-eqb, get_or_default, slice_eq-Decides}
 use Rattle.fb_wave.specs.Reading.{name_at}
 use Rattle.fb_inspect.proofs.lemmas.words.BoundValues.{same_variable}
 use Rattle.fb_inspect.proofs.refused.fault_values.is_known.Goals as goal

@@ -1,7 +1,4 @@
-use Rattle.std.proofs.Common.{ap, sym, ◌∙◌}
-use Rattle.fb_types.specs.Headline.{system_of}
-use Rattle.fb_types.specs.Numbers.{path_at, ports_at}
-use Rattle.fb_types.specs.declared.library.Ports.{Ports}
+use Rattle.fb_types.proofs.Common.{ap, sym, ◌∙◌, system_of, path_at, ports_at, Ports}
 use Rattle.fb_inspect.specs.refused.LineFaults.{variables}
 use Rattle.fb_inspect.proofs.lemmas.words.BoundValues.{port_fault}
 use Rattle.fb_inspect.proofs.lemmas.words.PortWords.{inputs_of, outputs_of}

@@ -1,7 +1,4 @@
-use Rattle.std.proofs.Common.{◌≡◌, ◌<◌, List, ℕ, get_or, length, refl, sym, subst, ◌∙◌}
-use Rattle.std.proofs.lemmas.Bool.Decides.{Decides-eqb}
-use Rattle.std.proofs.lemmas.Slice.Eq.{slice_eq-Decides}
-use Rattle.fb_types.specs.declared.library.Variable.{Variable}
+use Rattle.fb_types.proofs.Common.{◌≡◌, ◌<◌, List, ℕ, get_or, length, refl, sym, subst, ◌∙◌, Decides-eqb, slice_eq-Decides, Variable}
 use Rattle.fb_wave.specs.Reading.{IsNoValue}
 use Rattle.fb_inspect.specs.refused.LineFaults.{IsNamed}
 use Rattle.fb_inspect.proofs.lemmas.words.BoundValues.{no_value_at, same_variable}

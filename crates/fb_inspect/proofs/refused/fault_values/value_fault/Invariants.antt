@@ -1,5 +1,4 @@
-use Rattle.std.proofs.Common.{List}
-use Rattle.fb_types.specs.declared.value.Value.{Value}
+use Rattle.fb_types.proofs.Common.{List, Value}
 use Rattle.fb_wave.proofs.lemmas.Valued.{AreSoFar}
 use Rattle.fb_inspect.proofs.refused.fault_values.value_fault.Given as goal
 

@@ -1,6 +1,4 @@
-use Rattle.std.proofs.Common.{ℕ, List, refl, subst}
-use Rattle.fb_types.specs.Headline.{system_of}
-use Rattle.fb_types.specs.Numbers.{path_at}
+use Rattle.fb_types.proofs.Common.{ℕ, List, refl, subst, system_of, path_at}
 use Rattle.fb_wave.specs.Lines.{HasNoHead, IsHead}
 use Rattle.fb_wave.proofs.lemmas.Bounds.{resource_named}
 use Rattle.fb_wave.proofs.lemmas.Gluing.{key_with, line_read, line_with, port_at}

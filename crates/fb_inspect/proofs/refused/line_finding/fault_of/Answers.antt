@@ -1,7 +1,4 @@
-use Rattle.std.proofs.Common.{List, ℕ, inr, subst, ◌∙◌}
-use Rattle.std.proofs.lemmas.Bool.{both_ways}
-use Rattle.fb_types.specs.Headline.{system_of}
-use Rattle.fb_wave.specs.Lines.{IsLast}
+use Rattle.fb_inspect.proofs.lemmas.Common.{List, ℕ, inr, subst, ◌∙◌, both_ways, system_of, IsLast}
 use Rattle.fb_inspect.proofs.refused.line_finding.fault_of.Goals as goal
 
 pub returns-then-is_like_end : goal.returns-then-is_like_end

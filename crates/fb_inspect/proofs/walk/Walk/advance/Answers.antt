@@ -1,20 +1,9 @@
-use Rattle.std.proofs.Common.{ap, inl, refl, subst, sym, ◌∙◌, Ok}
-use Rattle.fb_types.specs.Headline.{system_of}
-use Rattle.fb_inspect.specs.Inspections.{last_look}
-use Rattle.fb_inspect.specs.walk.Lines.{IsNextLine}
-use Rattle.fb_inspect.specs.walk.Looks.{opening_look}
+use Rattle.fb_inspect.proofs.lemmas.Common.{ap, inl, refl, subst, sym, ◌∙◌, Ok, system_of, err_from_is_err_and, last_look, IsNextLine, opening_look, IsSevered, unread, Next, Reading, last_tick, IsWrongLine, GoesAfter, Step}
 use Rattle.fb_inspect.specs.walk.Stepping.{LineGoes}
-use Rattle.fb_inspect.specs.walk.Walking.{HasAdvanced, IsSevered, unread}
-use Rattle.fb_inspect.specs.declared.walk.reading.Next.{Next}
-use Rattle.fb_inspect.specs.declared.walk.reading.Reading.{Reading}
+use Rattle.fb_inspect.specs.walk.Walking.{HasAdvanced}
 use Rattle.fb_inspect.specs.declared.walk.reading.Next.TheVariants as next
-use Rattle.fb_wave.specs.Dumps.{last_tick}
 use Rattle.fb_inspect.proofs.lemmas.walk.OneStep.{ended_whole, line_next, severed_next, step_over, taken_whole}
 use Rattle.fb_inspect.proofs.lemmas.walk.Stepped.{bad_on, complete_bad, ended_here}
-use Rattle.std.proofs.lemmas.Result.{err_from_is_err_and}
-use Rattle.fb_inspect.specs.Refusals.{IsWrongLine}
-use Rattle.fb_inspect.specs.walk.Standing.{GoesAfter}
-use Rattle.fb_inspect.specs.declared.walk.Step.{Step}
 use Rattle.fb_inspect.proofs.lemmas.lines.Judging.{bad_line, event_at, wrong_end}
 use Rattle.fb_inspect.proofs.lemmas.lines.OneEnd.{names_apart}
 use Rattle.fb_inspect.proofs.lemmas.results.Errors.{of_number}

@@ -1,17 +1,9 @@
-use Rattle.std.proofs.Common.{List, Ok, ℕ, ◌<◌, Option, refl, subst, sym}
-use Rattle.std.specs.Io.KnownBytes.{Consumes}
-use Rattle.fb_types.specs.Headline.{system_of}
-use Rattle.fb_inspect.specs.walk.Walking.{AreCutOff, unread}
-use Rattle.fb_inspect.specs.declared.walk.Walk.{Walk}
+use Rattle.fb_inspect.proofs.lemmas.Common.{List, Ok, ℕ, ◌<◌, Option, refl, subst, sym, Consumes, system_of, err_from_is_err_and, AreCutOff, unread, Walk, last_look, opening_look, Watches}
 use Rattle.fb_inspect.proofs.lemmas.results.Joined.{both_put}
 use Rattle.fb_inspect.proofs.lemmas.lines.Moving.{shown_both}
 use Rattle.fb_inspect.proofs.lemmas.walk.OneStep.{line_reread, ok_both}
 use Rattle.fb_inspect.proofs.lemmas.reactions.Placed.{ok_then}
 use Rattle.fb_inspect.proofs.lemmas.walk.Stepped.{advanced_on, none_ahead, reread_on, severed_on}
-use Rattle.std.proofs.lemmas.Result.{err_from_is_err_and}
-use Rattle.fb_inspect.specs.Inspections.{last_look}
-use Rattle.fb_inspect.specs.walk.Looks.{opening_look}
-use Rattle.fb_inspect.specs.walk.Standing.{Watches}
 use Rattle.fb_inspect.specs.declared.walk.ahead.EventLine.{EventLine}
 use Rattle.fb_inspect.proofs.lemmas.results.Refused.{none_refused}
 use Rattle.fb_inspect.proofs.lemmas.walk.StandsAfter.{at_look, goes_left, look_ahead}

@@ -1,7 +1,4 @@
-use Rattle.std.proofs.Common.{◌+◌, ◌++◌, ◌∙◌, ℕ, List, ap, subst, sym}
-use Rattle.std.specs.Io.KnownBytes.{Appends}
-use Rattle.std.proofs.lemmas.Result.{err_from_is_err_and}
-use Rattle.fb_wave.specs.declared.page.Page.{Page}
+use Rattle.fb_inspect.proofs.lemmas.Common.{◌+◌, ◌++◌, ◌∙◌, ℕ, List, ap, subst, sym, Appends, err_from_is_err_and, Page}
 use Rattle.fb_inspect.proofs.lemmas.walk.Ended.{nothing_sent, short_sent}
 use Rattle.fb_inspect.proofs.lemmas.reactions.Placed.{err_any}
 use Rattle.fb_inspect.proofs.walk.Walk.finish.Goals as goal

@@ -1,6 +1,4 @@
-use Rattle.std.proofs.Common.{◌∙◌, subst, sym}
-use Rattle.std.specs.Io.KnownBytes.{Appends}
-use Rattle.fb_wave.specs.declared.page.Page.{Page}
+use Rattle.fb_inspect.proofs.lemmas.Common.{◌∙◌, subst, sym, Appends, Page}
 use Rattle.fb_inspect.proofs.lemmas.walk.Ended.{no_cut_sent, short_sent}
 use Rattle.fb_inspect.proofs.lemmas.reactions.Placed.{err_any}
 use Rattle.fb_inspect.proofs.walk.Walk.finish_cut.Goals as goal

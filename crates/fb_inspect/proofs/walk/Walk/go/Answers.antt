@@ -1,23 +1,12 @@
-use Rattle.std.proofs.Common.{List, ℕ, ◌<◌, ◌+◌, length, inl, Option, subst, sym, ◌≡◌, Ok, Some}
-use Rattle.std.specs.Prelude.{IfSome}
-use Rattle.fb_types.specs.Headline.{system_of}
-use Rattle.fb_coverage.specs.declared.marks.Marks.{Marks}
+use Rattle.fb_inspect.proofs.lemmas.Common.{List, ℕ, ◌<◌, ◌+◌, length, inl, Option, subst, sym, ◌≡◌, Ok, Some, IfSome, system_of, Consumes, err_from_is_err_and, Marks, last_look, opening_look, HasCovered, unread, Step, last_tick, IsWrongAt, IsWrongLine, GoesAfter}
 use Rattle.fb_inspect.specs.Covering.{IsCovered, IsCutCovered}
-use Rattle.fb_inspect.specs.Inspections.{last_look}
-use Rattle.fb_inspect.specs.walk.Looks.{opening_look}
-use Rattle.fb_inspect.specs.walk.Walking.{HasAdvanced, HasCovered, unread}
-use Rattle.fb_inspect.specs.declared.walk.Step.{Step}
-use Rattle.fb_wave.specs.Dumps.{last_tick}
+use Rattle.fb_inspect.specs.walk.Walking.{HasAdvanced}
 use Rattle.fb_inspect.proofs.lemmas.walk.Ended.{complete_covered, complete_part, complete_shown, front_flush, front_gone, severed_covered, severed_part, severed_shown, shown_cut, shown_whole, some_text}
 use Rattle.fb_inspect.proofs.lemmas.walk.WalkedTakings.{covered_none, flushed_on}
 use Rattle.fb_inspect.proofs.lemmas.results.Joined.{err_joined, fails_joined, ok_joined, ok_passed, on_joined}
 use Rattle.fb_inspect.proofs.lemmas.reactions.Placed.{err_any, err_then}
 use Rattle.fb_inspect.proofs.lemmas.lines.Severing.{on_some}
 use Rattle.fb_inspect.proofs.lemmas.walk.Stepped.{none_ahead}
-use Rattle.std.specs.Io.KnownBytes.{Consumes}
-use Rattle.std.proofs.lemmas.Result.{err_from_is_err_and}
-use Rattle.fb_inspect.specs.Refusals.{IsWrongAt, IsWrongLine}
-use Rattle.fb_inspect.specs.walk.Standing.{GoesAfter}
 use Rattle.fb_inspect.proofs.lemmas.walk.UpToRefusal.{after_last, well_first, well_flushed}
 use Rattle.fb_wave.proofs.lemmas.Handing.{on_ok}
 use Rattle.fb_inspect.proofs.lemmas.results.Refused.{err_none, err_refused, refused_then}

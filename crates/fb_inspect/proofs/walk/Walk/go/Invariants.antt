@@ -1,11 +1,4 @@
-use Rattle.std.proofs.Common.{◌≡◌, ◌≤◌, ℕ, List, Option, Some}
-use Rattle.std.specs.Io.KnownBytes.{Consumes}
-use Rattle.fb_types.specs.Headline.{system_of}
-use Rattle.fb_wave.specs.Named.{HasNames}
-use Rattle.fb_inspect.specs.Selections.{Selection}
-use Rattle.fb_inspect.specs.walk.Looks.{most}
-use Rattle.fb_inspect.specs.walk.Standing.{BeginsText, IsLeft, StandsWell}
-use Rattle.fb_inspect.specs.walk.Walking.{HasCovered, Starts, unread}
+use Rattle.fb_inspect.proofs.lemmas.Common.{◌≡◌, ◌≤◌, ℕ, List, Option, Some, Consumes, system_of, HasNames, Selection, most, BeginsText, IsLeft, StandsWell, HasCovered, Starts, unread}
 use Rattle.fb_inspect.proofs.walk.Walk.go.Given as goal
 
 -- the takings up to here were gone through, and the walk stands at the next line

@@ -1,8 +1,4 @@
-use Rattle.std.proofs.Common.{◌≡◌, Some, inl, inr, sym, ap, ◌∙◌, arith}
-use Rattle.std.proofs.lemmas.Bool.{false≢true}
-use Rattle.std.proofs.lemmas.Bool.Decides.{nat_tests}
-use Rattle.fb_types.specs.declared.value.Reason.{Reason}
-use Rattle.fb_inspect.specs.walk.Looks.{left_at}
+use Rattle.fb_inspect.proofs.lemmas.Common.{◌≡◌, Some, inl, inr, sym, ap, ◌∙◌, arith, false≢true, nat_tests, Reason, left_at}
 use Rattle.fb_inspect.proofs.lemmas.lines.NearStop.{kept_at, no_steps, none_kept, out_of_steps}
 use Rattle.fb_inspect.proofs.walk.Walk.has_run_out.Goals as goal
 

@@ -1,11 +1,4 @@
-use Rattle.std.proofs.Common.{◌<◌, List, ℕ, Option, sym, subst, ap, ◌∙◌}
-use Rattle.std.specs.Prelude.{IfNone, slice_get}
-use Rattle.fb_types.specs.Headline.{system_of}
-use Rattle.fb_types.specs.Numbers.{path_at}
-use Rattle.fb_trace.specs.declared.last.Outcome.{Outcome}
-use Rattle.fb_wave.specs.Lines.{IsLast, IsNoLast}
-use Rattle.fb_inspect.specs.declared.walk.blocks.Chart.{Chart}
-use Rattle.fb_inspect.specs.declared.walk.blocks.Remembered.{Remembered}
+use Rattle.fb_inspect.proofs.lemmas.Common.{◌<◌, List, ℕ, Option, sym, subst, ap, ◌∙◌, IfNone, slice_get, system_of, path_at, Outcome, IsLast, IsNoLast, Chart, Remembered}
 use Rattle.fb_inspect.specs.declared.walk.blocks.Remembered.TheVariants as kept
 use Rattle.fb_inspect.proofs.lemmas.dump.Changing.{no_chart}
 use Rattle.fb_inspect.proofs.lemmas.lines.NearStop.{basic_kept, far_end, far_mark, far_none, near_text, true_not}

@@ -1,10 +1,6 @@
-use Rattle.std.proofs.Common.{◌≡◌, ◌<◌, All, ◌≤◌, ◌+◌, ℕ, List, Some, length, sym, subst, take}
-use Rattle.std.specs.Prelude.{slice_get}
-use Rattle.std.proofs.lemmas.Option.{slice_get_within}
+use Rattle.fb_inspect.proofs.lemmas.Common.{◌≡◌, ◌<◌, All, ◌≤◌, ◌+◌, ℕ, List, Some, length, sym, subst, take, slice_get, slice_get_within, Left, most, TickSteps}
 use Rattle.fb_types.proofs.lemmas.lists.ByIndex.{all_at, element_at}
 use Rattle.fb_types.proofs.lemmas.lists.LoopSteps.{all_of_taken}
-use Rattle.fb_inspect.specs.walk.Looks.{Left, most}
-use Rattle.fb_inspect.specs.declared.walk.steps.TickSteps.{TickSteps}
 use Rattle.fb_inspect.proofs.lemmas.lines.NearStop.{all_more, not_kept_at}
 use Rattle.fb_inspect.proofs.walk.Walk.keep_steps.Goals as goal
 

@@ -1,5 +1,4 @@
-use Rattle.std.proofs.Common.{◌+◌, ◌≤◌, All, take}
-use Rattle.fb_inspect.specs.walk.Looks.{most}
+use Rattle.fb_inspect.proofs.lemmas.Common.{◌+◌, ◌≤◌, All, take, most}
 use Rattle.fb_inspect.proofs.walk.Walk.keep_steps.Given as goal
 
 -- the first resources kept within the steps

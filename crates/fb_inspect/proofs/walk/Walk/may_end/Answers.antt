@@ -1,7 +1,4 @@
-use Rattle.std.proofs.Common.{subst}
-use Rattle.fb_trace.specs.End.{ending_of}
-use Rattle.fb_trace.specs.declared.last.Outcome.{Outcome}
-use Rattle.fb_inspect.specs.walk.Walking.{MayEnd}
+use Rattle.fb_inspect.proofs.lemmas.Common.{subst, ending_of, Outcome, MayEnd}
 use Rattle.fb_inspect.proofs.lemmas.lines.NearStop.{keeps_of}
 use Rattle.fb_inspect.proofs.walk.Walk.may_end.Goals as goal
 

@@ -1,19 +1,7 @@
-use Rattle.std.proofs.Common.{◌≡◌, ◌≤◌, ◌<◌, ◌+◌, ◌∷◌, ◌++◌, [], List, ℕ, Some, ap, inl, inr, length, refl, subst, sym, ◌∙◌}
-use Rattle.std.specs.Global.{Vec}
-use Rattle.std.specs.Prelude.{◌||◌, not}
-use Rattle.std.proofs.lemmas.List.{length-map}
-use Rattle.std.proofs.lemmas.Result.{err_from_is_err_and}
-use Rattle.fb_types.specs.Headline.{system_of}
-use Rattle.fb_types.specs.Numbers.{line_of}
+use Rattle.fb_inspect.proofs.lemmas.Common.{◌≡◌, ◌≤◌, ◌<◌, ◌+◌, ◌∷◌, ◌++◌, [], List, ℕ, Some, ap, inl, inr, length, refl, subst, sym, ◌∙◌, Vec, ◌||◌, not, length-map, err_from_is_err_and, system_of, line_of, line_text, all_lines, last_look, IsTaking, Left, most, opening_look, FailsBy, IsWrongLine, Watches, IsLookOf, unread, Ended}
 use Rattle.fb_types.specs.States as model
-use Rattle.fb_types.specs.Text.{line_text}
-use Rattle.fb_inspect.specs.Inspections.{all_lines, last_look}
-use Rattle.fb_inspect.specs.walk.Looks.{IsTaking, Left, most, opening_look}
-use Rattle.fb_inspect.specs.Refusals.{FailsBy, IsWrongLine}
-use Rattle.fb_inspect.specs.walk.Standing.{Watches}
-use Rattle.fb_inspect.specs.walk.Walking.{IsLookOf, unread}
 use Rattle.fb_inspect.specs.declared.walk.ahead.EventLine.{EventLine}
-use Rattle.fb_inspect.specs.declared.walk.Step.TheVariants.{Ended, Taken}
+use Rattle.fb_inspect.specs.declared.walk.Step.TheVariants.{Taken}
 use Rattle.fb_inspect.proofs.lemmas.results.Errors.{of_number}
 use Rattle.fb_inspect.proofs.lemmas.results.Joined.{ok_passed}
 use Rattle.fb_inspect.proofs.lemmas.lines.NearStop.{not_kept, not_over}

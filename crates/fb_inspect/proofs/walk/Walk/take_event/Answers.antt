@@ -1,21 +1,10 @@
-use Rattle.std.proofs.Common.{◌≡◌, ℕ, ◌<◌, suc, List, length, length-set, slice_set, refl, ap, sym, subst, inl, ◌∙◌, arith}
-use Rattle.std.specs.Prelude.{IfErr, OnOk, ◌&&◌, if◌then◌else◌, slice_get, take}
-use Rattle.std.proofs.lemmas.Option.{same_Some}
-use Rattle.fb_types.specs.Headline.{system_of}
-use Rattle.fb_types.specs.Numbers.{path_at}
+use Rattle.fb_inspect.proofs.lemmas.Common.{◌≡◌, ℕ, ◌<◌, suc, List, length, slice_set, refl, ap, sym, subst, inl, ◌∙◌, arith, IfErr, OnOk, ◌&&◌, if◌then◌else◌, slice_get, take, same_Some, system_of, path_at, IsTaking, IsTakingAt, left_at, FailsBy, OfRefusal, IsAlone, WalkTakes, Reading, Remembered, Trail, TickSteps, Walk}
+use Rattle.fb_types.proofs.Common.{length-set}
 use Rattle.fb_types.proofs.lemmas.lists.ByIndex.{element_at}
 use Rattle.fb_net.proofs.lemmas.blocks.OtherBlocks.{get_set_same}
-use Rattle.fb_inspect.specs.walk.Looks.{IsTaking, IsTakingAt, left_at}
-use Rattle.fb_inspect.specs.Refusals.{FailsBy, OfRefusal}
 use Rattle.fb_inspect.specs.Selections.{is_wanted}
-use Rattle.fb_inspect.specs.walk.Lines.{IsAlone}
 use Rattle.fb_inspect.specs.walk.OfWalk.{IsNext}
-use Rattle.fb_inspect.specs.walk.Walking.{WalkTakes, is_chart}
-use Rattle.fb_inspect.specs.declared.walk.reading.Reading.{Reading}
-use Rattle.fb_inspect.specs.declared.walk.blocks.Remembered.{Remembered}
-use Rattle.fb_inspect.specs.declared.walk.trail.Trail.{Trail}
-use Rattle.fb_inspect.specs.declared.walk.steps.TickSteps.{TickSteps}
-use Rattle.fb_inspect.specs.declared.walk.Walk.{Walk}
+use Rattle.fb_inspect.specs.walk.Walking.{is_chart}
 use Rattle.fb_inspect.proofs.lemmas.results.Errors.{of_number}
 use Rattle.fb_inspect.proofs.lemmas.walk.FailedTakings.{fails_whole, no_step, too_late}
 use Rattle.fb_inspect.proofs.lemmas.reactions.Placed.{item_is, ok_on, ok_then}

@@ -1,10 +1,5 @@
-use Rattle.std.proofs.Common.{List, Some, ℕ, subst, sym, ◌∙◌}
-use Rattle.std.proofs.lemmas.Result.{err_from_is_err_and}
-use Rattle.fb_types.specs.Headline.{system_of}
+use Rattle.fb_inspect.proofs.lemmas.Common.{List, Some, ℕ, subst, sym, ◌∙◌, err_from_is_err_and, system_of, IsAlone, IsTaking, FailsBy}
 use Rattle.fb_inspect.proofs.lemmas.walk.Stepped.{taking_joined}
-use Rattle.fb_inspect.specs.walk.Lines.{IsAlone}
-use Rattle.fb_inspect.specs.walk.Looks.{IsTaking}
-use Rattle.fb_inspect.specs.Refusals.{FailsBy}
 use Rattle.fb_inspect.proofs.lemmas.results.Refused.{none_passed, refused_then}
 use Rattle.fb_inspect.proofs.lemmas.results.Joined.{ok_passed}
 use Rattle.fb_inspect.proofs.walk.Walk.take_from_ahead.Goals as goal

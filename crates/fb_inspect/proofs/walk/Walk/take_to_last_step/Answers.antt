@@ -1,19 +1,7 @@
-use Rattle.std.specs.Global.{Vec}
-use Rattle.fb_types.specs.Headline.{system_of}
-use Rattle.fb_inspect.specs.Inspections.{limited, last_look}
-use Rattle.fb_inspect.specs.walk.Walking.{IsLookOf, unread}
-use Rattle.fb_inspect.specs.declared.walk.blocks.Remembered.{Remembered}
+use Rattle.fb_inspect.proofs.lemmas.Common.{Vec, system_of, ◌≡◌, ◌<◌, ℕ, List, [], Some, ap, refl, subst, sym, arith, err_from_is_err_and, Steps, limited, last_look, IsLookOf, unread, Remembered, IsTaking, Look, left_at, most, opening_look, FailsBy, IsWrongLine, Trail, left_of, TickSteps}
 use Rattle.fb_inspect.proofs.lemmas.walk.OneStep.{limited_ends}
 use Rattle.fb_inspect.proofs.lemmas.walk.Stepped.{look_limited}
-use Rattle.std.proofs.Common.{◌≡◌, ◌<◌, ℕ, List, [], Some, ap, refl, subst, sym, arith}
-use Rattle.std.proofs.lemmas.Result.{err_from_is_err_and}
 use Rattle.fb_types.proofs.lemmas.lists.ByIndex.{element_at}
-use Rattle.fb_types.specs.declared.value.Reason.TheVariants.{Steps}
-use Rattle.fb_inspect.specs.walk.Looks.{IsTaking, Look, left_at, most, opening_look}
-use Rattle.fb_inspect.specs.Refusals.{FailsBy, IsWrongLine}
-use Rattle.fb_inspect.specs.declared.walk.trail.Trail.{Trail}
-use Rattle.fb_inspect.specs.walk.Counted.{left_of}
-use Rattle.fb_inspect.specs.declared.walk.steps.TickSteps.{TickSteps}
 use Rattle.fb_inspect.proofs.lemmas.walk.StepsStop.{stop_same, last_fails, last_goes, last_kept, last_limit}
 use Rattle.fb_inspect.proofs.lemmas.lines.OneEnd.{no_stop_text}
 use Rattle.fb_inspect.proofs.lemmas.results.Errors.{of_number}

@@ -1,7 +1,4 @@
-use Rattle.std.proofs.Common.{◌<◌, ◌++◌, List, length, ap, ◌∙◌, arith}
-use Rattle.std.proofs.lemmas.List.{take_all}
-use Rattle.fb_types.specs.Blocks.{variable_names}
-use Rattle.fb_types.specs.declared.library.Variable.{Variable}
+use Rattle.fb_types.proofs.Common.{◌<◌, ◌++◌, List, length, ap, ◌∙◌, arith, take_all, variable_names, Variable}
 use Rattle.fb_inspect.proofs.lemmas.walk.Opened.{names_next}
 use Rattle.fb_inspect.proofs.walk.blocks.add_own.Goals as goal
 

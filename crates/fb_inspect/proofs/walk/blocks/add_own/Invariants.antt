@@ -1,5 +1,4 @@
-use Rattle.std.proofs.Common.{◌≡◌, ◌++◌, take}
-use Rattle.fb_types.specs.Blocks.{variable_names}
+use Rattle.fb_types.proofs.Common.{◌≡◌, ◌++◌, take, variable_names}
 use Rattle.fb_inspect.proofs.walk.blocks.add_own.Given as goal
 
 abbrev pub invariant-loop-index : goal.invariant-loop-index

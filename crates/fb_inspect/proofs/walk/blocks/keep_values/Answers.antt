@@ -1,8 +1,4 @@
-use Rattle.std.proofs.Common.{◌∷◌, ◌++◌, [], List, ap, map, sym, ◌∙◌}
-use Rattle.std.proofs.lemmas.List.{take_all}
-use Rattle.fb_types.specs.Names.{Name}
-use Rattle.fb_types.specs.Values.{Values}
-use Rattle.fb_types.specs.declared.value.Value.{Value}
+use Rattle.fb_types.proofs.Common.{◌∷◌, ◌++◌, [], List, ap, map, sym, ◌∙◌, take_all, Name, Values, Value}
 use Rattle.fb_types.proofs.lemmas.lists.LoopSteps.{map_take_more}
 use Rattle.fb_st.specs.Frames.{values_of}
 use Rattle.fb_inspect.proofs.walk.blocks.keep_values.Goals as goal

@@ -1,5 +1,4 @@
-use Rattle.std.proofs.Common.{◌≡◌, map, take}
-use Rattle.fb_st.specs.Frames.{values_of}
+use Rattle.fb_inspect.proofs.lemmas.Common.{◌≡◌, map, take, values_of}
 use Rattle.fb_inspect.proofs.walk.blocks.keep_values.Given as goal
 
 abbrev pub invariant-loop-variable : goal.invariant-loop-variable

@@ -1,9 +1,4 @@
-use Rattle.std.proofs.Common.{Some, ◌∙◌, ap, subst}
-use Rattle.fb_types.specs.Blocks.{Event}
-use Rattle.fb_types.specs.Headline.{system_of}
-use Rattle.fb_types.specs.Numbers.{path_at}
-use Rattle.fb_types.specs.Simulation.{opening_block}
-use Rattle.fb_types.specs.declared.event_kind.EventKind.{EventKind}
+use Rattle.fb_types.proofs.Common.{Some, ◌∙◌, ap, subst, Event, system_of, path_at, opening_block, EventKind}
 use Rattle.fb_net.specs.Blocks as net
 use Rattle.fb_net.specs.Worlds.{Represents}
 use Rattle.fb_net.specs.declared.block.Block.{Block}

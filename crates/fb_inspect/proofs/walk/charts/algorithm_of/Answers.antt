@@ -1,6 +1,4 @@
-use Rattle.std.proofs.Common.{◌≡◌, List, Some, None, sym, ◌∙◌, ap}
-use Rattle.std.specs.Prelude.{slice_get}
-use Rattle.fb_types.specs.declared.library.Action.{Action}
+use Rattle.fb_types.proofs.Common.{◌≡◌, List, Some, None, sym, ◌∙◌, ap, slice_get, Action}
 use Rattle.fb_inspect.proofs.lemmas.reactions.Actions.{actions_here}
 use Rattle.fb_inspect.proofs.walk.charts.algorithm_of.Goals as goal
 

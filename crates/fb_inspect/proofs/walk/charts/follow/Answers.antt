@@ -1,12 +1,7 @@
-use Rattle.std.proofs.Common.{None, Some, subst}
-use Rattle.std.specs.Prelude.{option_map}
-use Rattle.fb_types.specs.Numbers.{event_at}
-use Rattle.fb_types.specs.Charts.{Position}
-use Rattle.fb_inspect.specs.walk.Chains.{ShowsChain}
-use Rattle.fb_inspect.specs.walk.Charting.{HasLinked, place}
+use Rattle.fb_inspect.proofs.lemmas.Common.{None, Some, subst, option_map, event_at, Position, ShowsChain, place, ChartFails}
+use Rattle.fb_inspect.specs.walk.Charting.{HasLinked}
 use Rattle.fb_inspect.specs.declared.walk.charts.Linked.{Linked}
 use Rattle.fb_inspect.proofs.lemmas.reactions.Charted.{step_ends, step_none, step_then}
-use Rattle.fb_inspect.specs.Refusals.{ChartFails}
 use Rattle.fb_inspect.proofs.lemmas.reactions.ChartFailing.{fails_after}
 use Rattle.fb_inspect.proofs.lemmas.results.Refused.{err_passed}
 use Rattle.fb_inspect.proofs.lemmas.results.Joined.{ok_passed}

@@ -1,9 +1,5 @@
-use Rattle.std.proofs.Common.{◌<◌, length, Some}
-use Rattle.std.specs.Prelude.{IfSome, option_map}
-use Rattle.fb_types.specs.Numbers.{event_at}
-use Rattle.fb_inspect.specs.walk.Chains.{ShowsChain}
-use Rattle.fb_inspect.specs.walk.Charting.{IsChartOf, StepGoes, place, sys_of}
-use Rattle.fb_inspect.specs.walk.Lines.{IsNext}
+use Rattle.fb_inspect.proofs.lemmas.Common.{◌<◌, length, Some, IfSome, option_map, event_at, ShowsChain, StepGoes, place, sys_of, IsNext}
+use Rattle.fb_inspect.specs.walk.Charting.{IsChartOf}
 use Rattle.fb_inspect.proofs.walk.charts.follow.Given as goal
 
 -- the chain that goes on from here goes on from the start

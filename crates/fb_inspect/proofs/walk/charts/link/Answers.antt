@@ -1,27 +1,14 @@
-use Rattle.std.proofs.Common.{◌≡◌, ◌<◌, ◌++◌, ℕ, length, List, None, Ok, Option, Some, refl, sym, ap, subst, ◌∙◌, arith}
-use Rattle.std.specs.Prelude.{IfNone, IfSome, OnSome, option_map}
-use Rattle.fb_types.specs.Charts.{Position, actions_of, trial_at}
-use Rattle.fb_types.specs.Names.{Name}
-use Rattle.fb_types.specs.Numbers.{event_at}
-use Rattle.fb_types.specs.declared.value.Reason.{Reason}
-use Rattle.fb_st.specs.Frames.{values_of}
+use Rattle.fb_inspect.proofs.lemmas.Common.{◌≡◌, ◌<◌, ◌++◌, ℕ, length, List, None, Ok, Option, Some, refl, sym, ap, subst, ◌∙◌, arith, IfNone, IfSome, option_map, Position, actions_of, trial_at, Name, event_at, Reason, values_of, state_at, Acting, Clears_by, ShowsChain, ChartGoes, place, shown_text, Chart, Trail, ChartFails, Reading}
+use Rattle.std.specs.Prelude.{OnSome}
 use Rattle.fb_coverage.specs.Sets.{with_cleared}
-use Rattle.fb_ecc.specs.Indexes.{state_at}
 use Rattle.fb_ecc.specs.Steps.{IsFirst, clearing_index, trial_by}
 use Rattle.fb_ecc.specs.Trials.{transition_at}
-use Rattle.fb_inspect.specs.walk.Chains.{Acting, Clears_by, ShowsChain}
-use Rattle.fb_inspect.specs.walk.Charting.{ChartGoes, place}
 use Rattle.fb_inspect.specs.Markings.{PieceMarks}
-use Rattle.fb_inspect.specs.walk.Moves.{shown_text}
 use Rattle.fb_inspect.specs.walk.Notes.{lost_if}
 use Rattle.fb_inspect.specs.walk.OfWalk.{IsNext}
-use Rattle.fb_inspect.specs.declared.walk.blocks.Chart.{Chart}
-use Rattle.fb_inspect.specs.declared.walk.trail.Trail.{Trail}
 use Rattle.fb_inspect.proofs.lemmas.reactions.Charted.{link_failed, link_rested, link_stopped, link_went}
 use Rattle.fb_inspect.proofs.lemmas.marks.Marked.{first_like, state_entered}
 use Rattle.fb_inspect.proofs.lemmas.reactions.Placed.{entered_at, lost_any, marks_any, moved_at}
-use Rattle.fb_inspect.specs.Refusals.{ChartFails}
-use Rattle.fb_inspect.specs.declared.walk.reading.Reading.{Reading}
 use Rattle.fb_inspect.proofs.lemmas.reactions.ChartFailing.{link_fails}
 use Rattle.fb_inspect.proofs.lemmas.results.Refused.{err_passed, none_passed}
 use Rattle.fb_inspect.proofs.lemmas.results.Joined.{ok_passed}

@@ -1,9 +1,6 @@
-use Rattle.std.proofs.Common.{◌≡◌, ◌++◌, Bool, List, Option, get_or, refl, sym, ap, ◌∙◌, append-nil}
-use Rattle.std.specs.Prelude.{unwrap_or}
-use Rattle.fb_types.specs.declared.library.Transition.{Transition}
+use Rattle.fb_inspect.proofs.lemmas.Common.{◌≡◌, ◌++◌, Bool, List, Option, get_or, refl, sym, ap, ◌∙◌, append-nil, unwrap_or, Transition, shown_text}
 use Rattle.fb_ecc.specs.Trials.{nowhere, transition_at}
 use Rattle.fb_wave.proofs.lemmas.Handing.{on_ok}
-use Rattle.fb_inspect.specs.walk.Moves.{shown_text}
 use Rattle.fb_inspect.specs.walk.Notes.{cleared_note}
 use Rattle.fb_inspect.proofs.lemmas.reactions.Placed.{item_is}
 use Rattle.fb_inspect.proofs.walk.charts.note_cleared.Goals as goal

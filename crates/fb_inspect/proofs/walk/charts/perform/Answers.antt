@@ -1,21 +1,11 @@
-use Rattle.std.proofs.Common.{◌++◌, ℕ, List, [], ◌∷◌, length, map, Option, refl, sym, ◌∙◌, ap, subst}
-use Rattle.std.proofs.lemmas.List.{length-map}
-use Rattle.fb_types.specs.Charts.{Acts, Position}
-use Rattle.fb_types.specs.Names.{Name}
-use Rattle.fb_types.specs.Numbers.{emission_of, path_at, ports_at}
+use Rattle.fb_inspect.proofs.lemmas.Common.{◌++◌, ℕ, List, [], ◌∷◌, length, map, Option, refl, sym, ◌∙◌, ap, subst, length-map, Acts, Position, Name, emission_of, path_at, ports_at, values_of, place, sys_of, shown_text, Reading, Trail, Acting, ChartFails, EmitsFail}
 use Rattle.fb_types.specs.declared.run.Emission as run
-use Rattle.fb_st.specs.Frames.{values_of}
 use Rattle.fb_ecc.specs.Indexes.{index}
-use Rattle.fb_inspect.specs.walk.Charting.{place, sys_of}
-use Rattle.fb_inspect.specs.walk.Moves.{shown_text}
 use Rattle.fb_inspect.specs.walk.Notes.{ran_by_action}
 use Rattle.fb_inspect.specs.Markings.{with_ran_by}
 use Rattle.fb_inspect.specs.walk.OfWalk.{IsNext}
-use Rattle.fb_inspect.specs.declared.walk.reading.Reading.{Reading}
-use Rattle.fb_inspect.specs.declared.walk.trail.Trail.{Trail}
 use Rattle.fb_inspect.proofs.lemmas.reactions.Charted.{act_goes}
-use Rattle.fb_inspect.specs.walk.Chains.{Acting}
-use Rattle.fb_inspect.specs.Refusals.{ChartFails, EmitsFail, IsPlainLine}
+use Rattle.fb_inspect.specs.Refusals.{IsPlainLine}
 use Rattle.fb_inspect.proofs.lemmas.reactions.ChartFailing.{act_fails, emitted_fails, fit_chart}
 use Rattle.fb_inspect.proofs.lemmas.results.Joined.{err_joined, ok_joined, ok_passed, on_any, on_joined}
 use Rattle.fb_inspect.proofs.lemmas.results.Refused.{err_refused, none_passed}

@@ -1,14 +1,6 @@
-use Rattle.std.proofs.Common.{◌≡◌, ◌<◌, ℕ, List, [], ◌∷◌, ◌+◌, drop, length, Option, Some, refl, subst, ◌∙◌, sym, arith}
-use Rattle.std.specs.Prelude.{slice_get}
-use Rattle.fb_types.specs.Charts.{actions_of, Position}
-use Rattle.fb_types.specs.declared.library.Action.{Action}
-use Rattle.fb_types.specs.declared.value.Reason.{Reason}
+use Rattle.fb_inspect.proofs.lemmas.Common.{◌≡◌, ◌<◌, ℕ, List, [], ◌∷◌, ◌+◌, drop, length, Option, Some, refl, subst, ◌∙◌, sym, arith, slice_get, actions_of, Position, Action, Reason, state_at, Acting, ChartGoes, place, ChartFails}
 use Rattle.fb_types.proofs.lemmas.lists.ByIndex.{element_at}
-use Rattle.fb_ecc.specs.Indexes.{state_at}
-use Rattle.fb_inspect.specs.walk.Chains.{Acting}
-use Rattle.fb_inspect.specs.walk.Charting.{ChartGoes, place}
 use Rattle.fb_inspect.proofs.lemmas.reactions.Charted.{acts_done, acts_more, acts_stopped, step_none}
-use Rattle.fb_inspect.specs.Refusals.{ChartFails}
 use Rattle.fb_inspect.proofs.lemmas.reactions.ChartFailing.{acts_fail}
 use Rattle.fb_inspect.proofs.lemmas.results.Refused.{err_passed}
 use Rattle.fb_inspect.proofs.lemmas.results.Joined.{ok_passed}

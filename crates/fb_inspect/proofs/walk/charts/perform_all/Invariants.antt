@@ -1,9 +1,5 @@
-use Rattle.std.proofs.Common.{◌≡◌, ◌≤◌, drop}
-use Rattle.fb_types.specs.Charts.{actions_of}
-use Rattle.fb_ecc.specs.Indexes.{state_at}
-use Rattle.fb_inspect.specs.walk.Chains.{Acting}
-use Rattle.fb_inspect.specs.walk.Charting.{IsChartOf, StepGoes, place, sys_of}
-use Rattle.fb_inspect.specs.walk.Lines.{IsNext}
+use Rattle.fb_inspect.proofs.lemmas.Common.{◌≡◌, ◌≤◌, drop, actions_of, state_at, Acting, StepGoes, place, sys_of, IsNext}
+use Rattle.fb_inspect.specs.walk.Charting.{IsChartOf}
 use Rattle.fb_inspect.proofs.walk.charts.perform_all.Given as goal
 
 -- what the rest of the actions does from here, all do from the start

@@ -1,6 +1,4 @@
-use Rattle.std.proofs.Common.{sym, ap}
-use Rattle.fb_types.specs.declared.run.TimerAsk.{TimerAsk}
-use Rattle.fb_inspect.specs.walk.Looks.{due_after}
+use Rattle.fb_inspect.proofs.lemmas.Common.{sym, ap, TimerAsk, due_after}
 use Rattle.fb_inspect.proofs.walk.event_blocks.due_after.Goals as goal
 
 pub returns-in-Clear : goal.returns-in-Clear

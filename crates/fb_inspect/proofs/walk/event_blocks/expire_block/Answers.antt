@@ -1,11 +1,8 @@
-use Rattle.std.proofs.Common.{ap, refl, rules, subst, sym}
-use Rattle.fb_types.specs.Headline.{system_of}
+use Rattle.fb_inspect.proofs.lemmas.Common.{ap, refl, rules, subst, sym, system_of, Reading, OfRefusal, InspectError}
 use Rattle.fb_event.specs.Seen.{seen_memory}
 use Rattle.fb_inspect.specs.walk.OfWalk.{IsNext}
-use Rattle.fb_inspect.specs.declared.walk.reading.Reading.{Reading}
 use Rattle.fb_inspect.proofs.lemmas.reactions.Timed.{timer_goes}
-use Rattle.fb_inspect.specs.Refusals.{IsNotDue, OfRefusal}
-use Rattle.fb_inspect.specs.declared.error.InspectError.{InspectError}
+use Rattle.fb_inspect.specs.Refusals.{IsNotDue}
 use Rattle.fb_inspect.proofs.lemmas.reactions.NotDue.{not_due}
 use Rattle.fb_inspect.proofs.lemmas.results.Refused.{none_passed}
 use Rattle.fb_inspect.proofs.lemmas.results.Joined.{ok_passed}

@@ -1,19 +1,13 @@
-use Rattle.std.proofs.Common.{List, map, sym, ap, subst, ◌∙◌}
-use Rattle.fb_types.specs.Headline.{system_of}
-use Rattle.fb_types.specs.declared.value.Value.{Value}
-use Rattle.fb_event.specs.Reactions.{FitInputs, reaction_to}
+use Rattle.fb_inspect.proofs.lemmas.Common.{List, map, sym, ap, subst, ◌∙◌, system_of, Value, Emission, Event, emission_of, path_at, ports_at, FitInputs, Reading, Trail, EmitsFail}
+use Rattle.fb_event.specs.Reactions.{reaction_to}
 use Rattle.fb_event.specs.Seen.{seen_memory}
 use Rattle.fb_wave.proofs.lemmas.Handing.{on_ok}
 use Rattle.fb_inspect.specs.walk.Timing.{HasReacted, inputs_after}
 use Rattle.fb_inspect.specs.walk.OfWalk.{IsNext}
-use Rattle.fb_inspect.specs.declared.walk.reading.Reading.{Reading}
-use Rattle.fb_inspect.specs.declared.walk.trail.Trail.{Trail}
 use Rattle.fb_inspect.proofs.lemmas.reactions.Timed.{block_goes, emitted_as, fits_after}
-use Rattle.fb_types.specs.Blocks.{Emission, Event}
-use Rattle.fb_types.specs.Numbers.{emission_of, path_at, ports_at}
 use Rattle.fb_types.specs.declared.run.Emission as run
 use Rattle.fb_net.proofs.lemmas.values.Sampling.{ports-of_kind}
-use Rattle.fb_inspect.specs.Refusals.{EmitsFail, IsPlainLine}
+use Rattle.fb_inspect.specs.Refusals.{IsPlainLine}
 use Rattle.fb_inspect.proofs.lemmas.reactions.NotDue.{fit_block}
 use Rattle.fb_inspect.proofs.lemmas.results.Refused.{err_refused, none_passed}
 use Rattle.fb_inspect.proofs.lemmas.results.Joined.{ok_passed}

@@ -1,6 +1,4 @@
-use Rattle.std.proofs.Common.{◌≡◌, ◌++◌, drop, map}
-use Rattle.fb_types.specs.Values.{Values}
-use Rattle.fb_st.specs.Frames.{values_of}
+use Rattle.fb_inspect.proofs.lemmas.Common.{◌≡◌, ◌++◌, drop, map, Values, values_of}
 use Rattle.fb_inspect.specs.walk.Notes.{changes_text}
 use Rattle.fb_inspect.proofs.walk.notes.put_changes.Given as goal
 

@@ -1,10 +1,5 @@
-use Rattle.std.proofs.Common.{Option, sym, subst, ◌∙◌}
-use Rattle.std.proofs.lemmas.Bool.{false≢true}
-use Rattle.std.specs.Prelude.{IfNone, IfSome}
-use Rattle.fb_types.specs.Headline.{system_of}
-use Rattle.fb_types.specs.declared.run.Line.{Line}
-use Rattle.fb_trace.specs.declared.last.Outcome.{Outcome}
-use Rattle.fb_wave.specs.Lines.{IsNoLast, IsNoTextOf, IsTextOf}
+use Rattle.fb_inspect.proofs.lemmas.Common.{Option, sym, subst, ◌∙◌, false≢true, IfNone, IfSome, system_of, Line, Outcome, IsNoLast, IsTextOf}
+use Rattle.fb_wave.specs.Lines.{IsNoTextOf}
 use Rattle.fb_inspect.proofs.lemmas.lines.Judged.{end_early, line_early, none_there}
 use Rattle.fb_inspect.proofs.walk.reading.judged.Goals as goal
 

@@ -1,12 +1,5 @@
-use Rattle.std.proofs.Common.{◌≡◌, ◌<◌, ◌++◌, ◌∷◌, [], ℕ, List, ap, length, sym, subst, ◌∙◌}
-use Rattle.std.specs.Prelude.{slice_set}
-use Rattle.std.proofs.lemmas.Result.{on_ok_weaker}
-use Rattle.fb_types.specs.declared.run.InstanceVariable.{InstanceVariable}
-use Rattle.fb_types.specs.declared.value.Value.{Value}
-use Rattle.fb_net.specs.HeldAt.{IsAdded, side_index_of}
-use Rattle.fb_net.specs.Worlds.{index_in}
-use Rattle.fb_net.specs.declared.held_copies.HeldCopies.{HeldCopies}
-use Rattle.fb_net.specs.declared.held_copies.HeldRow.{HeldRow}
+use Rattle.fb_net.proofs.lemmas.Common.{◌≡◌, ◌<◌, ◌++◌, ◌∷◌, [], ℕ, List, ap, length, sym, subst, ◌∙◌, slice_set, on_ok_weaker, InstanceVariable, Value, side_index_of, index_in, HeldCopies, HeldRow}
+use Rattle.fb_net.specs.HeldAt.{IsAdded}
 use Rattle.fb_net.proofs.lemmas.values.HeldRows.{is_added}
 use Rattle.fb_net.proofs.held_copies.HeldCopies.add.Goals as goal
 

@@ -1,7 +1,4 @@
-use Rattle.std.proofs.Common.{◌≡◌, None, Some, sym, ap, ◌∙◌}
-use Rattle.std.specs.Prelude.{slice_get}
-use Rattle.fb_net.specs.HeldAt.{side_index_of}
-use Rattle.fb_net.specs.Worlds.{index_in}
+use Rattle.fb_net.proofs.lemmas.Common.{◌≡◌, None, Some, sym, ap, ◌∙◌, slice_get, side_index_of, index_in}
 use Rattle.fb_net.proofs.lemmas.values.HeldRows.{copy_elsewhere, copy_here, held_by}
 use Rattle.fb_net.proofs.held_copies.HeldCopies.get.Goals as goal
 

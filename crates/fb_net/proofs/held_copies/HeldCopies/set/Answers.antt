@@ -1,8 +1,4 @@
-use Rattle.std.proofs.Common.{◌≡◌, ℕ, List, Some, ap, sym, subst, ◌∙◌}
-use Rattle.std.specs.Prelude.{slice_get, slice_set}
-use Rattle.fb_net.specs.HeldAt.{IsSet, side_index_of}
-use Rattle.fb_net.specs.Worlds.{index_in}
-use Rattle.fb_net.specs.declared.held_copies.HeldRow.{HeldRow}
+use Rattle.fb_net.proofs.lemmas.Common.{◌≡◌, ℕ, List, Some, ap, sym, subst, ◌∙◌, slice_get, slice_set, IsSet, side_index_of, index_in, HeldRow}
 use Rattle.fb_net.proofs.lemmas.values.HeldRows.{is_set, none_set, row_with}
 use Rattle.fb_net.proofs.held_copies.HeldCopies.set.Goals as goal
 

@@ -1,8 +1,4 @@
-use Rattle.std.proofs.Common.{◌≡◌, ◌≢◌, ◌∙◌, ◌==◌, ℕ, Bool, true, false, cond, List, sym, ap, arith}
-use Rattle.std.specs.Prelude.{slice_set}
-use Rattle.std.proofs.lemmas.Bool.Decides.{nat_tests}
-use Rattle.fb_types.specs.declared.value.Value.{Value}
-use Rattle.fb_net.specs.declared.held_copies.HeldRow.{HeldRow}
+use Rattle.fb_net.proofs.lemmas.Common.{◌≡◌, ◌≢◌, ◌∙◌, ◌==◌, ℕ, Bool, true, false, cond, List, sym, ap, arith, slice_set, nat_tests, Value, HeldRow}
 use Rattle.fb_net.proofs.held_copies.HeldRow.set.Goals as goal
 
 same_side : (a b : ℕ) → a ≡ b → (a == b) ≡ true

@@ -1,8 +1,4 @@
-use Rattle.std.proofs.Common.{List, ◌∙◌, ap}
-use Rattle.fb_types.specs.Blocks.{variable_names}
-use Rattle.fb_types.specs.declared.library.Variable.{Variable}
-use Rattle.fb_st.specs.Frames.{values_of}
-use Rattle.fb_net.specs.Opening.{begun_all}
+use Rattle.fb_net.proofs.lemmas.Common.{List, ◌∙◌, ap, variable_names, Variable, values_of, begun_all}
 use Rattle.fb_net.proofs.lemmas.opening.BlockOpened.{inputs_declared, of_declaration, opens}
 use Rattle.fb_net.proofs.lemmas.blocks.Charts.{charts_grow, known_chart}
 use Rattle.fb_net.proofs.opening.blocks.basic_of.Goals as goal

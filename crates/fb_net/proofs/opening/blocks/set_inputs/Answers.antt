@@ -1,5 +1,4 @@
-use Rattle.std.proofs.Common.{◌∙◌, ◌<◌, length, arith}
-use Rattle.std.proofs.lemmas.Option.{slice_get-get_or}
+use Rattle.fb_types.proofs.Common.{◌∙◌, ◌<◌, length, arith, slice_get-get_or}
 use Rattle.fb_net.proofs.lemmas.opening.Frames.{at_index, declared_step, values_step}
 use Rattle.fb_net.proofs.opening.blocks.set_inputs.Goals as goal
 

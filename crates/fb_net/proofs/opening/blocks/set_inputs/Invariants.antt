@@ -1,5 +1,4 @@
-use Rattle.std.proofs.Common.{◌≡◌, drop}
-use Rattle.fb_types.specs.Blocks.{variable_names}
+use Rattle.fb_types.proofs.Common.{◌≡◌, drop, variable_names}
 use Rattle.fb_st.specs.Frames.{declared_in, values_of}
 use Rattle.fb_net.specs.Opening.{begun_all}
 use Rattle.fb_net.proofs.opening.blocks.set_inputs.Given as goal

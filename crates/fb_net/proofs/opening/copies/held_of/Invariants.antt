@@ -1,9 +1,4 @@
-use Rattle.std.proofs.Common.{◌≡◌, ◌<◌}
-use Rattle.fb_types.specs.Headline.{system_of}
-use Rattle.fb_types.specs.Numbers.{path_at}
-use Rattle.fb_system.specs.Ports.{IsVariable}
-use Rattle.fb_types.specs.declared.run.InstanceVariable.{InstanceVariable}
-use Rattle.fb_net.specs.Opening.{Covers}
+use Rattle.fb_net.proofs.lemmas.Common.{◌≡◌, ◌<◌, system_of, path_at, InstanceVariable, IsVariable, Covers}
 use Rattle.fb_net.proofs.opening.copies.held_of.Given as goal
 
 abbrev pub invariant-loop-instance : goal.invariant-loop-instance

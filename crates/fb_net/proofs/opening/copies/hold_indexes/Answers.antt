@@ -1,9 +1,4 @@
-use Rattle.std.proofs.Common.{◌≡◌, ◌<◌, length, refl, arith, ap, ◌∙◌}
-use Rattle.std.specs.Prelude.{if◌then◌else◌}
-use Rattle.fb_types.specs.Headline.{system_of}
-use Rattle.fb_types.specs.Numbers.{path_at, ports_at}
-use Rattle.fb_types.specs.declared.library.Ports.{Ports}
-use Rattle.fb_net.specs.Opening.{Covers}
+use Rattle.fb_net.proofs.lemmas.Common.{◌≡◌, ◌<◌, length, refl, arith, ap, ◌∙◌, if◌then◌else◌, system_of, path_at, ports_at, Ports, Covers}
 use Rattle.fb_net.proofs.lemmas.opening.OpeningCopies.{below_next, within_side}
 use Rattle.fb_net.proofs.opening.copies.hold_indexes.Goals as goal
 use Rattle.fb_net.proofs.opening.copies.hold_indexes.Goals.{then-is_output, else-is_output}

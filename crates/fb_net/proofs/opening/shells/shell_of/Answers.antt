@@ -1,5 +1,4 @@
-use Rattle.fb_types.specs.Headline.{system_of}
-use Rattle.fb_types.specs.Numbers.{path_at}
+use Rattle.fb_types.proofs.Common.{system_of, path_at}
 use Rattle.fb_net.proofs.lemmas.opening.BlockOpened.{shell_begins}
 use Rattle.fb_net.proofs.opening.shells.shell_of.Goals as goal
 

@@ -1,5 +1,4 @@
-use Rattle.std.proofs.Common.{◌≤◌, arith}
-use Rattle.std.proofs.lemmas.Option.{slice_get-get_or}
+use Rattle.fb_types.proofs.Common.{◌≤◌, arith, slice_get-get_or}
 use Rattle.fb_net.proofs.lemmas.opening.Growing.{deeper, grown_none, grown_step, room}
 use Rattle.fb_net.proofs.opening.trees.+blocks_of.Goals as goal
 

@@ -1,15 +1,7 @@
-use Rattle.std.proofs.Common.{◌≡◌, ◌∙◌, List, Option, Some, None, ap, subst, sym, ℕ}
+use Rattle.fb_net.proofs.lemmas.Common.{◌≡◌, ◌∙◌, List, Option, Some, None, ap, subst, sym, ℕ, option_map, same_Some, Inputs, system_of, path_at, own_of, block_at, own_at, Represents, way_in, Block, Forest}
 use Rattle.std.specs.Borrow.{Bor}
-use Rattle.std.specs.Prelude.{option_map}
-use Rattle.std.proofs.lemmas.Option.{same_Some}
-use Rattle.fb_types.specs.Headline.{Inputs, system_of}
-use Rattle.fb_types.specs.Numbers.{path_at}
 use Rattle.fb_types.specs.States as model
-use Rattle.fb_net.specs.Blocks.{own_of}
-use Rattle.fb_net.specs.Trees.{block_at, own_at}
-use Rattle.fb_net.specs.Worlds.{Represents, RepresentsAt, way_in}
-use Rattle.fb_net.specs.declared.block.Block.{Block}
-use Rattle.fb_net.specs.declared.resource.Forest.{Forest}
+use Rattle.fb_net.specs.Worlds.{RepresentsAt}
 use Rattle.fb_net.proofs.lemmas.opening.OwnParts.{own_represents}
 use Rattle.fb_net.proofs.resource.Forest.block.Goals as goal
 

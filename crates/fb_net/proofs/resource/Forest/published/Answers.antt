@@ -1,5 +1,4 @@
-use Rattle.std.proofs.Common.{ap, ◌∙◌}
-use Rattle.fb_net.specs.Worlds.{value_in}
+use Rattle.fb_net.proofs.lemmas.Common.{ap, ◌∙◌, value_in}
 use Rattle.fb_net.proofs.lemmas.values.ShownValues.{shell_there_reads, published_stands}
 use Rattle.fb_net.proofs.resource.Forest.published.Goals as goal
 

@@ -1,7 +1,4 @@
-use Rattle.std.proofs.Common.{ap, ◌∙◌}
-use Rattle.std.specs.Prelude.{None, Some}
-use Rattle.fb_types.specs.Headline.{system_of}
-use Rattle.fb_net.specs.Worlds.{value_in}
+use Rattle.fb_net.proofs.lemmas.Common.{ap, ◌∙◌, None, Some, system_of, value_in}
 use Rattle.fb_net.proofs.lemmas.emitting.PortRows.{near, source_of}
 use Rattle.fb_net.proofs.lemmas.values.Sampled.{slot_sampled, source_sampled}
 use Rattle.fb_net.proofs.lemmas.values.ShownValues.{shell_there_reads, slot_stands}

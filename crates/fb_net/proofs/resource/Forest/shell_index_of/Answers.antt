@@ -1,6 +1,4 @@
-use Rattle.std.proofs.Common.{ap, sym, ◌<◌, ◌∙◌, get_or, length, List, ℕ, subst}
-use Rattle.std.specs.Prelude.{unwrap_or}
-use Rattle.std.proofs.lemmas.Option.{slice_get-get_or}
+use Rattle.fb_types.proofs.Common.{ap, sym, ◌<◌, ◌∙◌, get_or, length, List, ℕ, subst, unwrap_or, slice_get-get_or}
 use Rattle.fb_net.proofs.resource.Forest.shell_index_of.Goals as goal
 
 pub bounds-as_slice-instance : goal.bounds-as_slice-instance

@@ -1,6 +1,4 @@
-use Rattle.std.proofs.Common.{ap, sym, ◌∙◌}
-use Rattle.std.proofs.lemmas.Bool.{true≢false}
-use Rattle.fb_net.specs.Worlds.{value_in}
+use Rattle.fb_net.proofs.lemmas.Common.{ap, sym, ◌∙◌, true≢false, value_in}
 use Rattle.fb_net.proofs.lemmas.values.ShownValues.{shell_there_reads, copy_stands}
 use Rattle.fb_net.proofs.lemmas.values.Sampled.{input_seen, output_seen, shown_away, shown_here}
 use Rattle.fb_net.proofs.resource.Forest.shown.Goals as goal

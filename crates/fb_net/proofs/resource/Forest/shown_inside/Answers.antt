@@ -1,5 +1,4 @@
-use Rattle.std.specs.Prelude.{None, Some}
-use Rattle.fb_types.specs.Headline.{system_of}
+use Rattle.fb_types.proofs.Common.{None, Some, system_of}
 use Rattle.fb_net.proofs.lemmas.emitting.PortRows.{near, source_of}
 use Rattle.fb_net.proofs.lemmas.values.Sampled.{published_inside, source_inside}
 use Rattle.fb_net.proofs.resource.Forest.shown_inside.Goals as goal

@@ -1,8 +1,4 @@
-use Rattle.std.proofs.Common.{◌≡◌, ◌<◌, ℕ, List, arith, length, sym, subst}
-use Rattle.std.proofs.lemmas.List.{length-map}
-use Rattle.fb_types.specs.Headline.{system_of}
-use Rattle.fb_types.specs.Simulation.{opening_state}
-use Rattle.fb_types.specs.Takes.{world_of}
+use Rattle.fb_types.proofs.Common.{◌≡◌, ◌<◌, ℕ, List, arith, length, sym, subst, length-map, system_of, opening_state, world_of}
 use Rattle.fb_net.specs.declared.block.Block.{Block}
 use Rattle.fb_net.specs.Opening.{AreGrown, AreRooted, CoversAll}
 use Rattle.fb_net.proofs.lemmas.blocks.Charts.{no_charts}

@@ -1,9 +1,4 @@
-use Rattle.std.proofs.Common.{subst}
-use Rattle.fb_types.specs.Headline.{system_of}
-use Rattle.fb_types.specs.Numbers.{path_at}
-use Rattle.fb_types.specs.Reactions.{World}
-use Rattle.fb_net.specs.Worlds.{IsForest, Represents}
-use Rattle.fb_net.specs.declared.resource.Forest.{Forest}
+use Rattle.fb_net.proofs.lemmas.Common.{subst, system_of, path_at, World, IsForest, Represents, Forest}
 use Rattle.fb_net.proofs.resource_blocks.ResourceBlocks.instance.Goals as goal
 
 pub returns-clause-block : goal.returns-clause-block

@@ -1,10 +1,5 @@
-use Rattle.std.proofs.Common.{◌≡◌, arith, rules, subst, sym}
-use Rattle.std.proofs.lemmas.Grind.{common_steps}
-use Rattle.fb_net.specs.Events.{Remembered}
-use Rattle.fb_net.specs.Outs.{StillAreOuts}
-use Rattle.fb_net.specs.Worlds.{IsForest}
-use Rattle.fb_net.specs.declared.effects.Effects.{Effects}
-use Rattle.fb_net.specs.declared.resource.Forest.{Forest}
+use Rattle.fb_net.proofs.lemmas.Common.{◌≡◌, arith, rules, subst, sym, Remembered, StillAreOuts, IsForest, Effects, Forest}
+use Rattle.fb_types.proofs.Common.{common_steps}
 use Rattle.fb_net.proofs.resource_blocks.ResourceBlocks.take.Goals as goal
 
 pub invariant_of-self : goal.invariant_of-self

@@ -1,11 +1,7 @@
-use Rattle.std.proofs.Common.{◌≡◌, arith, rules, subst, sym}
-use Rattle.std.proofs.lemmas.Grind.{common_steps}
+use Rattle.fb_net.proofs.lemmas.Common.{◌≡◌, arith, rules, subst, sym, Remembered, StillAreOuts, IsForest, Effects, Forest}
+use Rattle.fb_types.proofs.Common.{common_steps}
 use Rattle.fb_types.specs.declared.run.Event.{Event}
-use Rattle.fb_net.specs.Events.{HasTaken, Remembered, event_in}
-use Rattle.fb_net.specs.Outs.{StillAreOuts}
-use Rattle.fb_net.specs.Worlds.{IsForest}
-use Rattle.fb_net.specs.declared.effects.Effects.{Effects}
-use Rattle.fb_net.specs.declared.resource.Forest.{Forest}
+use Rattle.fb_net.specs.Events.{HasTaken, event_in}
 use Rattle.fb_net.proofs.resource_blocks.ResourceBlocks.take_waiting.Goals as goal
 
 pub invariant_of-self : goal.invariant_of-self

@@ -1,13 +1,6 @@
-use Rattle.std.proofs.Common.{◌≡◌, Err, refl, sym, ap, ◌∙◌, arith}
-use Rattle.std.specs.Prelude.{Some, slice_get}
+use Rattle.fb_types.proofs.Common.{◌≡◌, Err, refl, sym, ap, ◌∙◌, arith, Some, slice_get, err_from_is_err_and, on_ok_weaker, Basic, Composite, kind_of, system_of, path_at, Library}
 use Rattle.std.specs.Option.{option_map}
-use Rattle.std.proofs.lemmas.Result.{err_from_is_err_and, on_ok_weaker}
-use Rattle.fb_types.specs.Blocks.{Basic, Composite}
-use Rattle.fb_types.specs.Flat.{kind_of}
-use Rattle.fb_types.specs.Headline.{system_of}
-use Rattle.fb_types.specs.Numbers.{path_at}
 use Rattle.fb_types.specs.declared.library.BlockType.TheVariants as block
-use Rattle.fb_types.specs.declared.library.Library.{Library}
 use Rattle.fb_types.specs.declared.run.Halt.TheVariants as halt
 use Rattle.fb_laws.proofs.lemmas.typing.Accepted.{accepted_typed}
 use Rattle.fb_net.specs.Arrivals.{Arrives, entering, leaving, reacting}

@@ -1,9 +1,5 @@
-use Rattle.std.proofs.Common.{List, ◌∙◌, map, refl, subst, sym}
-use Rattle.fb_types.specs.Headline.{system_of}
-use Rattle.fb_types.specs.Numbers.{emission_of, line_of, path_at, ports_at}
-use Rattle.fb_types.specs.declared.value.Value.{Value}
+use Rattle.fb_net.proofs.lemmas.Common.{List, ◌∙◌, map, refl, subst, sym, system_of, emission_of, line_of, path_at, ports_at, Value, StillAreOuts}
 use Rattle.fb_net.specs.Leaves.{ChartEnded}
-use Rattle.fb_net.specs.Outs.{StillAreOuts}
 use Rattle.fb_net.proofs.lemmas.taking.Arriving.{wrote-so}
 use Rattle.fb_net.proofs.lemmas.taking.Charting.{chart-reacts}
 use Rattle.fb_net.proofs.lemmas.emitting.EffectsKept.{blocks-changed, lines-put, remembered-always}

@@ -1,18 +1,7 @@
-use Rattle.std.proofs.Common.{◌≡◌, ◌<◌, Some, length, sym, subst, ◌∙◌}
-use Rattle.std.specs.Prelude.{All}
-use Rattle.fb_types.specs.Blocks.{Event}
-use Rattle.fb_types.specs.Headline.{Inputs, system_of}
-use Rattle.fb_types.specs.Numbers.{path_at, ports_at}
-use Rattle.fb_types.specs.Reactions.{World}
-use Rattle.fb_types.specs.declared.key.Key.{Key}
-use Rattle.fb_system.specs.Lines.{IsEmission}
+use Rattle.fb_net.proofs.lemmas.Common.{◌≡◌, ◌<◌, Some, length, sym, subst, ◌∙◌, All, Event, Inputs, system_of, path_at, ports_at, World, Key, IsEmission, InForest, IsForest, EventCame, taken_reaction, asked, Effects, AreKept}
 use Rattle.fb_system.specs.Ports.{IsPort}
-use Rattle.fb_net.specs.Worlds.{InForest, IsForest}
 use Rattle.fb_net.specs.Emitting.{EmitsSo}
-use Rattle.fb_net.specs.Leaves.{EventCame, HasTypedInputs, taken_reaction}
-use Rattle.fb_net.specs.Outs.{asked}
-use Rattle.fb_net.specs.declared.effects.Effects.{Effects}
-use Rattle.fb_net.specs.Steps.{AreKept}
+use Rattle.fb_net.specs.Leaves.{HasTypedInputs}
 use Rattle.fb_net.proofs.lemmas.taking.Arriving.{event-reacts, event-typed, ports-of_event}
 use Rattle.fb_net.proofs.lemmas.emitting.PortRows.{event-no_basic}
 use Rattle.fb_net.proofs.lemmas.emitting.EffectsKept.{timer-asked}

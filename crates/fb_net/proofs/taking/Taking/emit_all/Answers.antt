@@ -1,12 +1,5 @@
-use Rattle.std.proofs.Common.{true, ◌++◌, ◌∷◌, [], ◌∙◌, List, ap, refl, sym, subst, append_assoc, arith}
-use Rattle.std.proofs.lemmas.List.{append-nil}
-use Rattle.std.proofs.lemmas.Result.{on_ok_weaker}
-use Rattle.std.specs.Prelude.{All}
+use Rattle.fb_net.proofs.lemmas.Common.{true, ◌++◌, ◌∷◌, [], ◌∙◌, List, ap, refl, sym, subst, append_assoc, arith, append-nil, on_ok_weaker, All, Inputs, system_of, path_at, ports_at, Key, IsEmission}
 use Rattle.fb_types.specs.declared.run.Emission.{Emission}
-use Rattle.fb_types.specs.Headline.{Inputs, system_of}
-use Rattle.fb_types.specs.Numbers.{path_at, ports_at}
-use Rattle.fb_types.specs.declared.key.Key.{Key}
-use Rattle.fb_system.specs.Lines.{IsEmission}
 use Rattle.fb_net.specs.Steps.{EmitsWell, ports_in}
 use Rattle.fb_net.proofs.lemmas.emitting.PortRows.{one_with}
 use Rattle.fb_net.proofs.lemmas.emitting.Emitting.{middle_fits, nothing_emitted}

@@ -1,13 +1,5 @@
-use Rattle.std.proofs.Common.{ℕ, [], ◌∷◌, ◌++◌, ◌∙◌, List, map, ap, subst, refl}
-use Rattle.std.specs.Prelude.{All}
-use Rattle.fb_types.specs.Headline.{system_of}
-use Rattle.fb_types.specs.Numbers.{event_output}
-use Rattle.fb_types.specs.Reactions.{spread}
-use Rattle.fb_types.specs.declared.run.Line.{Line}
-use Rattle.fb_types.specs.declared.value.Value.{Value}
+use Rattle.fb_net.proofs.lemmas.Common.{ℕ, [], ◌∷◌, ◌++◌, ◌∙◌, List, map, ap, subst, refl, All, system_of, event_output, spread, Line, Value, IsOut, out_of, Effects}
 use Rattle.fb_net.specs.Emitting.{bare}
-use Rattle.fb_net.specs.Outs.{IsOut, out_of}
-use Rattle.fb_net.specs.declared.effects.Effects.{Effects}
 use Rattle.fb_net.proofs.lemmas.emitting.Emitting.{Doing, has_emitted, line_by, no_indexes}
 use Rattle.fb_net.proofs.lemmas.emitting.Publishing.{nothing_shown}
 use Rattle.fb_net.proofs.lemmas.blocks.BlocksKept.{kept-same}

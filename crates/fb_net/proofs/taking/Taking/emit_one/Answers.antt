@@ -1,14 +1,4 @@
-use Rattle.std.proofs.Common.{◌≡◌, ℕ, [], ◌∷◌, ◌++◌, ◌∙◌, List, map, ap, sym, subst, refl}
-use Rattle.std.specs.Prelude.{All}
-use Rattle.fb_types.specs.Headline.{system_of}
-use Rattle.fb_types.specs.Numbers.{carried_of, event_output, path_at}
-use Rattle.fb_types.specs.Reactions.{spread}
-use Rattle.fb_types.specs.declared.run.Line.{Line}
-use Rattle.fb_types.specs.declared.value.Value.{Value}
-use Rattle.fb_net.specs.Changes.{Changes}
-use Rattle.fb_net.specs.Emitting.{carried_by, outputs_at, outputs_shown}
-use Rattle.fb_net.specs.Outs.{IsOut, out_of}
-use Rattle.fb_net.specs.declared.effects.Effects.{Effects}
+use Rattle.fb_net.proofs.lemmas.Common.{◌≡◌, ℕ, [], ◌∷◌, ◌++◌, ◌∙◌, List, map, ap, sym, subst, refl, All, system_of, carried_of, event_output, path_at, spread, Line, Value, Changes, carried_by, outputs_at, outputs_shown, IsOut, out_of, Effects}
 use Rattle.fb_net.proofs.lemmas.emitting.Emitting.{Doing, are_carried, has_emitted, line_by}
 use Rattle.fb_net.proofs.lemmas.blocks.BlocksKept.{kept-changed}
 use Rattle.fb_net.proofs.taking.Taking.emit_one.Goals as goal

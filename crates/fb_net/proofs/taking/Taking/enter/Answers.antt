@@ -1,13 +1,5 @@
-use Rattle.std.proofs.Common.{ℕ, refl, subst, sym, ◌∙◌}
-use Rattle.std.specs.Prelude.{All}
-use Rattle.std.proofs.lemmas.Result.{on_ok_weaker}
-use Rattle.fb_types.specs.Headline.{Inputs, system_of}
-use Rattle.fb_types.specs.declared.key.Key.{Key}
-use Rattle.fb_system.specs.Ends.{LeadsTo}
+use Rattle.fb_net.proofs.lemmas.Common.{ℕ, refl, subst, sym, ◌∙◌, All, on_ok_weaker, Inputs, system_of, Key, LeadsTo, entering, IsOut, InForest}
 use Rattle.fb_system.specs.Ports.{IsPort}
-use Rattle.fb_net.specs.Arrivals.{entering}
-use Rattle.fb_net.specs.Outs.{IsOut}
-use Rattle.fb_net.specs.Worlds.{InForest}
 use Rattle.fb_net.proofs.lemmas.taking.Arriving.{enters, sent-of}
 use Rattle.fb_net.proofs.lemmas.emitting.PortRows.{composite-no_basic}
 use Rattle.fb_net.proofs.lemmas.taking.TakingSteps.{already, done-well, put-out-after, ready-after, still}

@@ -1,10 +1,4 @@
-use Rattle.std.proofs.Common.{◌<◌, cond, [], ◌∷◌, length, refl, subst, arith}
-use Rattle.std.proofs.lemmas.Result.{on_ok_weaker}
-use Rattle.fb_types.specs.Headline.{system_of}
-use Rattle.fb_types.specs.Numbers.{path_at, ports_at}
-use Rattle.fb_types.specs.declared.run.Target.{Target}
-use Rattle.fb_system.specs.Ends.{LeadsTo}
-use Rattle.fb_net.specs.Arrivals.{leaving}
+use Rattle.fb_net.proofs.lemmas.Common.{◌<◌, cond, [], ◌∷◌, length, refl, subst, arith, on_ok_weaker, system_of, path_at, ports_at, Target, LeadsTo, leaving}
 use Rattle.fb_net.proofs.lemmas.taking.Arriving.{leaves}
 use Rattle.fb_net.proofs.lemmas.emitting.PortRows.{at_output, indexes_out, one_with, source_out}
 use Rattle.fb_net.proofs.lemmas.values.ReadIndexes.{one-shown}

@@ -1,8 +1,4 @@
-use Rattle.std.proofs.Common.{◌<◌, cond, [], ◌∷◌, length, refl, sym, ap, subst, ◌∙◌}
-use Rattle.std.proofs.lemmas.Result.{on_ok_weaker}
-use Rattle.fb_types.specs.Headline.{system_of}
-use Rattle.fb_types.specs.Numbers.{path_at, ports_at}
-use Rattle.fb_types.specs.declared.run.TimerAsk.TheVariants.{Keep}
+use Rattle.fb_types.proofs.Common.{◌<◌, cond, [], ◌∷◌, length, refl, sym, ap, subst, ◌∙◌, on_ok_weaker, system_of, path_at, ports_at, Keep}
 use Rattle.fb_net.specs.Emitting.{bare}
 use Rattle.fb_net.specs.Samples.{names_in}
 use Rattle.fb_net.proofs.lemmas.taking.Arriving.{event-reacts}

@@ -1,16 +1,11 @@
-use Rattle.std.proofs.Common.{◌≡◌, ◌∙◌, Ok, Err, ap, arith, sym, subst}
-use Rattle.std.proofs.lemmas.Result.{err_from_is_err_and}
-use Rattle.fb_types.specs.Headline.{system_of}
-use Rattle.fb_types.specs.States.{path_of}
+use Rattle.fb_net.proofs.lemmas.Common.{◌≡◌, ◌∙◌, Ok, Err, ap, arith, sym, subst, system_of, Target, Arrives, HasReacted, StillAreOuts, AreKept, InForest}
+use Rattle.fb_types.proofs.Common.{err_from_is_err_and, path_of}
 use Rattle.fb_types.specs.declared.run.Halt.TheVariants as halt
-use Rattle.fb_types.specs.declared.run.Target.{Target}
 use Rattle.fb_system.specs.Ports.{IsTarget}
 use Rattle.fb_laws.specs.Typed.{IsTypedEvent}
-use Rattle.fb_net.specs.Arrivals.{Arrives, AreTypedAt, HasReacted}
+use Rattle.fb_net.specs.Arrivals.{AreTypedAt}
 use Rattle.fb_net.specs.Events.{IsNumbered, event_in, event_of}
-use Rattle.fb_net.specs.Outs.{StillAreOuts}
-use Rattle.fb_net.specs.Steps.{AreKept, HasArrived, IsKept, MayTake, WasTaken}
-use Rattle.fb_net.specs.Worlds.{InForest}
+use Rattle.fb_net.specs.Steps.{HasArrived, IsKept, MayTake, WasTaken}
 use Rattle.fb_net.specs.declared.arrival.Arrival.{Arrival}
 use Rattle.fb_net.specs.declared.taking.Taking.{Taking}
 use Rattle.fb_net.proofs.lemmas.taking.ByEvent.{arrival-taken, arrival-typed, local-taken}

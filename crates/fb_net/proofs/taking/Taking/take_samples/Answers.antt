@@ -1,10 +1,4 @@
-use Rattle.std.proofs.Common.{List, refl, subst}
-use Rattle.std.proofs.lemmas.Result.{on_ok_weaker}
-use Rattle.fb_types.specs.Headline.{system_of}
-use Rattle.fb_types.specs.declared.value.Value.{Value}
-use Rattle.fb_net.specs.Arrivals.{sampling}
-use Rattle.fb_net.specs.Changes.{Changes}
-use Rattle.fb_net.specs.Samples.{all_sampled, names_in}
+use Rattle.fb_net.proofs.lemmas.Common.{List, refl, subst, on_ok_weaker, system_of, Value, sampling, Changes, all_sampled, names_in}
 use Rattle.fb_net.proofs.lemmas.emitting.PortRows.{indexes_in, one_with}
 use Rattle.fb_net.proofs.lemmas.emitting.EffectsKept.{lines-put}
 use Rattle.fb_net.proofs.lemmas.taking.TakingSteps.{done-well}

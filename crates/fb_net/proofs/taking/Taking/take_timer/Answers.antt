@@ -1,13 +1,10 @@
-use Rattle.std.proofs.Common.{◌∙◌, refl, sym, subst, arith}
-use Rattle.std.proofs.lemmas.Result.{on_ok_weaker}
+use Rattle.fb_net.proofs.lemmas.Common.{◌∙◌, refl, sym, subst, arith, on_ok_weaker, slice_get, Effects}
 use Rattle.fb_net.specs.Emitting.{EmitsSo}
-use Rattle.fb_net.specs.declared.effects.Effects.{Effects}
 use Rattle.fb_net.proofs.lemmas.taking.ByEvent.{timer-expires, timer-rests, timer-taken}
 use Rattle.fb_net.proofs.lemmas.emitting.EffectsKept.{timer-asked}
 use Rattle.fb_net.proofs.lemmas.taking.TakingSteps.{stays-whole}
 use Rattle.fb_net.proofs.lemmas.blocks.BlocksKept.{kept-same, kept-then, kept-world}
 use Rattle.fb_net.proofs.taking.Taking.take_timer.Goals as goal
-use Rattle.std.specs.Prelude.{slice_get}
 
 pub returns-in-Ok-clause-taken : goal.returns-in-Ok-clause-taken
 returns-in-Ok-clause-taken c =

@@ -1,13 +1,4 @@
-use Rattle.std.proofs.Common.{◌<◌, cond, [], ◌∷◌, ◌∙◌, List, length, map, refl, sym, ap, subst, arith}
-use Rattle.std.proofs.lemmas.Result.{on_ok_weaker}
-use Rattle.fb_types.specs.Headline.{system_of}
-use Rattle.fb_types.specs.Names.{Name}
-use Rattle.fb_types.specs.Numbers.{path_at, ports_at}
-use Rattle.fb_types.specs.declared.value.Value.{Value}
-use Rattle.fb_system.specs.IndexLists.{variable_at}
-use Rattle.fb_net.specs.Arrivals.{sampling}
-use Rattle.fb_net.specs.Samples.{all_sampled, names_in}
-use Rattle.fb_net.specs.Changes.{Changes}
+use Rattle.fb_net.proofs.lemmas.Common.{◌<◌, cond, [], ◌∷◌, ◌∙◌, List, length, map, refl, sym, ap, subst, arith, on_ok_weaker, system_of, Name, path_at, ports_at, Value, variable_at, sampling, all_sampled, names_in, Changes}
 use Rattle.fb_net.proofs.lemmas.blocks.Changing.{changes_as}
 use Rattle.fb_net.proofs.lemmas.emitting.PortRows.{indexes_in, source_in}
 use Rattle.fb_net.proofs.lemmas.emitting.EffectsKept.{lines-put}

@@ -1,8 +1,5 @@
-use Rattle.std.proofs.Common.{◌≡◌, rules, arith, sym, ap, subst, ◌∙◌}
-use Rattle.fb_types.specs.declared.library.BasicType.{BasicType}
+use Rattle.fb_net.proofs.lemmas.Common.{◌≡◌, rules, arith, sym, ap, subst, ◌∙◌, BasicType, BasicState, Block}
 use Rattle.fb_ecc.specs.Indexes.{IsBlockOf}
-use Rattle.fb_ecc.specs.declared.state.BasicState.{BasicState}
-use Rattle.fb_net.specs.declared.block.Block.{Block}
 use Rattle.fb_net.specs.declared.block.Block.TheVariants as block
 use Rattle.fb_net.proofs.lemmas.blocks.Descents.{changed_below, changed_here, first_there, here_is}
 use Rattle.fb_net.proofs.taking.basic_blocks.+react_at.Goals as goal

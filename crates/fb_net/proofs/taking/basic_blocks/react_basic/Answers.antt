@@ -1,5 +1,4 @@
-use Rattle.std.proofs.Common.{List, ℕ, sym, subst}
-use Rattle.fb_net.specs.Trees.{Changed}
+use Rattle.fb_net.proofs.lemmas.Common.{List, ℕ, sym, subst, Changed}
 use Rattle.fb_net.specs.Leaves.{HasCharted, IsReadyAt}
 use Rattle.fb_net.proofs.lemmas.blocks.Basics.{ended_from, is_ready, is_sound, whole_from}
 use Rattle.fb_net.proofs.taking.basic_blocks.react_basic.Goals as goal

@@ -1,6 +1,4 @@
-use Rattle.std.proofs.Common.{List, subst, sym}
-use Rattle.fb_types.specs.declared.run.Carried.{Carried}
-use Rattle.fb_net.specs.Samples.{HoldsAll}
+use Rattle.fb_net.proofs.lemmas.Common.{List, subst, sym, Carried, HoldsAll}
 use Rattle.fb_net.proofs.lemmas.blocks.Changing.{holds_one}
 use Rattle.fb_net.proofs.taking.bring.hold_carried.Goals as goal
 

@@ -1,5 +1,4 @@
-use Rattle.std.proofs.Common.{take}
-use Rattle.fb_net.specs.Samples.{HoldsAll}
+use Rattle.fb_net.proofs.lemmas.Common.{take, HoldsAll}
 use Rattle.fb_net.proofs.taking.bring.hold_each.Given as goal
 
 abbrev pub invariant-loop-item : goal.invariant-loop-item

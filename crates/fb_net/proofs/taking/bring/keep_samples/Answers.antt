@@ -1,8 +1,6 @@
 use Rattle.std.proofs.lemmas.Iterator.{YieldsList-from_slice, YieldsList-from_zip}
 use Rattle.std.proofs.lemmas.Iterator.Consumers.{YieldsList-end}
-use Rattle.fb_types.specs.Headline.{system_of}
-use Rattle.fb_types.specs.Numbers.{path_at, ports_at}
-use Rattle.fb_net.specs.Samples.{names_in}
+use Rattle.fb_net.proofs.lemmas.Common.{system_of, path_at, ports_at, names_in}
 use Rattle.fb_net.proofs.lemmas.blocks.Changing.{changes_none, samples_all, samples_push}
 use Rattle.fb_net.proofs.lemmas.blocks.BlocksKept.{stands-changed}
 use Rattle.fb_net.proofs.taking.bring.keep_samples.Goals as goal

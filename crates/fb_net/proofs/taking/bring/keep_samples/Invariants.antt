@@ -1,6 +1,4 @@
-use Rattle.fb_types.specs.Headline.{system_of}
-use Rattle.fb_types.specs.Numbers.{path_at, ports_at}
-use Rattle.fb_net.specs.Changes.{Changes}
+use Rattle.fb_net.proofs.lemmas.Common.{system_of, path_at, ports_at, Changes}
 use Rattle.fb_net.proofs.lemmas.blocks.Changing.{lent_bounds, one_by_one, variable_sampled}
 use Rattle.fb_net.proofs.taking.bring.keep_samples.Given as goal
 

@@ -1,19 +1,7 @@
-use Rattle.std.proofs.Common.{◌≡◌, ℕ, ◌<◌, ◌+◌, List, length, take, get_or, false, Some, refl, ap, subst, sym, ◌∙◌}
-use Rattle.std.specs.Prelude.{All, slice_get, slice_set}
-use Rattle.std.proofs.lemmas.List.{take_all}
-use Rattle.std.proofs.lemmas.Option.{slice_get-get_or}
-use Rattle.fb_types.specs.Headline.{AreAccepted, Inputs, system_of}
-use Rattle.fb_types.specs.Numbers.{path_at, ports_at}
-use Rattle.fb_types.specs.declared.run.InstanceVariable.{InstanceVariable}
-use Rattle.fb_types.specs.declared.value.Value.{Value}
+use Rattle.fb_net.proofs.lemmas.Common.{◌≡◌, ℕ, ◌<◌, ◌+◌, List, length, take, get_or, false, Some, refl, ap, subst, sym, ◌∙◌, All, slice_get, slice_set, take_all, slice_get-get_or, AreAccepted, Inputs, system_of, path_at, ports_at, InstanceVariable, Value, InputValue, IsVariable, Changes, index_in, Forest, Shell}
 use Rattle.fb_types.proofs.lemmas.lists.ByIndex.{all_at}
-use Rattle.fb_system.specs.Ports.{IsVariable}
-use Rattle.fb_types.specs.declared.run.InputValue.{InputValue}
-use Rattle.fb_net.specs.Changes.{Changes}
 use Rattle.fb_net.specs.Samples.{slots_set}
-use Rattle.fb_net.specs.Worlds.{index_in, with_shell_at}
-use Rattle.fb_net.specs.declared.resource.Forest.{Forest}
-use Rattle.fb_net.specs.declared.shell.Shell.{Shell}
+use Rattle.fb_net.specs.Worlds.{with_shell_at}
 use Rattle.fb_net.proofs.lemmas.blocks.Changing.{changes_none, changes_as, changes_more, one_by_one, one_by_one-set, value_set}
 use Rattle.fb_net.proofs.lemmas.blocks.EventBlockReactions.{no_shell}
 use Rattle.fb_net.proofs.lemmas.blocks.BlocksKept.{shell_index-there, stands-changed}

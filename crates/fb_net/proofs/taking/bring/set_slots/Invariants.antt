@@ -1,6 +1,4 @@
-use Rattle.std.proofs.Common.{take}
-use Rattle.fb_types.specs.Headline.{system_of}
-use Rattle.fb_net.specs.Changes.{Changes}
+use Rattle.fb_net.proofs.lemmas.Common.{take, system_of, Changes}
 use Rattle.fb_net.proofs.lemmas.blocks.Changing.{one_by_one, value_set}
 use Rattle.fb_net.proofs.taking.bring.set_slots.Given as goal
 

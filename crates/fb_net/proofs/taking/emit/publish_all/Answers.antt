@@ -1,10 +1,6 @@
-use Rattle.std.proofs.Common.{length, subst, List}
-use Rattle.std.proofs.lemmas.List.{length_push}
+use Rattle.fb_net.proofs.lemmas.Common.{length, subst, List, Bound, system_of, Changes, outputs_shown}
+use Rattle.fb_types.proofs.Common.{length_push}
 use Rattle.std.proofs.lemmas.Slice.Zip.{zip_turn, zip_end}
-use Rattle.fb_types.specs.Blocks.{Bound}
-use Rattle.fb_types.specs.Headline.{system_of}
-use Rattle.fb_net.specs.Changes.{Changes}
-use Rattle.fb_net.specs.Emitting.{outputs_shown}
 use Rattle.fb_net.proofs.lemmas.emitting.Publishing.{all-outputs, nothing_shown, one_more_shown}
 use Rattle.fb_net.proofs.lemmas.blocks.BlocksKept.{stands-changed}
 use Rattle.fb_net.proofs.taking.emit.publish_all.Goals as goal

@@ -1,7 +1,4 @@
-use Rattle.std.proofs.Common.{length, take}
-use Rattle.fb_types.specs.Headline.{system_of}
-use Rattle.fb_net.specs.Changes.{Changes}
-use Rattle.fb_net.specs.Emitting.{outputs_at, outputs_shown}
+use Rattle.fb_net.proofs.lemmas.Common.{length, take, system_of, Changes, outputs_at, outputs_shown}
 use Rattle.fb_net.proofs.taking.emit.publish_all.Given as goal
 
 abbrev pub invariant-loop-index : goal.invariant-loop-index

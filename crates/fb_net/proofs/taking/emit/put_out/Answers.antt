@@ -1,7 +1,4 @@
-use Rattle.std.proofs.Common.{◌∷◌, [], ◌++◌, ◌∙◌, List, sym, ap}
-use Rattle.std.proofs.lemmas.Result.{on_ok_weaker}
-use Rattle.fb_net.specs.Emitting.{carried_by}
-use Rattle.fb_net.specs.declared.effects.Out.{Out}
+use Rattle.fb_net.proofs.lemmas.Common.{◌∷◌, [], ◌++◌, ◌∙◌, List, sym, ap, on_ok_weaker, carried_by, Out}
 use Rattle.fb_net.specs.declared.effects.Out.TheVariants.{Local}
 use Rattle.fb_net.proofs.lemmas.taking.Targets.{kept_to, sent_to}
 use Rattle.fb_net.proofs.taking.emit.put_out.Goals as goal

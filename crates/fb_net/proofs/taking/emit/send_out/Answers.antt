@@ -1,7 +1,4 @@
-use Rattle.std.proofs.Common.{◌+◌, length, ap}
-use mathlib.Core.Bool.{not}
-use Rattle.fb_types.specs.Headline.{system_of}
-use Rattle.fb_types.specs.Numbers.{port_of}
+use Rattle.fb_types.proofs.Common.{◌+◌, length, ap, not, system_of, port_of}
 use Rattle.fb_net.specs.Emitting.{home_of}
 use Rattle.fb_net.proofs.lemmas.taking.Targets.{all_gone, last_gone, none_after, none_gone, one_more_gone, puts_out}
 use Rattle.fb_net.proofs.lemmas.emitting.PortRows.{leads_to}

@@ -1,8 +1,5 @@
-use Rattle.std.proofs.Common.{◌-◌, length, map}
-use Rattle.fb_types.specs.Headline.{system_of}
-use Rattle.fb_types.specs.Numbers.{carried_of, port_of}
-use Rattle.fb_system.specs.Ends.{LeadsTo}
-use Rattle.fb_net.specs.Emitting.{carried_by, home_of}
+use Rattle.fb_net.proofs.lemmas.Common.{◌-◌, length, map, system_of, carried_of, port_of, LeadsTo, carried_by}
+use Rattle.fb_net.specs.Emitting.{home_of}
 use Rattle.fb_net.proofs.lemmas.taking.Targets.{HaveGone}
 use Rattle.fb_net.proofs.taking.emit.send_out.Given as goal
 

@@ -1,9 +1,4 @@
-use Rattle.std.proofs.Common.{◌++◌, ◌∷◌, [], List, true, All, map, sym, subst, ap, ◌∙◌}
-use Rattle.std.proofs.lemmas.List.{map-append}
-use Rattle.std.proofs.lemmas.List.Elements.{All-push}
-use Rattle.fb_types.specs.Headline.{system_of}
-use Rattle.fb_types.specs.Numbers.{line_of}
-use Rattle.fb_types.specs.declared.run.Line.{Line}
+use Rattle.fb_types.proofs.Common.{◌++◌, ◌∷◌, [], List, true, All, map, sym, subst, ap, ◌∙◌, map-append, All-push, system_of, line_of, Line}
 use Rattle.fb_system.specs.Lines.{BelongsTo}
 use Rattle.fb_net.proofs.taking.emit.write_taken.Goals as goal
 

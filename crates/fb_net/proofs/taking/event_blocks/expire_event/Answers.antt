@@ -1,6 +1,5 @@
-use Rattle.std.proofs.Common.{List, ℕ, sym, subst}
+use Rattle.fb_net.proofs.lemmas.Common.{List, ℕ, sym, subst, Changed}
 use Rattle.fb_event.specs.Reactions.{expiry_of}
-use Rattle.fb_net.specs.Trees.{Changed}
 use Rattle.fb_net.specs.Leaves.{HasTurned, IsEventAt, expiry_reaction}
 use Rattle.fb_net.proofs.lemmas.blocks.EventBlockReactions.{event_there, expired_is, turned_came, turned_fit, turned_whole}
 use Rattle.fb_net.proofs.taking.event_blocks.expire_event.Goals as goal

@@ -1,10 +1,6 @@
-use Rattle.std.proofs.Common.{List, ℕ, sym, subst, ap, ◌∙◌, arith}
-use Rattle.std.specs.Prelude.{slice_get}
-use Rattle.fb_types.specs.declared.value.Value.{Value}
+use Rattle.fb_net.proofs.lemmas.Common.{List, ℕ, sym, subst, ap, ◌∙◌, arith, slice_get, Value, Changed, taken_reaction, way_in}
 use Rattle.fb_event.specs.Reactions.{reaction_to}
-use Rattle.fb_net.specs.Trees.{Changed}
-use Rattle.fb_net.specs.Leaves.{HasTurned, IsTypedAt, taken_reaction}
-use Rattle.fb_net.specs.Worlds.{way_in}
+use Rattle.fb_net.specs.Leaves.{HasTurned, IsTypedAt}
 use Rattle.fb_net.proofs.lemmas.blocks.EventBlockReactions.{no_shell, taken_is, turned_came, turned_fit, turned_whole, typed_there}
 use Rattle.fb_net.proofs.taking.event_blocks.react_event.Goals as goal
 

@@ -1,7 +1,4 @@
-use Rattle.fb_types.specs.Headline.{system_of}
-use Rattle.fb_types.specs.Numbers.{path_at, ports_at}
-use Rattle.fb_types.specs.Reactions.{sampled_from}
-use Rattle.fb_net.specs.Samples.{names_in}
+use Rattle.fb_net.proofs.lemmas.Common.{system_of, path_at, ports_at, sampled_from, names_in}
 use Rattle.fb_net.proofs.lemmas.values.ReadIndexes.{read_all, read_more, sampled_at}
 use Rattle.fb_net.proofs.taking.samples.sampled_each.Goals as goal
 

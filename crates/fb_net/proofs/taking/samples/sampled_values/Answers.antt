@@ -1,5 +1,4 @@
-use Rattle.std.proofs.Common.{[], ◌∙◌, length, ap, arith}
-use Rattle.fb_types.specs.Headline.{system_of}
+use Rattle.fb_types.proofs.Common.{[], ◌∙◌, length, ap, arith, system_of}
 use Rattle.fb_net.proofs.lemmas.emitting.PortRows.{indexes_in, none_with, one_with, source_in}
 use Rattle.fb_net.proofs.lemmas.values.Sampling.{none-sampled, one-sampled}
 use Rattle.fb_net.proofs.taking.samples.sampled_values.Goals as goal

@@ -1,6 +1,4 @@
-use Rattle.fb_types.specs.Headline.{system_of}
-use Rattle.fb_types.specs.Numbers.{path_at, ports_at}
-use Rattle.fb_types.specs.Reactions.{from_inside}
+use Rattle.fb_types.proofs.Common.{system_of, path_at, ports_at, from_inside}
 use Rattle.fb_net.specs.Samples.{names_out}
 use Rattle.fb_net.proofs.lemmas.values.ReadIndexes.{read_all, read_more, shown_at}
 use Rattle.fb_net.proofs.taking.samples.shown_each.Goals as goal

@@ -1,5 +1,4 @@
-use Rattle.std.proofs.Common.{[], ◌∙◌, length, ap, arith}
-use Rattle.fb_types.specs.Headline.{system_of}
+use Rattle.fb_types.proofs.Common.{[], ◌∙◌, length, ap, arith, system_of}
 use Rattle.fb_net.proofs.lemmas.emitting.PortRows.{indexes_out, none_with, one_with, source_out}
 use Rattle.fb_net.proofs.lemmas.values.ReadIndexes.{none-shown, one-shown}
 use Rattle.fb_net.proofs.taking.samples.shown_values.Goals as goal

@@ -1,13 +1,8 @@
-use Rattle.std.proofs.Common.{◌≡◌, Bool, true, false, if◌then◌else◌, Option, Some, None, Ok, Err, refl}
-use Rattle.std.specs.Prelude.{◌&&◌, is_none}
-use Rattle.std.proofs.lemmas.Result.{err_from_is_err_and}
-use Rattle.fb_types.specs.Names.{Name}
-use Rattle.fb_types.specs.declared.library.Action.{Action}
+use Rattle.fb_read.proofs.lemmas.Common.{◌≡◌, Bool, true, false, if◌then◌else◌, Option, Some, None, Ok, Err, refl, ◌&&◌, err_from_is_err_and, Name, Action, Tokens, Parser, Outcome, ◌>>=◌, and_then, pure, refuse, name, name_if, sees, after, action}
+use Rattle.std.specs.Prelude.{is_none}
 use Rattle.fb_read.specs.declared.token.Mark.TheVariants as mark
-use Rattle.fb_read.specs.Tokens.{Tokens}
 use Rattle.fb_read.specs.Nodes.{action_of}
-use Rattle.fb_read.specs.Parser.{Parser, Outcome, ◌>>=◌, and_then, pure, refuse, name, name_if, optional, sees, after}
-use Rattle.fb_read.specs.Charts.{action}
+use Rattle.fb_read.specs.Parser.{optional}
 use Rattle.fb_read.proofs.lemmas.rules.Pairs.{alike}
 use Rattle.fb_read.proofs.lemmas.rules.Reading.{stops, stops_as, stops_later}
 use Rattle.fb_read.proofs.chart.ActionRule.read.Goals as goal

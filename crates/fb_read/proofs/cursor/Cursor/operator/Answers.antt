@@ -1,5 +1,4 @@
-use Rattle.std.proofs.Common.{◌≡◌, Some, refl, sym, ◌∙◌, eq-eqb}
-use Rattle.fb_read.specs.Operators.{operator_of}
+use Rattle.fb_read.proofs.lemmas.Common.{◌≡◌, Some, refl, sym, ◌∙◌, eq-eqb, operator_of}
 use Rattle.fb_read.proofs.cursor.Cursor.operator.Goals as goal
 
 pub returns : goal.returns

@@ -1,11 +1,4 @@
-use Rattle.std.proofs.Common.{◌≡◌, ◌<◌, ◌-◌, ℕ, suc, length, ap, sym, ◌∙◌, Some, None, refl, arith}
-use Rattle.std.proofs.lemmas.Grind.{common_steps}
-use Rattle.std.proofs.lemmas.Result.{err_from_is_err_and}
-use Rattle.fb_read.specs.Tokens.{Tokens}
-use Rattle.fb_read.specs.Parser.{Parser, and_then}
-use Rattle.fb_read.specs.declared.expression.Nested.{Nested}
-use Rattle.fb_read.specs.Operators.{next_operator}
-use Rattle.fb_read.specs.Expressions.{nested_expression, level_at, climb}
+use Rattle.fb_read.proofs.lemmas.Common.{◌≡◌, ◌<◌, ◌-◌, ℕ, suc, length, ap, sym, ◌∙◌, Some, None, refl, arith, common_steps, err_from_is_err_and, Tokens, Parser, and_then, Nested, next_operator, nested_expression, level_at, climb}
 use Rattle.fb_read.proofs.lemmas.rules.CountedLoops.{one_more, no_more, deeper}
 use Rattle.fb_read.proofs.lemmas.expressions.RightOperands.{climb_over, joined_more}
 use Rattle.fb_read.proofs.lemmas.rules.Reading.{stops, stops_as, went_on}

@@ -1,5 +1,4 @@
-use Rattle.std.proofs.Common.{◌≡◌, ◌-◌}
-use Rattle.fb_read.specs.Expressions.{nested_expression, level_at, climb}
+use Rattle.fb_read.proofs.lemmas.Common.{◌≡◌, ◌-◌, nested_expression, level_at, climb}
 use Rattle.fb_read.proofs.expression.ExpressionRules.+level.Given as goal
 
 abbrev pub decreases-level : goal.decreases-level

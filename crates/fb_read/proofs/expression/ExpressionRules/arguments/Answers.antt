@@ -1,7 +1,4 @@
-use Rattle.std.proofs.Common.{◌≡◌, true, sym, ◌∙◌, arith}
-use Rattle.std.proofs.lemmas.Grind.{common_steps}
-use Rattle.fb_read.specs.Expressions.{nested_expression, arguments, arguments_from}
-use Rattle.fb_read.specs.Operators.{begins_expression}
+use Rattle.fb_read.proofs.lemmas.Common.{◌≡◌, true, sym, ◌∙◌, arith, common_steps, nested_expression, arguments, arguments_from, begins_expression}
 use Rattle.fb_read.proofs.lemmas.rules.Starts.{arguments_at_limit}
 use Rattle.fb_read.proofs.lemmas.rules.CountedLoops.{one_more, no_more}
 use Rattle.fb_read.proofs.expression.ExpressionRules.arguments.Goals as goal

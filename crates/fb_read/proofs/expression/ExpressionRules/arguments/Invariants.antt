@@ -1,5 +1,4 @@
-use Rattle.std.proofs.Common.{◌≡◌, ◌-◌}
-use Rattle.fb_read.specs.Expressions.{nested_expression, arguments, arguments_from}
+use Rattle.fb_read.proofs.lemmas.Common.{◌≡◌, ◌-◌, nested_expression, arguments, arguments_from}
 use Rattle.fb_read.proofs.expression.ExpressionRules.arguments.Given as goal
 
 abbrev pub invariant-loop-turn : goal.invariant-loop-turn

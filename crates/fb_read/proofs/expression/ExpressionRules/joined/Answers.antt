@@ -1,14 +1,6 @@
-use Rattle.std.proofs.Common.{◌≡◌, ◌≤◌, ℕ, max, Result, Ok, Err, refl, ap}
-use Rattle.std.proofs.lemmas.Bool.{le-leb, lt-leb}
-use Rattle.std.proofs.lemmas.Result.{err_from_is_err_and}
-use Rattle.fb_types.specs.declared.text.BinaryOperator.{BinaryOperator}
-use Rattle.fb_types.specs.declared.text.Expr.{Expr}
+use Rattle.fb_read.proofs.lemmas.Common.{◌≡◌, ◌≤◌, ℕ, max, Result, Ok, Err, refl, ap, le-leb, lt-leb, err_from_is_err_and, BinaryOperator, Expr, ParseFault, Tokens, Parser, Reads, and_then, rest_of, Nested, around}
 use Rattle.fb_types.specs.declared.text.Expr.TheVariants as e
-use Rattle.fb_read.specs.declared.fault.ParseFault.{ParseFault}
-use Rattle.fb_read.specs.Tokens.{Tokens}
-use Rattle.fb_read.specs.Parser.{Parser, Reads, and_then, rest_of}
-use Rattle.fb_read.specs.declared.expression.Nested.{Nested}
-use Rattle.fb_read.specs.Expressions.{joined, around}
+use Rattle.fb_read.specs.Expressions.{joined}
 use Rattle.fb_read.proofs.lemmas.rules.Reading.{goes_on, read_as, stops, stops_as}
 use Rattle.fb_read.proofs.expression.ExpressionRules.joined.Goals as goal
 

@@ -1,6 +1,5 @@
-use Rattle.std.proofs.Common.{refl, sym, ◌∙◌}
+use Rattle.fb_read.proofs.lemmas.Common.{refl, sym, ◌∙◌, primary}
 use Rattle.fb_read.specs.declared.token.Mark.TheVariants as mark
-use Rattle.fb_read.specs.Expressions.{primary}
 use Rattle.fb_read.proofs.lemmas.rules.Reading.{begun, begun_is, passed, passed_is}
 use Rattle.fb_read.proofs.expression.ExpressionRules.primary.Goals as goal
 

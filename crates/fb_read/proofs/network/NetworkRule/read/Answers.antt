@@ -1,6 +1,4 @@
-use Rattle.std.proofs.Common.{List, Ok, ap, sym, arith}
-use Rattle.std.proofs.lemmas.Result.{err_from_is_err_and}
-use Rattle.fb_types.specs.declared.library.Instance.{Instance}
+use Rattle.fb_types.proofs.Common.{List, Ok, ap, sym, arith, err_from_is_err_and, Instance}
 use Rattle.fb_read.specs.Network.{network}
 use Rattle.fb_read.specs.Nodes.{network_of}
 use Rattle.fb_read.proofs.lemmas.rules.Counts.{instances-count}

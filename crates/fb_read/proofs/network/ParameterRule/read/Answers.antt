@@ -1,5 +1,4 @@
-use Rattle.std.proofs.Common.{◌∙◌, refl}
-use Rattle.std.proofs.lemmas.Result.{err_from_is_err_and}
+use Rattle.fb_types.proofs.Common.{◌∙◌, refl, err_from_is_err_and}
 use Rattle.fb_read.proofs.lemmas.rules.Pairs.{parameter_is}
 use Rattle.fb_read.proofs.lemmas.rules.Reading.{stops, stops_as, went_on}
 use Rattle.fb_read.proofs.network.ParameterRule.read.Goals as goal

@@ -1,5 +1,4 @@
-use Rattle.std.proofs.lemmas.Result.{err_from_is_err_and}
-use Rattle.fb_read.specs.Ports.{event, with_names}
+use Rattle.fb_read.proofs.lemmas.Common.{err_from_is_err_and, event, with_names}
 use Rattle.fb_read.specs.Parser.{listed}
 use Rattle.fb_read.proofs.lemmas.rules.Reading.{goes_on, stops, stops_later}
 use Rattle.fb_read.proofs.ports.EventPortRule.read.Goals as goal

@@ -1,6 +1,4 @@
-use Rattle.std.proofs.Common.{refl}
-use Rattle.std.proofs.lemmas.Result.{err_from_is_err_and}
-use Rattle.fb_read.specs.Ports.{ports}
+use Rattle.fb_read.proofs.lemmas.Common.{refl, err_from_is_err_and, ports}
 use Rattle.fb_read.proofs.lemmas.rules.Reading.{stops, stops_later, went_on}
 use Rattle.fb_read.proofs.ports.PortsRule.read.Goals as goal
 

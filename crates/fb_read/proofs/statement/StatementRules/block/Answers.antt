@@ -1,5 +1,4 @@
-use Rattle.std.proofs.Common.{◌≡◌, ◌-◌, ℕ, true, false, [], length, ap, sym, ◌∙◌, arith}
-use Rattle.std.proofs.lemmas.Result.{err_from_is_err_and}
+use Rattle.fb_types.proofs.Common.{◌≡◌, ◌-◌, ℕ, true, false, [], length, ap, sym, ◌∙◌, arith, err_from_is_err_and}
 use Rattle.fb_read.specs.Statements.{nested_statement, block, begins_statement, several, several_from}
 use Rattle.fb_read.proofs.lemmas.rules.CountedLoops.{one_more, no_more}
 use Rattle.fb_read.proofs.lemmas.rules.Reading.{stops_as}

@@ -1,6 +1,4 @@
-use Rattle.std.proofs.Common.{refl}
-use Rattle.std.proofs.lemmas.Result.{err_from_is_err_and}
-use Rattle.fb_read.specs.Statements.{branch}
+use Rattle.fb_read.proofs.lemmas.Common.{refl, err_from_is_err_and, branch}
 use Rattle.fb_read.proofs.lemmas.rules.Reading.{stops, stops_later, went_on}
 use Rattle.fb_read.proofs.statement.StatementRules.branch.Goals as goal
 

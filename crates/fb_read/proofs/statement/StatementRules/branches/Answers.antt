@@ -1,7 +1,4 @@
-use Rattle.std.proofs.Common.{◌≡◌, true, false, [], sym, ◌∙◌, arith}
-use Rattle.std.proofs.lemmas.Grind.{common_steps}
-use Rattle.std.proofs.lemmas.Result.{err_from_is_err_and}
-use Rattle.fb_read.specs.Statements.{nested_statement, branches, branch, begins_label, several, several_from}
+use Rattle.fb_read.proofs.lemmas.Common.{◌≡◌, true, false, [], sym, ◌∙◌, arith, common_steps, err_from_is_err_and, nested_statement, branches, branch, begins_label, several, several_from}
 use Rattle.fb_read.proofs.lemmas.rules.CountedLoops.{one_more, no_more}
 use Rattle.fb_read.proofs.lemmas.rules.AddedItems.{item_of, fault_of}
 use Rattle.fb_read.proofs.lemmas.rules.Reading.{stops, stops_as}

@@ -1,5 +1,4 @@
-use Rattle.std.proofs.Common.{◌≡◌, ◌-◌}
-use Rattle.fb_read.specs.Statements.{nested_statement, branches, branch, begins_label, several_from}
+use Rattle.fb_read.proofs.lemmas.Common.{◌≡◌, ◌-◌, nested_statement, branches, branch, begins_label, several_from}
 use Rattle.fb_read.proofs.statement.StatementRules.branches.Given as goal
 
 abbrev pub invariant-loop-turn : goal.invariant-loop-turn

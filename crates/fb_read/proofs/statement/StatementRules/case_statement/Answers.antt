@@ -1,5 +1,4 @@
-use Rattle.std.proofs.lemmas.Result.{err_from_is_err_and}
-use Rattle.fb_read.specs.Statements.{nested_statement}
+use Rattle.fb_read.proofs.lemmas.Common.{err_from_is_err_and, nested_statement}
 use Rattle.fb_read.proofs.lemmas.rules.Pairs.{case_is}
 use Rattle.fb_read.proofs.lemmas.rules.Reading.{goes_on, read_as, stops, stops_as, stops_later}
 use Rattle.fb_read.proofs.statement.StatementRules.case_statement.Goals as goal

@@ -1,13 +1,8 @@
-use Rattle.std.proofs.Common.{◌≡◌, true, false, [], Ok, ap, sym, ◌∙◌, arith}
-use Rattle.std.proofs.lemmas.Grind.{common_steps}
-use Rattle.std.proofs.lemmas.Result.{err_from_is_err_and}
+use Rattle.fb_read.proofs.lemmas.Common.{◌≡◌, true, false, [], Ok, ap, sym, ◌∙◌, arith, common_steps, err_from_is_err_and, sees, nested_statement, choices, elsif, several, several_from, Tokens}
 use Rattle.fb_read.specs.declared.token.Mark.TheVariants as mark
-use Rattle.fb_read.specs.Parser.{sees}
-use Rattle.fb_read.specs.Statements.{nested_statement, choices, elsif, several, several_from}
 use Rattle.fb_read.proofs.lemmas.rules.CountedLoops.{one_more, no_more}
 use Rattle.fb_read.proofs.lemmas.rules.AddedItems.{item_of, fault_of}
 use Rattle.fb_read.proofs.lemmas.rules.Reading.{stops, stops_as}
-use Rattle.fb_read.specs.Tokens.{Tokens}
 use Rattle.fb_read.proofs.lemmas.rules.ItemLoops.{several_fault, several_more, several_over, after_none, elsif_reads}
 use Rattle.fb_read.proofs.statement.StatementRules.choices.Goals as goal
 

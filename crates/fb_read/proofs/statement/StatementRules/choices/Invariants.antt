@@ -1,7 +1,5 @@
-use Rattle.std.proofs.Common.{◌≡◌, ◌-◌}
+use Rattle.fb_read.proofs.lemmas.Common.{◌≡◌, ◌-◌, sees, nested_statement, choices, elsif, several_from}
 use Rattle.fb_read.specs.declared.token.Mark.TheVariants as mark
-use Rattle.fb_read.specs.Parser.{sees}
-use Rattle.fb_read.specs.Statements.{nested_statement, choices, elsif, several_from}
 use Rattle.fb_read.proofs.statement.StatementRules.choices.Given as goal
 
 abbrev pub invariant-loop-turn : goal.invariant-loop-turn

@@ -1,8 +1,5 @@
-use Rattle.std.proofs.Common.{Ok, ap, sym, ◌∙◌}
-use Rattle.std.proofs.lemmas.Result.{err_from_is_err_and}
-use Rattle.fb_types.specs.Names.{Name}
+use Rattle.fb_read.proofs.lemmas.Common.{Ok, ap, sym, ◌∙◌, err_from_is_err_and, Name, nested_statement}
 use Rattle.fb_types.specs.declared.text.Stmt.TheVariants as s
-use Rattle.fb_read.specs.Statements.{nested_statement}
 use Rattle.fb_read.proofs.lemmas.rules.Pairs.{for_statement_is}
 use Rattle.fb_read.proofs.lemmas.rules.Reading.{stops, stops_as, stops_later, went_on}
 use Rattle.fb_read.proofs.statement.StatementRules.for_statement.Goals as goal

@@ -1,5 +1,4 @@
-use Rattle.std.proofs.lemmas.Result.{err_from_is_err_and}
-use Rattle.fb_read.specs.Statements.{repeat_statement}
+use Rattle.fb_read.proofs.lemmas.Common.{err_from_is_err_and, repeat_statement}
 use Rattle.fb_read.proofs.lemmas.rules.Reading.{goes_on, stops, stops_later}
 use Rattle.fb_read.proofs.statement.StatementRules.repeat_statement.Goals as goal
 

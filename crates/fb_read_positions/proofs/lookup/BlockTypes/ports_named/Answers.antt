@@ -1,8 +1,4 @@
-use Rattle.std.proofs.Common.{Some, None, sym, ◌∙◌, ap}
-use Rattle.std.specs.Prelude.{slice_get}
-use Rattle.std.specs.Option.{option_copied}
-use Rattle.fb_types.specs.Blocks.{event_block_named}
-use Rattle.fb_types.specs.declared.library.Ports.{Ports}
+use Rattle.fb_types.proofs.Common.{Some, None, sym, ◌∙◌, ap, slice_get, option_copied, event_block_named, Ports}
 use Rattle.fb_read_positions.proofs.lemmas.TypePorts.{event_ports_are, declared_ports_are}
 use Rattle.fb_read_positions.proofs.lookup.BlockTypes.ports_named.Goals as goal
 

@@ -1,9 +1,6 @@
-use Rattle.std.proofs.Common.{◌≡◌, ◌++◌, ◌∷◌, [], All, List, length, length-append, refl, vec_len, sym, ap, subst, ◌∙◌, append_assoc, append-nil, arith}
-use Rattle.std.proofs.lemmas.Bool.{eqb-true}
-use Rattle.std.proofs.lemmas.List.{length_push, nil_from_length}
+use Rattle.fb_resource.proofs.lemmas.Common.{◌≡◌, ◌++◌, ◌∷◌, [], All, List, length, refl, sym, ap, subst, ◌∙◌, append-nil, arith, Out, IsPostable}
+use Rattle.fb_types.proofs.Common.{length-append, vec_len, append_assoc, eqb-true, length_push, nil_from_length}
 use Rattle.std.specs.Vec.Iter.{drain_items}
-use Rattle.fb_net.specs.declared.effects.Out.{Out}
-use Rattle.fb_resource.specs.Posts.{IsPostable}
 use Rattle.fb_resource.specs.Postings.{HasGrown, HasPosted, system_in}
 use Rattle.fb_resource.proofs.lemmas.Lists.{slice_all}
 use Rattle.fb_resource.proofs.lemmas.PostLaws.{next_of}

@@ -1,8 +1,4 @@
-use Rattle.std.proofs.Common.{◌+◌, ◌<◌, All, length, refl, sym, ap, subst, ◌∙◌, arith}
-use Rattle.std.proofs.lemmas.List.{length-set}
-use Rattle.std.proofs.lemmas.List.Elements.{All-push}
-use Rattle.fb_types.specs.Headline.{system_of}
-use Rattle.fb_types.specs.Keys.{local_key}
+use Rattle.fb_types.proofs.Common.{◌+◌, ◌<◌, All, length, refl, sym, ap, subst, ◌∙◌, arith, length-set, All-push, system_of, local_key}
 use Rattle.fb_types.specs.declared.run.Event.TheVariants.{Local}
 use Rattle.fb_resource.specs.Posts.{IsMessage, IsPostable, IsSendable, message_of}
 use Rattle.fb_resource.proofs.lemmas.PostLaws.{local_waits, message_is, one_local, one_message, order_put}

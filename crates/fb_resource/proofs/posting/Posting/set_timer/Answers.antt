@@ -1,11 +1,5 @@
-use Rattle.std.proofs.Common.{refl, ap, ◌∙◌, arith}
-use Rattle.std.specs.Prelude.{option_map}
-use Rattle.fb_types.specs.Headline.{system_of}
-use Rattle.fb_types.specs.Keys.{changed_to}
-use Rattle.fb_types.specs.Takes.{timer_change}
-use Rattle.fb_agenda.specs.Agendas.{waiting}
-use Rattle.fb_net.specs.Events.{event_of}
-use Rattle.fb_resource.specs.Waiting.{meaning}
+use Rattle.fb_resource.proofs.lemmas.Common.{refl, ap, ◌∙◌, arith, option_map, system_of, changed_to, waiting, event_of, meaning}
+use Rattle.fb_types.proofs.Common.{timer_change}
 use Rattle.fb_resource.proofs.lemmas.Posted.{grown_nothing, set_nothing}
 use Rattle.fb_resource.proofs.lemmas.ReadyIs.{lies_in, order_timer, when_ok, when_ok_both}
 use Rattle.fb_resource.proofs.lemmas.TakenIs.{meaning_timer}

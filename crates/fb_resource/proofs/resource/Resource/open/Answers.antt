@@ -1,8 +1,5 @@
-use Rattle.std.proofs.Common.{◌≡◌, ℕ, None}
-use Rattle.std.proofs.lemmas.Result.{IfOk-weaker}
-use Rattle.fb_types.specs.Headline.{stimuli_of, system_of}
+use Rattle.fb_types.proofs.Common.{◌≡◌, ℕ, None, IfOk-weaker, stimuli_of, system_of, opening}
 use Rattle.fb_types.specs.Parts.{local_of}
-use Rattle.fb_types.specs.Simulation.{opening}
 use Rattle.fb_resource.specs.Resources.{IsFresh, IsOf, Represents}
 use Rattle.fb_resource.proofs.resource.Resource.open.Goals as goal
 

@@ -1,7 +1,4 @@
-use Rattle.std.specs.Prelude.{slice_get}
-use Rattle.std.proofs.Common.{◌≡◌, Some, ◌++◌, ◌∷◌, [], length, ap, subst, sym, ◌∙◌, append_assoc, append-nil, arith}
-use Rattle.std.specs.Vec.Iter.{into_iter_items}
-use Rattle.std.proofs.lemmas.List.{length_push, nil_from_length}
+use Rattle.fb_types.proofs.Common.{slice_get, ◌≡◌, Some, ◌++◌, ◌∷◌, [], length, ap, subst, sym, ◌∙◌, append_assoc, append-nil, arith, into_iter_items, length_push, nil_from_length}
 use Rattle.fb_resource.specs.Openings.{AreOpenedApart, IsOpened}
 use Rattle.fb_resource.specs.Resources.{IsFresh}
 use Rattle.fb_resource.proofs.lemmas.Fresh.{AreFresh, all_opened, at_middle, fresh_more}

@@ -1,5 +1,4 @@
-use Rattle.std.proofs.Common.{◌≡◌, ◌++◌, length}
-use Rattle.std.specs.Vec.Iter.{into_iter_items, into_iter_len}
+use Rattle.fb_types.proofs.Common.{◌≡◌, ◌++◌, length, into_iter_items, into_iter_len}
 use Rattle.fb_resource.specs.Openings.{AreOpenedApart}
 use Rattle.fb_resource.proofs.lemmas.Fresh.{AreFresh}
 use Rattle.fb_resource.proofs.resource.Resource.open_all.Given as goal

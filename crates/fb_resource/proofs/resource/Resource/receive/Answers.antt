@@ -1,6 +1,4 @@
-use Rattle.std.proofs.Common.{ap, ◌∙◌}
-use Rattle.std.proofs.lemmas.Result.{on_ok_weaker}
-use Rattle.fb_types.specs.Keys.{found, or_else}
+use Rattle.fb_types.proofs.Common.{ap, ◌∙◌, on_ok_weaker, found, or_else}
 use Rattle.fb_agenda.specs.Agendas.{waiting}
 use Rattle.fb_agenda.specs.Arrivals.{arrivals_at}
 use Rattle.fb_resource.proofs.lemmas.Received.{received}

@@ -1,5 +1,4 @@
-use Rattle.std.proofs.Common.{sym, subst, ◌∙◌}
-use Rattle.fb_resource.specs.Resources.{IsOf}
+use Rattle.fb_resource.proofs.lemmas.Common.{sym, subst, ◌∙◌, IsOf}
 use Rattle.fb_resource.proofs.lemmas.Running.{traffic_back, run_back}
 use Rattle.fb_resource.proofs.resource.Resource.run_here.Goals as goal
 

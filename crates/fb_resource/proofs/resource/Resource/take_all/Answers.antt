@@ -1,16 +1,13 @@
-use Rattle.std.proofs.Common.{◌<◌, ◌≤◌, Bool, refl, sym, ap, subst, ◌∙◌, arith}
-use Rattle.std.specs.Prelude.{unwrap_or}
+use Rattle.fb_resource.proofs.lemmas.Common.{◌<◌, ◌≤◌, Bool, refl, sym, ap, subst, ◌∙◌, arith, unwrap_or, event_of, meter_of, Finds}
 use Rattle.fb_laws.proofs.lemmas.soundness.Accepting.{sound_of}
-use Rattle.fb_net.specs.Events.{event_of}
 use Rattle.fb_resource.proofs.lemmas.Finding.{finds_taken}
 use Rattle.fb_resource.proofs.lemmas.Fuel.{fuel_falls}
 use Rattle.fb_resource.proofs.lemmas.Leaving.{ready_left}
 use Rattle.fb_resource.proofs.lemmas.Lone.{due_next, ready_alike, taken_alike}
 use Rattle.fb_resource.proofs.lemmas.Meters.{metered_fresh, past_fresh, unused_below, unused_fresh}
-use Rattle.fb_resource.specs.Counts.{meter_of}
 use Rattle.fb_resource.specs.Resources.{mark_of}
 use Rattle.fb_resource.specs.Runs.{Running, in_run, with_traffic}
-use Rattle.fb_resource.specs.Takings.{Finds, with_least_event}
+use Rattle.fb_resource.specs.Takings.{with_least_event}
 use Rattle.fb_resource.proofs.lemmas.Running.{comes_first, comes_more, has_run, here_at, marked, ran_rest, ran_stop, running_first, running_more, running_rest}
 use Rattle.fb_resource.proofs.lemmas.Standing.{HasLeft}
 use Rattle.fb_resource.proofs.resource.Resource.take_all.Goals as goal

@@ -1,12 +1,6 @@
-use Rattle.std.proofs.Common.{◌≡◌, ◌≤◌, None}
-use Rattle.fb_types.specs.Headline.{system_of}
-use Rattle.fb_types.specs.Machines.{Local}
-use Rattle.fb_types.specs.Parts.{machine}
-use Rattle.fb_agenda.specs.Agendas.{Contents}
-use Rattle.fb_resource.specs.Counts.{IsUnused, fuel, meter_of}
-use Rattle.fb_resource.specs.Resources.{Represents}
+use Rattle.fb_resource.proofs.lemmas.Common.{◌≡◌, ◌≤◌, None, system_of, Local, machine, Contents, meter_of, Represents, Finds}
+use Rattle.fb_resource.specs.Counts.{IsUnused, fuel}
 use Rattle.fb_resource.specs.Runs.{ComesTo, IsRunning, in_run, with_traffic}
-use Rattle.fb_resource.specs.Takings.{Finds}
 use Rattle.fb_resource.proofs.resource.Resource.take_all.Given as goal
 
 -- `was` is the agenda from which the event in `Least` was taken, if one was found

@@ -1,5 +1,4 @@
-use Rattle.std.proofs.Common.{[], append-nil}
-use Rattle.std.proofs.KnownBytes.{Appends-nil}
+use Rattle.fb_types.proofs.Common.{[], append-nil, Appends-nil}
 use Rattle.fb_session.proofs.lemmas.EndingIs.{whole_stopped}
 use Rattle.fb_session.proofs.session.Session.end.Goals as goal
 

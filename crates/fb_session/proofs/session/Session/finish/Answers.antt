@@ -1,6 +1,4 @@
-use Rattle.std.proofs.Common.{Result, Ok, Err, false, inl, inr, refl, subst, sym, ◌≡◌, ◌≤◌}
-use Rattle.std.specs.Prelude.{IfErr, IsTrue}
-use Rattle.std.specs.Result.{IsErrAnd}
+use Rattle.fb_types.proofs.Common.{Result, Ok, Err, false, inl, inr, refl, subst, sym, ◌≡◌, ◌≤◌, IfErr, IsTrue, IsErrAnd}
 use Rattle.fb_session.specs.Going.{IsBeginning}
 use Rattle.fb_session.specs.Pasts.{Past, StandsBy, Talk, now}
 use Rattle.fb_session.specs.declared.fault.SessionFault.{SessionFault}

@@ -1,8 +1,4 @@
-use Rattle.std.proofs.Common.{◌<◌, ◌≤◌, List, append-nil, ap, arith, length, map, subst, sym, ◌∙◌}
-use Rattle.std.proofs.lemmas.List.Elements.{All-nil}
-use Rattle.fb_types.specs.Headline.{system_of}
-use Rattle.fb_types.specs.Simulation.{Taken, opening, stimulus_of}
-use Rattle.fb_types.specs.declared.deploy.Stimulus.{Stimulus}
+use Rattle.fb_types.proofs.Common.{◌<◌, ◌≤◌, List, append-nil, ap, arith, length, map, subst, sym, ◌∙◌, All-nil, system_of, Taken, opening, stimulus_of, Stimulus}
 use Rattle.fb_sim_machine.specs.Machines.{IsAt}
 use Rattle.fb_session.specs.Pasts.{IsRow}
 use Rattle.fb_session.proofs.session.Session.open.Goals as goal

@@ -1,5 +1,4 @@
-use Rattle.std.proofs.Common.{◌≡◌, List, length, Some, slice_get, refl, subst, sym}
-use Rattle.std.proofs.lemmas.Option.{slice_get_read}
+use Rattle.fb_types.proofs.Common.{◌≡◌, List, length, Some, slice_get, refl, subst, sym, slice_get_read}
 use Rattle.fb_types.specs.OfSystem.{IsInstance}
 use Rattle.fb_net.specs.declared.resource.Forest.{Forest}
 use Rattle.fb_session.specs.Pasts.{StandsBy, Talk}

@@ -1,7 +1,4 @@
-use Rattle.std.proofs.Common.{arith}
-use Rattle.fb_laws.specs.Sound.{AreGood}
-use Rattle.fb_sim.specs.Rounds.{RunsOn}
-use Rattle.fb_sim.specs.declared.progress.Round.TheVariants.{Ended, Stopped}
+use Rattle.fb_sim.proofs.lemmas.Common.{arith, AreGood, RunsOn, Ended, Stopped}
 use Rattle.fb_sim.proofs.lemmas.rounds.RunIs.{came_early, came_failed, came_first, came_last, came_last_failed, came_more, err_passed, ran_to_end, ran_to_mark}
 use Rattle.fb_sim.proofs.rounds.all_rounds.run_on.Goals as goal
 

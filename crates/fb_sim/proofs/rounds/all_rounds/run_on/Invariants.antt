@@ -1,6 +1,5 @@
-use Rattle.std.proofs.Common.{◌≤◌, List}
+use Rattle.fb_sim.proofs.lemmas.Common.{◌≤◌, List, HasCome}
 use Rattle.fb_types.specs.States.{Line}
-use Rattle.fb_sim.specs.Rounds.{HasCome}
 use Rattle.fb_sim.proofs.lemmas.rounds.RunIs.{Came}
 use Rattle.fb_sim.proofs.rounds.all_rounds.run_on.Given as goal
 

@@ -1,6 +1,4 @@
-use Rattle.std.proofs.Common.{◌∙◌, ap, sym}
-use Rattle.fb_sim.specs.Rounds.{after_bytes}
-use Rattle.fb_sim.specs.declared.outcome.RunError.TheVariants.{Write}
+use Rattle.fb_sim.proofs.lemmas.Common.{◌∙◌, ap, sym, after_bytes, Write}
 use Rattle.fb_sim.proofs.rounds.all_rounds.with_written.Goals as goal
 
 pub returns-in-Write : goal.returns-in-Write

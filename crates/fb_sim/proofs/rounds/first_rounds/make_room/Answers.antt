@@ -1,5 +1,4 @@
-use Rattle.std.proofs.Common.{◌≡◌, ◌≤◌, ◌++◌, ℕ, Bool, true, false, cond, List, length, take, ap, ◌∙◌, arith}
-use Rattle.std.proofs.lemmas.List.{take_all, take-append-le}
+use Rattle.fb_types.proofs.Common.{◌≡◌, ◌≤◌, ◌++◌, ℕ, Bool, true, false, cond, List, length, take, ap, ◌∙◌, arith, take_all, take-append-le}
 use Rattle.std.specs.Result.{is_ok}
 use Rattle.fb_sim.proofs.rounds.first_rounds.make_room.Goals as goal
 

@@ -1,8 +1,6 @@
-use Rattle.std.proofs.Common.{◌≡◌, [], Some, arith}
+use Rattle.fb_sim.proofs.lemmas.Common.{◌≡◌, [], Some, arith, AtEnd, AtMark, Going, Ended, Stopped}
 use Rattle.fb_sim.proofs.lemmas.rounds.FirstRounds.{leg_going, leg_over}
 use Rattle.fb_sim.proofs.lemmas.rounds.RunIs.{came_early, came_first, came_last, came_more, ran_to_end, ran_to_mark}
-use Rattle.fb_sim.specs.declared.rounds.all_rounds.Finish.TheVariants.{AtEnd, AtMark}
-use Rattle.fb_sim.specs.declared.progress.Round.TheVariants.{Going, Ended, Stopped}
 use Rattle.fb_sim.proofs.rounds.first_rounds.run_first.Goals as goal
 
 pub loop-init : goal.loop-init

@@ -1,5 +1,4 @@
-use Rattle.std.proofs.Common.{◌≡◌, ◌∙◌, List, ℕ, ap, arith, length, subst, sym}
-use Rattle.fb_laws.specs.Sound.{AreGood}
+use Rattle.fb_sim.proofs.lemmas.Common.{◌≡◌, ◌∙◌, List, ℕ, ap, arith, length, subst, sym, AreGood}
 use Rattle.fb_sim.specs.Rounds.{HasBegun, HasRunOut, AreFirstRounds}
 use Rattle.fb_sim.specs.declared.rounds.first_rounds.FirstRounds.{FirstRounds}
 use Rattle.fb_sim.proofs.lemmas.rounds.FirstRounds.{leg_ended, leg_failed, leg_on, leg_short}

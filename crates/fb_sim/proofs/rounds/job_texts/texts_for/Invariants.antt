@@ -1,5 +1,4 @@
-use Rattle.std.proofs.Common.{◌≡◌, ◌≤◌, length, vec_capacity}
-use Rattle.std.specs.Vec.Iter.{into_iter_items, into_iter_len}
+use Rattle.fb_types.proofs.Common.{◌≡◌, ◌≤◌, length, vec_capacity, into_iter_items, into_iter_len}
 use Rattle.fb_sim.proofs.lemmas.text.TextsAre.{AreMade}
 use Rattle.fb_sim.proofs.rounds.job_texts.texts_for.Given as goal
 

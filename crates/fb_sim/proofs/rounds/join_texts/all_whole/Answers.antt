@@ -1,6 +1,4 @@
-use Rattle.std.proofs.Common.{◌≡◌, ◌+◌, ◌++◌, List, [], ◌∷◌, take, sym, ap, ◌∙◌, subst, arith}
-use Rattle.std.specs.List.{AllZip}
-use Rattle.std.proofs.lemmas.List.{take_all, take_more}
+use Rattle.fb_types.proofs.Common.{◌≡◌, ◌+◌, ◌++◌, List, [], ◌∷◌, take, sym, ap, ◌∙◌, subst, arith, AllZip, take_all, take_more}
 use Rattle.fb_sim.specs.declared.rounds.join_texts.Rest.{Rest}
 use Rattle.fb_sim.proofs.lemmas.text.Cutting.{IsWhole, whole_rests, zip_more}
 use Rattle.fb_sim.proofs.rounds.join_texts.all_whole.Goals as goal

@@ -1,5 +1,4 @@
-use Rattle.std.proofs.Common.{◌≡◌, ◌≤◌, length, take, vec_len, vec_capacity}
-use Rattle.std.specs.List.{AllZip}
+use Rattle.fb_types.proofs.Common.{◌≡◌, ◌≤◌, length, take, vec_len, vec_capacity, AllZip}
 use Rattle.fb_sim.proofs.lemmas.text.Cutting.{IsWhole}
 use Rattle.fb_sim.proofs.rounds.join_texts.all_whole.Given as goal
 

@@ -1,5 +1,4 @@
-use Rattle.std.proofs.Common.{◌≡◌, ◌≤◌, ◌*◌, ◌^◌, take}
-use Rattle.std.specs.Prelude.{sum_by}
+use Rattle.fb_types.proofs.Common.{◌≡◌, ◌≤◌, ◌*◌, ◌^◌, take, sum_by}
 use Rattle.fb_sim.proofs.rounds.join_texts.count_lines.Given as goal
 
 abbrev pub invariant-loop-text : goal.invariant-loop-text

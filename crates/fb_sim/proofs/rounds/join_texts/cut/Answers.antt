@@ -1,5 +1,4 @@
-use Rattle.std.proofs.Common.{◌≡◌, length, subst, sym, ◌∙◌, arith}
-use Rattle.fb_trace.specs.Fronts.{early, late}
+use Rattle.fb_sim.proofs.lemmas.Common.{◌≡◌, length, subst, sym, ◌∙◌, arith, early, late}
 use Rattle.fb_trace.specs.Marks.{AreMarked, text_of_lines}
 use Rattle.fb_sim.proofs.lemmas.text.Cutting.{early_short, early_text, late_text}
 use Rattle.fb_sim.proofs.rounds.join_texts.cut.Goals as goal

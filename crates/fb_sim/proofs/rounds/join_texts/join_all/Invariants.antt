@@ -1,10 +1,4 @@
-use Rattle.std.proofs.Common.{List}
-use Rattle.std.specs.List.{AllZip}
-use Rattle.fb_types.specs.Headline.{Inputs}
-use Rattle.fb_types.specs.declared.run.Form.{Form}
-use Rattle.fb_types.specs.declared.run.Line.{Line}
-use Rattle.fb_trace.specs.Marks.{IsMarkedText}
-use Rattle.fb_sim.specs.JoinedTexts.{IsRest}
+use Rattle.fb_sim.proofs.lemmas.Common.{List, AllZip, Inputs, Form, Line, IsMarkedText, IsRest}
 use Rattle.fb_sim.proofs.lemmas.text.Cutting.{IsJoining}
 use Rattle.fb_sim.proofs.rounds.join_texts.join_all.Given as goal
 

@@ -1,5 +1,4 @@
-use Rattle.std.proofs.Common.{◌+◌, drop, get_or, arith}
-use Rattle.std.proofs.lemmas.List.{drop_all, drop_more}
+use Rattle.fb_types.proofs.Common.{◌+◌, drop, get_or, arith, drop_all, drop_more}
 use Rattle.fb_trace.specs.declared.marks.Mark.{Mark}
 use Rattle.fb_sim.proofs.lemmas.text.Cutting.{all_passed, more_passed, none_passed, past_passed}
 use Rattle.fb_sim.proofs.rounds.join_texts.passed.Goals as goal

@@ -1,5 +1,4 @@
-use Rattle.std.proofs.Common.{◌+◌, ◌<◌, [], get_or, length, set, sym, ◌∙◌, subst, arith}
-use Rattle.std.proofs.lemmas.List.{length-set}
+use Rattle.fb_types.proofs.Common.{◌+◌, ◌<◌, [], get_or, length, set, sym, ◌∙◌, subst, arith, length-set}
 use Rattle.fb_sim.specs.JoinedTexts.{IsRest}
 use Rattle.fb_sim.proofs.lemmas.text.Cutting.{ArePutTo, all_are_put, is_rest, more_put, zip_length}
 use Rattle.fb_sim.proofs.rounds.join_texts.put_all.Goals as goal

@@ -1,9 +1,4 @@
-use Rattle.std.proofs.Common.{◌≡◌, List, length}
-use Rattle.std.specs.List.{AllZip}
-use Rattle.fb_types.specs.Headline.{Inputs}
-use Rattle.fb_types.specs.declared.run.Form.{Form}
-use Rattle.fb_types.specs.declared.run.Line.{Line}
-use Rattle.fb_sim.specs.JoinedTexts.{IsRest}
+use Rattle.fb_sim.proofs.lemmas.Common.{◌≡◌, List, length, AllZip, Inputs, Form, Line, IsRest}
 use Rattle.fb_sim.proofs.lemmas.text.Cutting.{ArePutTo}
 use Rattle.fb_sim.proofs.rounds.join_texts.put_all.Given as goal
 

@@ -1,15 +1,10 @@
 use denote.Param.Send.{sendable, param_send}
 use Rattle.std.proofs.Crossing.{crosses}
-use Rattle.std.proofs.Common.{All, Bor, List, map, rules, subst, sym}
-use Rattle.std.specs.Prelude.{IfOk}
-use Rattle.std.proofs.lemmas.Result.{IfOk-weaker}
+use Rattle.fb_sim.proofs.lemmas.Common.{All, Bor, List, map, rules, subst, sym, IfOk, Line, system_of, BelongsTo, IsMergedText, all_bytes}
+use Rattle.fb_types.proofs.Common.{IfOk-weaker}
 use Rattle.fb_types.proofs.run.Form.TheSendSync as form_crosses
 use Rattle.fb_types.proofs.run.Line.TheSendSync as line_crosses
-use Rattle.fb_types.specs.declared.run.Line.{Line}
 use Rattle.fb_sim.proofs.rounds.make_text.+parts.Lts-parts_by.{arg-4-1}
-use Rattle.fb_types.specs.Headline.{system_of}
-use Rattle.fb_system.specs.Lines.{BelongsTo}
-use Rattle.fb_sim.specs.MergedText.{IsMergedText, all_bytes}
 use Rattle.fb_sim.proofs.lemmas.runs.Crossing.{system_sync}
 use Rattle.fb_sim.proofs.lemmas.text.Texts.{last_joined, one_joined}
 use Rattle.fb_sim.proofs.lemmas.text.MergedText.{parts_each}

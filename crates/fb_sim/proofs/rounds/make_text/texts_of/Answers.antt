@@ -1,8 +1,4 @@
-use Rattle.std.proofs.Common.{All, Bor, List, IfOk, rules, subst, map, ap, ◌∙◌}
-use Rattle.fb_types.specs.Headline.{system_of}
-use Rattle.fb_types.specs.declared.run.Line.{Line}
-use Rattle.fb_system.specs.Lines.{BelongsTo}
-use Rattle.fb_sim.specs.MergedText.{IsMergedText, all_bytes}
+use Rattle.fb_sim.proofs.lemmas.Common.{All, Bor, List, IfOk, rules, subst, map, ap, ◌∙◌, system_of, Line, BelongsTo, IsMergedText, all_bytes}
 use Rattle.fb_sim.proofs.lemmas.text.MergedText.{slices_each}
 use Rattle.fb_sim.proofs.rounds.make_text.texts_of.Goals as goal
 

@@ -1,5 +1,4 @@
-use Rattle.std.proofs.Common.{ap, ◌∙◌}
-use Rattle.fb_sim.specs.MergedText.{all_bytes}
+use Rattle.fb_sim.proofs.lemmas.Common.{ap, ◌∙◌, all_bytes}
 use Rattle.fb_sim.proofs.lemmas.text.Texts.{all_bytes-snoc}
 use Rattle.fb_sim.proofs.rounds.make_text.with_last.Goals as goal
 

@@ -1,6 +1,4 @@
-use Rattle.std.proofs.Common.{List, ℕ, arith, subst}
-use Rattle.std.specs.Io.KnownBytes.{Appends}
-use Rattle.std.proofs.lemmas.List.{take_all}
+use Rattle.fb_types.proofs.Common.{List, ℕ, arith, subst, Appends, take_all}
 use Rattle.fb_sim.proofs.rounds.make_text.write_text.Goals as goal
 
 pub returns-then-count-text-clause-part : goal.returns-then-count-text-clause-part

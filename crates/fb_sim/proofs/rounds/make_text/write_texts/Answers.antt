@@ -1,11 +1,4 @@
-use Rattle.std.proofs.Common.{◌≡◌, ◌+◌, ◌++◌, ℕ, List, Option, length, take, drop, ap, sym, ◌∙◌, subst, arith}
-use Rattle.std.specs.Io.KnownBytes.{Appends}
-use Rattle.std.proofs.KnownBytes.{Appends-nil, Appends-trans}
-use Rattle.fb_trace.specs.Progress.{bounded}
-use Rattle.fb_sim.specs.Rounds.{WritesPartOf, after_bytes}
-use Rattle.fb_sim.specs.MergedText.{all_bytes}
-use Rattle.fb_sim.specs.declared.outcome.RunError.{RunError}
-use Rattle.fb_sim.specs.declared.outcome.RunError.TheVariants.{Refused, Memory, Write, BadOption, Failed}
+use Rattle.fb_sim.proofs.lemmas.Common.{◌≡◌, ◌+◌, ◌++◌, ℕ, List, Option, length, take, drop, ap, sym, ◌∙◌, subst, arith, Appends, Appends-nil, Appends-trans, bounded, WritesPartOf, after_bytes, all_bytes, RunError, Refused, Memory, Write, BadOption, Failed}
 use Rattle.fb_sim.proofs.lemmas.text.Texts.{all_bytes-more, all_bytes-parts, bounded-length, part-after, part-before}
 use Rattle.fb_sim.proofs.rounds.make_text.write_texts.Goals as goal
 

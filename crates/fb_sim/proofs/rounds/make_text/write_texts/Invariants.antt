@@ -1,7 +1,4 @@
-use Rattle.std.proofs.Common.{◌≡◌, length, take}
-use Rattle.std.specs.Io.KnownBytes.{Appends}
-use Rattle.fb_trace.specs.Progress.{bounded}
-use Rattle.fb_sim.specs.MergedText.{all_bytes}
+use Rattle.fb_sim.proofs.lemmas.Common.{◌≡◌, length, take, Appends, bounded, all_bytes}
 use Rattle.fb_sim.proofs.rounds.make_text.write_texts.Given as goal
 
 abbrev pub invariant-loop-text : goal.invariant-loop-text

@@ -1,5 +1,4 @@
-use Rattle.std.proofs.Common.{rules}
-use Rattle.std.specs.Prelude.{nat_lt}
+use Rattle.fb_types.proofs.Common.{rules, nat_lt}
 use Rattle.std.proofs.lemmas.List.Sorted.{IsPartitionPoint-from_clause}
 use Rattle.fb_sim.specs.MergedText.{until}
 use Rattle.fb_sim.proofs.lemmas.text.MergedText.{parted, point_before, point_from}

@@ -1,8 +1,4 @@
-use Rattle.std.proofs.Common.{◌≡◌, ℕ, ◌+◌, ◌<◌, ◌≤◌, ◌++◌, List, [], ◌∷◌, length, map, take, sym, ap, ◌∙◌, Bor, subst, arith}
-use Rattle.std.proofs.lemmas.List.{length-map, map_push, take_all, take_more}
-use Rattle.fb_types.specs.Machines.{Each}
-use Rattle.fb_types.specs.declared.run.Line.{Line}
-use Rattle.fb_trace.specs.Merging.{Rises, tick_of}
+use Rattle.fb_sim.proofs.lemmas.Common.{◌≡◌, ℕ, ◌+◌, ◌<◌, ◌≤◌, ◌++◌, List, [], ◌∷◌, length, map, take, sym, ap, ◌∙◌, Bor, subst, arith, length-map, map_push, take_all, take_more, Each, Line, Rises, tick_of}
 use Rattle.fb_sim.specs.MergedText.{AreCut, until}
 use Rattle.fb_sim.proofs.lemmas.text.MergedText.{cut_counted, cut_more}
 use Rattle.fb_sim.proofs.rounds.merge_text.divide.Goals as goal

@@ -1,6 +1,4 @@
-use Rattle.std.proofs.Common.{◌<◌, ◌≤◌, arith, subst, sym}
-use Rattle.fb_types.specs.declared.run.Line.{Line}
-use Rattle.fb_trace.specs.Merging.{tick_of}
+use Rattle.fb_sim.proofs.lemmas.Common.{◌<◌, ◌≤◌, arith, subst, sym, Line, tick_of}
 use Rattle.fb_sim.proofs.lemmas.text.MergedText.{end_early, end_late, more_early, more_late, past_early, past_late}
 use Rattle.fb_sim.proofs.rounds.merge_text.early_count.Goals as goal
 

@@ -1,5 +1,4 @@
-use Rattle.std.proofs.Common.{◌≡◌, ◌≤◌, ◌-◌, ◌++◌, drop, length, take}
-use Rattle.fb_trace.specs.Fronts.{early, late}
+use Rattle.fb_sim.proofs.lemmas.Common.{◌≡◌, ◌≤◌, ◌-◌, ◌++◌, drop, length, take, early, late}
 use Rattle.fb_sim.proofs.rounds.merge_text.early_count.Given as goal
 
 abbrev pub invariant-loop-count : goal.invariant-loop-count

@@ -1,5 +1,4 @@
-use Rattle.std.proofs.Common.{map, take}
-use Rattle.fb_trace.specs.Fronts.{IsLeast}
+use Rattle.fb_sim.proofs.lemmas.Common.{map, take, IsLeast}
 use Rattle.fb_sim.proofs.rounds.merge_text.least_tick.Given as goal
 
 abbrev pub invariant-loop-list : goal.invariant-loop-list

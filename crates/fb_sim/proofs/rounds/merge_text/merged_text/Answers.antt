@@ -1,11 +1,4 @@
-use Rattle.std.proofs.Common.{◌≡◌, ◌<◌, ◌++◌, ℕ, Some, [], Bor, List, map, length, sym, ap, ◌∙◌, subst, All}
-use Rattle.fb_types.specs.Headline.{Inputs, system_of}
-use Rattle.fb_types.specs.Numbers.{line_of}
-use Rattle.fb_types.specs.Text.{lines_text}
-use Rattle.fb_types.specs.declared.run.Form.{Form}
-use Rattle.fb_types.specs.declared.run.Line.{Line}
-use Rattle.fb_system.specs.Lines.{BelongsTo}
-use Rattle.fb_trace.specs.Fronts.{IsLeast, all_early, all_late, joint}
+use Rattle.fb_sim.proofs.lemmas.Common.{◌≡◌, ◌<◌, ◌++◌, ℕ, Some, [], Bor, List, map, length, sym, ap, ◌∙◌, subst, All, Inputs, system_of, line_of, lines_text, Form, Line, BelongsTo, IsLeast, all_early, all_late, joint}
 use Rattle.fb_trace.proofs.lemmas.order.EarlyLines.{fewer, none_left}
 use Rattle.fb_sim.proofs.lemmas.text.Putting.{IsPut, all_put, more_taken, none_put, parts_put, put_each}
 use Rattle.fb_sim.proofs.rounds.merge_text.merged_text.Goals as goal

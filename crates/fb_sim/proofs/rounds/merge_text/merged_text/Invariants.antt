@@ -1,5 +1,4 @@
-use Rattle.std.proofs.Common.{length, map}
-use Rattle.fb_trace.specs.Fronts.{IsLeast, joint}
+use Rattle.fb_sim.proofs.lemmas.Common.{length, map, IsLeast, joint}
 use Rattle.fb_sim.proofs.lemmas.text.Putting.{IsPut}
 use Rattle.fb_sim.proofs.rounds.merge_text.merged_text.Given as goal
 

@@ -1,5 +1,4 @@
-use Rattle.std.proofs.Common.{◌≡◌, ◌+◌, ◌++◌, [], ◌∷◌, map, take, sym, ap, ◌∙◌, arith}
-use Rattle.std.proofs.lemmas.List.{map_push, take_more}
+use Rattle.fb_types.proofs.Common.{◌≡◌, ◌+◌, ◌++◌, [], ◌∷◌, map, take, sym, ap, ◌∙◌, arith, map_push, take_more}
 use Rattle.fb_sim.proofs.rounds.merge_text.slices.Goals as goal
 
 pub push_reserved-requires : goal.push_reserved-requires

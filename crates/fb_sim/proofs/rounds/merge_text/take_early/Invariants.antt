@@ -1,5 +1,4 @@
-use Rattle.std.proofs.Common.{◌≡◌, ◌≤◌, ◌++◌, length, map, take, vec_len, vec_capacity}
-use Rattle.fb_trace.specs.Fronts.{all_early, all_late, joint}
+use Rattle.fb_sim.proofs.lemmas.Common.{◌≡◌, ◌≤◌, ◌++◌, length, map, take, vec_len, vec_capacity, all_early, all_late, joint}
 use Rattle.fb_sim.proofs.rounds.merge_text.take_early.Given as goal
 
 abbrev pub invariant-loop-list : goal.invariant-loop-list

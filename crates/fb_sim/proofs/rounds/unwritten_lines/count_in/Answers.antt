@@ -1,6 +1,4 @@
-use Rattle.std.proofs.Common.{◌≡◌, ◌+◌, ◌++◌, [], ◌∷◌, length, take, sym, ap, ◌∙◌, arith}
-use Rattle.std.proofs.lemmas.List.{length-append, take_more}
-use Rattle.fb_trace.specs.Merging.{flat}
+use Rattle.fb_sim.proofs.lemmas.Common.{◌≡◌, ◌+◌, ◌++◌, [], ◌∷◌, length, take, sym, ap, ◌∙◌, arith, length-append, take_more, flat}
 use Rattle.fb_trace.proofs.lemmas.order.StableSort.{flat_snoc}
 use Rattle.fb_sim.proofs.rounds.unwritten_lines.count_in.Goals as goal
 

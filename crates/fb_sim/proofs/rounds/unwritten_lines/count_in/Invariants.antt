@@ -1,5 +1,4 @@
-use Rattle.std.proofs.Common.{◌≡◌, ◌<◌, ◌^◌, ◌-◌, length, take}
-use Rattle.fb_trace.specs.Merging.{flat}
+use Rattle.fb_sim.proofs.lemmas.Common.{◌≡◌, ◌<◌, ◌^◌, ◌-◌, length, take, flat}
 use Rattle.fb_sim.proofs.rounds.unwritten_lines.count_in.Given as goal
 
 abbrev pub invariant-loop-list : goal.invariant-loop-list

@@ -1,5 +1,4 @@
-use Rattle.std.proofs.Common.{◌++◌, [], ◌∷◌, length, sym, ap, ◌∙◌, append_assoc, arith}
-use Rattle.std.specs.Vec.Iter.{into_iter_items}
+use Rattle.fb_types.proofs.Common.{◌++◌, [], ◌∷◌, length, sym, ap, ◌∙◌, append_assoc, arith, into_iter_items}
 use Rattle.fb_sim.proofs.lemmas.text.TextsAre.{are_apart, dones_push, texts_push}
 use Rattle.fb_sim.proofs.rounds.workers.apart.Goals as goal
 

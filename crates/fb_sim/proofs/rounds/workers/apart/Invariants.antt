@@ -1,5 +1,4 @@
-use Rattle.std.proofs.Common.{◌≡◌, ◌+◌, ◌≤◌, ◌++◌, length, vec_len, vec_capacity}
-use Rattle.std.specs.Vec.Iter.{into_iter_items, into_iter_len}
+use Rattle.fb_types.proofs.Common.{◌≡◌, ◌+◌, ◌≤◌, ◌++◌, length, vec_len, vec_capacity, into_iter_items, into_iter_len}
 use Rattle.fb_sim.proofs.lemmas.text.TextsAre.{dones_of, texts_of}
 use Rattle.fb_sim.proofs.rounds.workers.apart.Given as goal
 

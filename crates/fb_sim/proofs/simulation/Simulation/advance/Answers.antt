@@ -1,5 +1,4 @@
-use Rattle.std.proofs.Common.{◌≡◌, ◌∙◌, ◌^◌, ◌<◌, ◌≤◌, ap, subst, sym}
-use Rattle.fb_sim.specs.Views.{SimulationView}
+use Rattle.fb_sim.proofs.lemmas.Common.{◌≡◌, ◌∙◌, ◌^◌, ◌<◌, ◌≤◌, ap, subst, sym, SimulationView}
 use Rattle.fb_sim.specs.declared.state.Stage.TheVariants as going
 use Rattle.fb_sim.proofs.lemmas.rounds.AdvanceIs.{fails_there, gets_there}
 use Rattle.fb_sim.proofs.simulation.Simulation.advance.Goals as goal

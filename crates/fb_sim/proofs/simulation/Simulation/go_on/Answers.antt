@@ -1,5 +1,4 @@
-use Rattle.std.proofs.Common.{◌∙◌, ap, sym}
-use Rattle.fb_sim.specs.Views.{SimulationView}
+use Rattle.fb_sim.proofs.lemmas.Common.{◌∙◌, ap, sym, SimulationView}
 use Rattle.fb_sim.proofs.lemmas.runs.SimulationFields.{has_core}
 use Rattle.fb_sim.proofs.simulation.Simulation.go_on.Goals as goal
 

@@ -1,10 +1,7 @@
-use Rattle.std.proofs.Common.{Ok, sym, subst}
+use Rattle.fb_sim.proofs.lemmas.Common.{Ok, sym, subst, RunsOn, AtEnd, AtMark, End, Stop}
 use Rattle.fb_sim.specs.Advances.{RunsTo}
-use Rattle.fb_sim.specs.Rounds.{RunsOn}
 use Rattle.fb_sim.specs.Views.{IsAtTick, stage_of}
 use Rattle.fb_sim.specs.declared.rounds.all_rounds.Finish.{Finish}
-use Rattle.fb_sim.specs.declared.rounds.all_rounds.Finish.TheVariants.{AtEnd, AtMark}
-use Rattle.fb_trace.specs.declared.last.Outcome.TheVariants.{End, Stop}
 use Rattle.fb_sim.specs.declared.state.Stage.TheVariants as going
 use Rattle.fb_sim.specs.declared.state.SimulationState.{SimulationState}
 use Rattle.fb_sim.proofs.lemmas.rounds.AdvanceIs.{onward, advanced_end, advanced_stop, broken_on, short_stop, fails_on, goes_on}

@@ -1,7 +1,5 @@
-use Rattle.std.proofs.Common.{◌∷◌, [], Result, Ok, Err, arith, ap, subst}
-use Rattle.std.specs.Prelude.{OnErr, OnOk}
-use Rattle.fb_types.specs.Keys.{stimulus_key, with_all}
-use Rattle.fb_types.specs.declared.run.Event.TheVariants.{Given}
+use Rattle.fb_types.proofs.Common.{◌∷◌, [], Result, Ok, Err, arith, ap, subst, OnErr, OnOk, stimulus_key, Given}
+use Rattle.fb_types.specs.Keys.{with_all}
 use Rattle.fb_agenda.specs.Agendas.{Contents}
 use Rattle.fb_net.specs.Events.{event_of}
 use Rattle.fb_resource.proofs.lemmas.OpenIs.{named_resource, narrow_resource}

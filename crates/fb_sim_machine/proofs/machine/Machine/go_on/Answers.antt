@@ -1,10 +1,4 @@
-use Rattle.std.proofs.Common.{◌<◌, Bool, length, refl, [], ◌∷◌, ◌++◌, map, sym, ap, subst, ◌∙◌, append-nil, arith}
-use Rattle.std.specs.Prelude.{option_map}
-use Rattle.fb_types.specs.Headline.{system_of}
-use Rattle.fb_types.specs.Keys.{NoneBelow, without}
-use Rattle.fb_types.specs.Numbers.{line_of}
-use Rattle.fb_types.specs.Simulation.{AtStop, Taken, after}
-use Rattle.fb_types.specs.States.{Config}
+use Rattle.fb_types.proofs.Common.{◌<◌, Bool, length, refl, [], ◌∷◌, ◌++◌, map, sym, ap, subst, ◌∙◌, append-nil, arith, option_map, system_of, NoneBelow, without, line_of, AtStop, Taken, after, Config}
 use Rattle.fb_laws.proofs.lemmas.soundness.Accepting.{sound_of}
 use Rattle.fb_laws.proofs.lemmas.takings.Effects.{takes_good}
 use Rattle.fb_net.specs.Events.{event_of}

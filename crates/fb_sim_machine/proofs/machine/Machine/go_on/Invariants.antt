@@ -1,6 +1,4 @@
-use Rattle.std.proofs.Common.{◌≡◌, ℕ, ◌≤◌, []}
-use Rattle.fb_types.specs.Simulation.{lines_of}
-use Rattle.fb_types.specs.States.{Config}
+use Rattle.fb_types.proofs.Common.{◌≡◌, ℕ, ◌≤◌, [], lines_of, Config}
 use Rattle.fb_agenda.specs.Agendas.{Contents}
 use Rattle.fb_resource.specs.Takings.{Finds}
 use Rattle.fb_sim_machine.specs.Counts.{fuel_of_all}

@@ -1,7 +1,4 @@
-use Rattle.std.proofs.Common.{ℕ, length, replicate, None, sym, ap, subst, ◌∙◌}
-use Rattle.std.specs.Global.{Vec}
-use Rattle.fb_types.specs.Headline.{system_of}
-use Rattle.fb_types.specs.Simulation.{opening_state}
+use Rattle.fb_types.proofs.Common.{ℕ, length, replicate, None, sym, ap, subst, ◌∙◌, Vec, system_of, opening_state}
 use Rattle.fb_resource.specs.Openings.{IsOpened}
 use Rattle.fb_resource.specs.Posts.{CountsAre}
 use Rattle.fb_resource.proofs.lemmas.Begins.{ready_opened as queues_opened}

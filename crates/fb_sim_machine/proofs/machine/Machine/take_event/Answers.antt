@@ -1,5 +1,4 @@
-use Rattle.std.proofs.Common.{sym, ◌∙◌}
-use Rattle.fb_types.specs.Takes.{agenda_after}
+use Rattle.fb_types.proofs.Common.{sym, ◌∙◌, agenda_after}
 use Rattle.fb_resource.specs.Takings.{with_next}
 use Rattle.fb_resource.proofs.lemmas.Lone.{due_next}
 use Rattle.fb_sim_machine.proofs.lemmas.Nexts.{at_alike, machine_alike}

@@ -1,6 +1,4 @@
-use Rattle.std.proofs.Common.{Bool, refl, ◌∙◌, subst, ap, arith}
-use Rattle.std.specs.Prelude.{option_map}
-use Rattle.fb_types.specs.Keys.{without}
+use Rattle.fb_types.proofs.Common.{Bool, refl, ◌∙◌, subst, ap, arith, option_map, without}
 use Rattle.fb_net.specs.Events.{event_of}
 use Rattle.fb_resource.specs.Takings.{Finds}
 use Rattle.fb_resource.proofs.lemmas.Finding.{finds_taken}

@@ -1,9 +1,4 @@
-use Rattle.std.proofs.Common.{sym, ◌∙◌, refl, ap, subst, List}
-use Rattle.fb_types.specs.Names.{Name, with_value}
-use Rattle.fb_types.specs.Values.{fits}
-use Rattle.fb_types.specs.Repeated.{Twice}
-use Rattle.fb_st.specs.declared.frame.Slot.{Slot}
-use Rattle.fb_st.specs.Frames.{values_of, index_of, types_in, declared_in}
+use Rattle.fb_st.proofs.lemmas.Common.{sym, ◌∙◌, refl, ap, subst, List, Name, with_value, fits, Twice, Slot, values_of, index_of, types_in, declared_in}
 use Rattle.fb_st.proofs.lemmas.Slots.{declared_somewhere, index_within, set_declared, set_names, slot_there, type_here, written}
 use Rattle.fb_st.proofs.frame.Frame.assign.Goals as goal
 

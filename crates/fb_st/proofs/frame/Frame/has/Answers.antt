@@ -1,6 +1,4 @@
-use Rattle.std.proofs.Common.{sym, ◌∙◌, ap}
-use Rattle.std.specs.List.{list_any}
-use Rattle.fb_types.specs.Names.{same_name}
+use Rattle.fb_types.proofs.Common.{sym, ◌∙◌, ap, list_any, same_name}
 use Rattle.fb_st.proofs.lemmas.Once.{tested}
 use Rattle.fb_st.proofs.frame.Frame.has.Goals as goal
 

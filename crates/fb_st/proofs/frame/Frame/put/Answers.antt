@@ -1,8 +1,4 @@
-use Rattle.std.proofs.Common.{sym, ◌∙◌, ap, subst, List}
-use Rattle.fb_types.specs.Names.{Name, with_value}
-use Rattle.fb_types.specs.Repeated.{Twice}
-use Rattle.fb_st.specs.declared.frame.Slot.{Slot}
-use Rattle.fb_st.specs.Frames.{values_of, index_of, declared_in}
+use Rattle.fb_st.proofs.lemmas.Common.{sym, ◌∙◌, ap, subst, List, Name, with_value, Twice, Slot, values_of, index_of, declared_in}
 use Rattle.fb_st.proofs.lemmas.Slots.{declared_somewhere, index_within, set_declared, set_names, slot_there, written}
 use Rattle.fb_st.proofs.frame.Frame.put.Goals as goal
 

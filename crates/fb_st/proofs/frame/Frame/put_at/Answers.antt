@@ -1,9 +1,5 @@
-use Rattle.std.proofs.Common.{◌≡◌, List, sym, ◌∙◌, ap, subst}
-use Rattle.std.specs.Prelude.{slice_get, MatchOption}
-use Rattle.fb_types.specs.Names.{Name, with_value}
-use Rattle.fb_types.specs.Repeated.{Twice}
-use Rattle.fb_st.specs.declared.frame.Slot.{Slot}
-use Rattle.fb_st.specs.Frames.{declared_in, values_of}
+use Rattle.fb_st.proofs.lemmas.Common.{◌≡◌, List, sym, ◌∙◌, ap, subst, slice_get, Name, with_value, Twice, Slot, declared_in, values_of}
+use Rattle.fb_types.proofs.Common.{MatchOption}
 use Rattle.fb_st.proofs.lemmas.Slots.{set_declared, set_names, slot_there, write_at, write_past}
 use Rattle.fb_st.proofs.frame.Frame.put_at.Goals as goal
 

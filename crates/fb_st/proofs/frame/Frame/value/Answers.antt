@@ -1,6 +1,4 @@
-use Rattle.std.proofs.Common.{List, sym, ◌∙◌, ap}
-use Rattle.fb_st.specs.declared.frame.Slot.{Slot}
-use Rattle.fb_st.specs.Frames.{values_of}
+use Rattle.fb_st.proofs.lemmas.Common.{List, sym, ◌∙◌, ap, Slot, values_of}
 use Rattle.fb_st.proofs.lemmas.Slots.{index_within, slot_there, value_here, value_nowhere}
 use Rattle.fb_st.proofs.frame.Frame.value.Goals as goal
 

@@ -1,9 +1,5 @@
-use Rattle.std.proofs.Common.{◌≡◌, List, refl, subst}
-use Rattle.std.specs.Prelude.{slice_get, MatchOption}
-use Rattle.fb_types.specs.Flat.{zero_value}
-use Rattle.fb_types.specs.declared.value.Value.{Value}
-use Rattle.fb_st.specs.declared.frame.Slot.{Slot}
-use Rattle.fb_st.specs.Frames.{declared_in, values_of}
+use Rattle.fb_st.proofs.lemmas.Common.{◌≡◌, List, refl, subst, slice_get, Value, Slot, declared_in, values_of}
+use Rattle.fb_types.proofs.Common.{MatchOption, zero_value}
 use Rattle.fb_st.proofs.lemmas.Slots.{read_at, read_past}
 use Rattle.fb_st.proofs.frame.Frame.value_at.Goals as goal
 

@@ -1,9 +1,6 @@
-use Rattle.std.proofs.Common.{◌≡◌, ◌<◌, ℕ, List, true, refl, sym, ◌∙◌, ap, length, get_or, subst}
-use Rattle.std.proofs.lemmas.Option.{slice_get_read}
-use Rattle.fb_types.specs.Names.{same_name}
+use Rattle.fb_st.proofs.lemmas.Common.{◌≡◌, ◌<◌, ℕ, List, true, refl, sym, ◌∙◌, ap, length, get_or, subst, slice_get_read, same_name, Declared, name_at}
 use Rattle.fb_types.proofs.lemmas.names.NameLaws.{same_from_same_name}
-use Rattle.fb_st.specs.Frames.{Declared}
-use Rattle.fb_st.specs.Fitting.{name_at, name_or}
+use Rattle.fb_st.specs.Fitting.{name_or}
 use Rattle.fb_st.proofs.layout.Layout.is_named.Goals as goal
 
 pub returns-in-Some : goal.returns-in-Some

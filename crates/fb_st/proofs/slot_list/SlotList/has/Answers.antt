@@ -1,6 +1,4 @@
-use Rattle.std.proofs.Common.{◌∙◌, ap}
-use Rattle.std.specs.List.{list_any}
-use Rattle.fb_types.specs.Names.{same_name}
+use Rattle.fb_types.proofs.Common.{◌∙◌, ap, list_any, same_name}
 use Rattle.fb_st.proofs.lemmas.KeptAs.{kept_any}
 use Rattle.fb_st.proofs.slot_list.SlotList.has.Goals as goal
 

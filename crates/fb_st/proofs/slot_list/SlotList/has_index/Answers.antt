@@ -1,5 +1,4 @@
-use Rattle.std.proofs.Common.{◌≡◌, length, sym, ◌∙◌, ap, arith}
-use Rattle.std.proofs.lemmas.Bool.Decides.{nat_tests}
+use Rattle.fb_types.proofs.Common.{◌≡◌, length, sym, ◌∙◌, ap, arith, nat_tests}
 use Rattle.fb_st.proofs.lemmas.KeptAs.{kept_length}
 use Rattle.fb_st.proofs.slot_list.SlotList.has_index.Goals as goal
 

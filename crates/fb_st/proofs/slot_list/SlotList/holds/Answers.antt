@@ -1,9 +1,4 @@
-use Rattle.std.proofs.Common.{◌<◌, ℕ, ℤ, List, refl, sym, ◌∙◌, ap, length, subst}
-use Rattle.std.specs.Prelude.{slice_get}
-use Rattle.std.proofs.lemmas.Option.{slice_get_read}
-use Rattle.fb_types.specs.Values.{fits}
-use Rattle.fb_st.specs.declared.frame.Slot.{Slot}
-use Rattle.fb_st.specs.declared.slot_list.Kept.{Kept}
+use Rattle.fb_st.proofs.lemmas.Common.{◌<◌, ℕ, ℤ, List, refl, sym, ◌∙◌, ap, length, subst, slice_get, slice_get_read, fits, Slot, Kept}
 use Rattle.fb_st.proofs.lemmas.KeptAs.{kept_is, kept_within}
 use Rattle.fb_st.proofs.slot_list.SlotList.holds.Goals as goal
 

@@ -1,11 +1,5 @@
-use Rattle.std.proofs.Common.{ℤ, List, length, map, sym, ◌∙◌, ap, subst}
-use Rattle.fb_types.specs.Names.{Name}
-use Rattle.fb_types.specs.Repeated.{Twice}
-use Rattle.fb_types.specs.Values.{truth_of}
-use Rattle.fb_st.specs.Compiled.{fits_truth, truth_at, truth_said}
-use Rattle.fb_st.specs.Frames.{Declared, values_of}
-use Rattle.fb_st.specs.Fitting.{expr_of_truth, kinds_truth}
-use Rattle.fb_st.specs.declared.slot_list.Kept.{Kept}
+use Rattle.fb_st.proofs.lemmas.Common.{ℤ, List, length, map, sym, ◌∙◌, ap, subst, Name, Twice, truth_of, fits_truth, truth_said, Declared, values_of, expr_of_truth, kinds_truth, Kept}
+use Rattle.fb_st.specs.Compiled.{truth_at}
 use Rattle.fb_st.proofs.lemmas.Comes.{both_true, condition_comes}
 use Rattle.fb_st.proofs.lemmas.KeptAs.{plain_layout}
 use Rattle.fb_st.proofs.lemmas.Slots.{names_declared}

@@ -1,10 +1,4 @@
-use Rattle.std.proofs.Common.{◌≡◌, ◌<◌, ℕ, List, true, refl, sym, ◌∙◌, ap, length, get_or, subst}
-use Rattle.std.proofs.lemmas.Option.{slice_get_read}
-use Rattle.fb_types.specs.Names.{same_name}
-use Rattle.fb_types.specs.Repeated.{Twice}
-use Rattle.fb_st.specs.declared.frame.Slot.{Slot}
-use Rattle.fb_st.specs.declared.slot_list.Kept.{Kept}
-use Rattle.fb_st.specs.Frames.{index_of, names_of}
+use Rattle.fb_st.proofs.lemmas.Common.{◌≡◌, ◌<◌, ℕ, List, true, refl, sym, ◌∙◌, ap, length, get_or, subst, slice_get_read, same_name, Twice, Slot, Kept, index_of, names_of}
 use Rattle.fb_st.proofs.lemmas.KeptAs.{kept_named}
 use Rattle.fb_st.proofs.slot_list.SlotList.is_named.Goals as goal
 

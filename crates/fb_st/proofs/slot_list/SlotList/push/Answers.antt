@@ -1,10 +1,8 @@
-use Rattle.std.proofs.Common.{ℤ, List, [], ◌∷◌, ◌++◌, length-append, sym, ◌∙◌, ap, rules, arith, to_z-of_z}
+use Rattle.fb_st.proofs.lemmas.Common.{ℤ, List, [], ◌∷◌, ◌++◌, sym, ◌∙◌, ap, rules, arith, to_z-of_z, Value, Slot, Kept}
+use Rattle.fb_types.proofs.Common.{length-append}
 use mir.Syntax.{w64}
 use mir.Val.{SFits}
-use Rattle.fb_types.specs.declared.value.Value.{Value}
 use Rattle.fb_st.specs.Kept.{kept_as}
-use Rattle.fb_st.specs.declared.frame.Slot.{Slot}
-use Rattle.fb_st.specs.declared.slot_list.Kept.{Kept}
 use Rattle.fb_st.proofs.lemmas.Comes.{both_true}
 use Rattle.fb_st.proofs.lemmas.KeptAs.{kept_push, none_so, plain_push}
 use Rattle.fb_st.proofs.slot_list.SlotList.push.Goals as goal

@@ -1,12 +1,6 @@
-use Rattle.std.proofs.Common.{◌≡◌, ℤ, List, drop, length, map, sym, ◌∙◌, ap, subst}
-use Rattle.fb_types.specs.Names.{Name}
-use Rattle.fb_types.specs.Repeated.{Twice}
-use Rattle.fb_types.specs.Bodies.{RunsAll, Running}
-use Rattle.fb_st.specs.Flows.{end_of}
-use Rattle.fb_st.specs.Frames.{Declared, declared_in, types_in}
+use Rattle.fb_st.proofs.lemmas.Common.{◌≡◌, ℤ, List, drop, length, map, sym, ◌∙◌, ap, subst, Name, Twice, RunsAll, Running, end_of, Declared, declared_in, types_in, codes_said, spot, Kept}
 use Rattle.fb_st.specs.Kept.{kept_as}
-use Rattle.fb_st.specs.Fitting.{codes_said, held, spot}
-use Rattle.fb_st.specs.declared.slot_list.Kept.{Kept}
+use Rattle.fb_st.specs.Fitting.{held}
 use Rattle.fb_st.proofs.lemmas.KeptAs.{plain_after, plain_layout, ran_there, written_back}
 use Rattle.fb_st.proofs.lemmas.Slots.{names_declared}
 use Rattle.fb_st.proofs.slot_list.SlotList.run.Goals as goal

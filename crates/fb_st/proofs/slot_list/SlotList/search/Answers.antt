@@ -1,6 +1,4 @@
-use Rattle.std.proofs.Common.{◌∙◌, ap}
-use Rattle.std.specs.Prelude.{position}
-use Rattle.fb_types.specs.Names.{same_name}
+use Rattle.fb_types.proofs.Common.{◌∙◌, ap, position, same_name}
 use Rattle.fb_st.specs.Frames.{index_of}
 use Rattle.fb_st.proofs.lemmas.KeptAs.{kept_index}
 use Rattle.fb_st.proofs.slot_list.SlotList.search.Goals as goal

@@ -1,10 +1,6 @@
-use Rattle.std.proofs.Common.{◌<◌, ℕ, ℤ, List, set, refl, sym, ◌∙◌, ap, length, subst, arith, rules, to_z-of_z}
-use Rattle.std.specs.Prelude.{slice_get}
+use Rattle.fb_st.proofs.lemmas.Common.{◌<◌, ℕ, ℤ, List, set, refl, sym, ◌∙◌, ap, length, subst, arith, rules, to_z-of_z, slice_get, slice_get_read, Slot, Kept}
 use mir.Syntax.{w64}
 use mir.Val.{SFits}
-use Rattle.std.proofs.lemmas.Option.{slice_get_read}
-use Rattle.fb_st.specs.declared.frame.Slot.{Slot}
-use Rattle.fb_st.specs.declared.slot_list.Kept.{Kept}
 use Rattle.fb_st.proofs.lemmas.KeptAs.{kept_within, set_both}
 use Rattle.fb_st.proofs.slot_list.SlotList.set_any.Goals as goal
 

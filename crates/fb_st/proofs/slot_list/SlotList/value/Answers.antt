@@ -1,13 +1,7 @@
-use Rattle.std.proofs.Common.{◌<◌, ℕ, ℤ, List, Option, refl, sym, ◌∙◌, ap, length, subst, arith, rules, to_z-of_z}
-use Rattle.std.specs.Prelude.{slice_get, unwrap_or, pos}
+use Rattle.fb_st.proofs.lemmas.Common.{◌<◌, ℕ, ℤ, List, Option, refl, sym, ◌∙◌, ap, length, subst, arith, rules, to_z-of_z, slice_get, pos, slice_get_read, Value, Slot, Kept, word_at, value_of_word}
+use Rattle.fb_types.proofs.Common.{unwrap_or, get_or_from_slice_get}
 use mir.Syntax.{w64}
 use mir.Val.{SFits}
-use Rattle.std.proofs.lemmas.Option.{get_or_from_slice_get, slice_get_read}
-use Rattle.fb_types.specs.declared.value.Value.{Value}
-use Rattle.fb_st.specs.declared.frame.Slot.{Slot}
-use Rattle.fb_st.specs.declared.slot_list.Kept.{Kept}
-use Rattle.fb_st.specs.Compiled.{word_at}
-use Rattle.fb_st.specs.Fitting.{value_of_word}
 use Rattle.fb_st.proofs.lemmas.KeptAs.{kept_is, kept_within}
 use Rattle.fb_st.proofs.slot_list.SlotList.value.Goals as goal
 

@@ -1,6 +1,4 @@
-use Rattle.std.proofs.Common.{◌∷◌, ◌++◌, [], subst, arith}
-use Rattle.fb_types.specs.Simulation.{Taken, after, opening}
-use Rattle.fb_types.specs.Headline.{system_of, stimuli_of}
+use Rattle.fb_types.proofs.Common.{◌∷◌, ◌++◌, [], subst, arith, Taken, after, opening, system_of, stimuli_of}
 use Rattle.fb_net.specs.Events.{event_of}
 use Rattle.fb_sim_machine.proofs.lemmas.AgendaIs.{all_falls, at_left, machine_left, takes_least}
 use Rattle.fb_sim_machine.proofs.lemmas.JoinedRuns.{reaches_more, reaches_none}

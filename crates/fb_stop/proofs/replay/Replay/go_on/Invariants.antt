@@ -1,7 +1,4 @@
-use Rattle.std.proofs.Common.{ℕ, List}
-use Rattle.fb_types.specs.Headline.{system_of, stimuli_of}
-use Rattle.fb_types.specs.Simulation.{Taken, opening}
-use Rattle.fb_types.specs.States.{Config}
+use Rattle.fb_types.proofs.Common.{ℕ, List, system_of, stimuli_of, Taken, opening, Config}
 use Rattle.fb_sim_machine.specs.Completions.{Reaches}
 use Rattle.fb_sim_machine.specs.Counts.{fuel_of_all}
 use Rattle.fb_sim_machine.specs.Machines.{IsAt, IsReady}

@@ -1,5 +1,4 @@
-use Rattle.fb_types.specs.Headline.{system_of}
-use Rattle.fb_types.specs.Simulation.{opening_state}
+use Rattle.fb_types.proofs.Common.{system_of, opening_state}
 use Rattle.fb_net.proofs.lemmas.blocks.Charts.{no_charts}
 use Rattle.fb_stop.proofs.lemmas.copies.Copying.{copies_more, no_copies}
 use Rattle.fb_stop.proofs.replay.Replay.open.Goals as goal

@@ -1,5 +1,4 @@
-use Rattle.fb_types.specs.Headline.{system_of}
-use Rattle.fb_types.specs.Simulation.{opening_state}
+use Rattle.fb_types.proofs.Common.{system_of, opening_state}
 use Rattle.fb_net.specs.Opening.{AreCharts}
 use Rattle.fb_stop.specs.Copies.{AreCopies}
 use Rattle.fb_stop.proofs.replay.Replay.open.Given as goal

@@ -1,9 +1,4 @@
-use Rattle.std.proofs.Common.{◌≡◌, ◌<◌, ◌++◌, ◌∙◌, List, length, map, refl, ap, arith}
-use Rattle.std.proofs.lemmas.Option.{slice_get_read}
-use Rattle.fb_types.specs.Headline.{system_of}
-use Rattle.fb_types.specs.Keys.{without}
-use Rattle.fb_types.specs.Numbers.{line_of}
-use Rattle.fb_types.specs.declared.run.Line.{Line}
+use Rattle.fb_types.proofs.Common.{◌≡◌, ◌<◌, ◌++◌, ◌∙◌, List, length, map, refl, ap, arith, slice_get_read, system_of, without, line_of, Line}
 use Rattle.fb_types.proofs.lemmas.lists.ByIndex.{element_at}
 use Rattle.fb_net.specs.Events.{event_of}
 use Rattle.fb_stop.proofs.lemmas.runs.Stepping.{copies_after, has_stepped, is_site, left_is, stopping_if}

@@ -1,5 +1,4 @@
-use Rattle.std.proofs.Common.{◌<◌, length, arith, sym}
-use Rattle.fb_system.specs.Ends.{IsSourceRowAt}
+use Rattle.fb_system.proofs.lemmas.Common.{◌<◌, length, arith, sym, IsSourceRowAt}
 use Rattle.fb_system.proofs.lemmas.rows.InRanges.{found, found_within}
 use Rattle.fb_system.proofs.ends.Ends.source.Goals as goal
 

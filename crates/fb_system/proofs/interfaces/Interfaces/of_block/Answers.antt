@@ -1,5 +1,4 @@
-use Rattle.std.proofs.Common.{◌<◌, length, refl, arith}
-use Rattle.std.proofs.lemmas.Option.{slice_get_read, slice_get_within}
+use Rattle.fb_types.proofs.Common.{◌<◌, length, refl, arith, slice_get_read, slice_get_within}
 use Rattle.fb_system.proofs.interfaces.Interfaces.of_block.Goals as goal
 
 pub returns : goal.returns

@@ -1,7 +1,4 @@
-use Rattle.std.proofs.Common.{◌<◌, List, length, sym, subst}
-use Rattle.fb_system.specs.declared.with_indexes.WithIndexes.{WithIndexes}
-use Rattle.fb_types.specs.Blocks.{ports_of_event_block}
-use Rattle.fb_system.specs.IndexLists.{AreWithIndexes}
+use Rattle.fb_system.proofs.lemmas.Common.{◌<◌, List, length, sym, subst, ports_of_event_block, WithIndexes, AreWithIndexes}
 use Rattle.fb_system.proofs.lemmas.types.EventBlocks.{entry_within, entry_stands}
 use Rattle.fb_system.proofs.interfaces.Interfaces.of_event_block.Goals as goal
 

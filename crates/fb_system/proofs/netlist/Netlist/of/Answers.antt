@@ -1,8 +1,5 @@
-use Rattle.std.proofs.Common.{◌≡◌, List, Option, subst}
-use Rattle.fb_types.specs.declared.library.BlockType.{BlockType}
+use Rattle.fb_system.proofs.lemmas.Common.{◌≡◌, List, Option, subst, BlockType, NetworkNumbers, AreNarrow}
 use Rattle.fb_system.specs.Layouts.{IsLayout}
-use Rattle.fb_check_names.specs.declared.numbers.NetworkNumbers.{NetworkNumbers}
-use Rattle.fb_system.specs.Networks.{AreNarrow}
 use Rattle.fb_system.proofs.lemmas.rows.MadeTables.{ok_read, tables_made}
 use Rattle.fb_system.proofs.netlist.Netlist.of.Goals as goal
 

@@ -1,7 +1,6 @@
-use Rattle.std.proofs.Common.{◌≡◌, ◌+◌, ◌<◌, ℕ, Bool, true, false, get_or, refl, subst}
+use Rattle.fb_system.proofs.lemmas.Common.{◌≡◌, ◌+◌, ◌<◌, ℕ, Bool, true, false, get_or, refl, subst, RowRanges}
 use mir.Val.{bool_byte}
 use Rattle.fb_system.specs.RowRanges.{end_of}
-use Rattle.fb_system.specs.declared.row_ranges.RowRanges.{RowRanges}
 use Rattle.fb_system.proofs.row_ranges.RowRanges.row.Goals as goal
 
 ends : (ranges : RowRanges) (second : Bool) → get_or ranges.bounds (bool_byte second + 1) 0 ≡ end_of ranges second

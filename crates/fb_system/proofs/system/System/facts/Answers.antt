@@ -1,6 +1,4 @@
-use Rattle.std.proofs.Common.{subst}
-use Rattle.fb_types.specs.Limits.{IsWithinLimits}
-use Rattle.fb_types.specs.declared.deploy.Plan.{Plan}
+use Rattle.fb_types.proofs.Common.{subst, IsWithinLimits, Plan}
 use Rattle.fb_system.proofs.lemmas.inputs.TablesOfInputs.{accepted_seen, few_of, numbered_seen, plan_seen}
 use Rattle.fb_system.proofs.system.System.facts.Goals as goal
 

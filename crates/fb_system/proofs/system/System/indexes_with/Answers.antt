@@ -1,7 +1,4 @@
-use Rattle.std.proofs.Common.{◌<◌, Bool, cond, length, subst, sym}
-use Rattle.fb_types.specs.Headline.{system_of}
-use Rattle.fb_types.specs.Numbers.{path_at, ports_at}
-use Rattle.fb_system.specs.IndexLists.{AreIndexes}
+use Rattle.fb_system.proofs.lemmas.Common.{◌<◌, Bool, cond, length, subst, sym, system_of, path_at, ports_at, AreIndexes}
 use Rattle.fb_system.specs.PortRows.{names_of, variables_of}
 use Rattle.fb_system.proofs.system.System.indexes_with.Goals as goal
 

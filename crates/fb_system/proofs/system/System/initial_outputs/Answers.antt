@@ -1,5 +1,4 @@
-use Rattle.fb_types.specs.Headline.{system_of}
-use Rattle.fb_types.specs.Numbers.{path_at}
+use Rattle.fb_types.proofs.Common.{system_of, path_at}
 use Rattle.fb_system.proofs.lemmas.values.InitialInputs.{outputs_begun}
 use Rattle.fb_system.proofs.lemmas.inputs.TablesOfInputs.{ok_seen}
 use Rattle.fb_system.proofs.system.System.initial_outputs.Goals as goal

@@ -1,5 +1,4 @@
-use Rattle.std.proofs.Common.{◌∙◌, ap, ℕ, Option}
-use Rattle.std.specs.Prelude.{unwrap_or}
+use Rattle.fb_types.proofs.Common.{◌∙◌, ap, ℕ, Option, unwrap_or}
 use Rattle.fb_system.proofs.lemmas.inputs.TablesOfInputs.{link_seen}
 use Rattle.fb_system.proofs.system.System.link.Goals as goal
 

@@ -1,6 +1,5 @@
-use Rattle.std.proofs.Common.{subst, sym}
-use Rattle.fb_system.specs.Systems.{IsBare, AreTables}
-use Rattle.fb_system.specs.declared.whole.Whole.{Whole}
+use Rattle.fb_system.proofs.lemmas.Common.{subst, sym, AreTables, Whole}
+use Rattle.fb_system.specs.Systems.{IsBare}
 use Rattle.fb_system.proofs.lemmas.rows.KeptRows.{without_rows}
 use Rattle.fb_system.proofs.system.System.of_tables.Goals as goal
 

@@ -1,6 +1,4 @@
-use Rattle.std.proofs.Common.{ℕ, ◌<◌, length, ap, subst, sym, ◌∙◌}
-use Rattle.fb_types.specs.Headline.{system_of}
-use Rattle.fb_types.specs.Numbers.{path_at}
+use Rattle.fb_types.proofs.Common.{ℕ, ◌<◌, length, ap, subst, sym, ◌∙◌, system_of, path_at}
 use Rattle.fb_system.proofs.lemmas.rows.Bounds.{resource_named}
 use Rattle.fb_system.proofs.lemmas.inputs.TablesOfInputs.{port_there, reached_leads, reached_more, reached_within}
 use Rattle.fb_system.proofs.lemmas.networks.SameResource.{leads_nowhere, leads_on, target_there, together}

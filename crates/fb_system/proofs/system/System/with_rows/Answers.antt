@@ -1,6 +1,5 @@
-use Rattle.std.proofs.Common.{◌≡◌, subst, sym}
+use Rattle.fb_system.proofs.lemmas.Common.{◌≡◌, subst, sym, Whole}
 use Rattle.fb_system.specs.Systems.{HaveRows}
-use Rattle.fb_system.specs.declared.whole.Whole.{Whole}
 use Rattle.fb_system.proofs.lemmas.rows.KeptRows.{with_rows}
 use Rattle.fb_system.proofs.lemmas.inputs.TablesOfInputs.{ok_read}
 use Rattle.fb_system.proofs.system.System.with_rows.Goals as goal

@@ -1,5 +1,4 @@
-use Rattle.std.proofs.Common.{ℕ, List, ap₂, subst, sym, ◌∙◌}
-use Rattle.std.specs.List.{AllZip}
+use Rattle.fb_types.proofs.Common.{ℕ, List, ap₂, subst, sym, ◌∙◌, AllZip}
 use Rattle.fb_window.specs.Jobs.{Does, JobModel, jobs_of}
 use Rattle.fb_window.specs.Leaving.{AreLegal}
 use Rattle.fb_window.specs.Reached.{KeepHorizon}

@@ -1,5 +1,4 @@
-use Rattle.std.proofs.Common.{◌<◌, List, subst, arith}
-use Rattle.std.proofs.lemmas.List.{get_or_default}
+use Rattle.fb_types.proofs.Common.{◌<◌, List, subst, arith, get_or_default}
 use Rattle.fb_trace.specs.DigitRows.{IsMade}
 use Rattle.fb_trace.specs.declared.digit_rows.DigitRow.{DigitRow}
 use Rattle.fb_trace.proofs.digit_rows.DigitRows.prepare.Goals as goal

@@ -1,5 +1,4 @@
-use Rattle.std.proofs.Common.{◌-◌, ◌∙◌, refl, sym, arith}
-use Rattle.std.proofs.lemmas.List.{length-take-le}
+use Rattle.fb_types.proofs.Common.{◌-◌, ◌∙◌, refl, sym, arith, length-take-le}
 use Rattle.fb_trace.proofs.lemmas.digits.Digits.{digits_moved, few_digits, with_blank}
 use Rattle.fb_trace.proofs.number.LastNumber.of.Goals as goal
 

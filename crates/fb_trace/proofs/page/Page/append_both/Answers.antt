@@ -1,5 +1,4 @@
-use Rattle.std.proofs.Common.{◌≡◌, ◌+◌, ◌++◌, take, length, List, ℕ, ap, sym, ◌∙◌, arith}
-use Rattle.std.proofs.lemmas.List.{length-take-le}
+use Rattle.fb_types.proofs.Common.{◌≡◌, ◌+◌, ◌++◌, take, length, List, ℕ, ap, sym, ◌∙◌, arith, length-take-le}
 use Rattle.fb_trace.specs.Page.{Page}
 use Rattle.fb_trace.proofs.lemmas.digits.CopiedRows.{fronts_of_rows}
 use Rattle.fb_trace.proofs.page.Page.append_both.Goals as goal

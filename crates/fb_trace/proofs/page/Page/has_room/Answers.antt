@@ -1,6 +1,4 @@
-use Rattle.std.proofs.Common.{◌≡◌, length, ap, sym, ◌∙◌, arith}
-use Rattle.std.proofs.lemmas.Bool.{leb-true, le-leb}
-use Rattle.std.proofs.lemmas.List.{length-take-le}
+use Rattle.fb_types.proofs.Common.{◌≡◌, length, ap, sym, ◌∙◌, arith, leb-true, le-leb, length-take-le}
 use Rattle.fb_trace.specs.Page.{Page}
 use Rattle.fb_trace.proofs.page.Page.has_room.Goals as goal
 

@@ -1,7 +1,5 @@
-use Rattle.std.proofs.Common.{List, [], ◌∷◌, ◌++◌, ◌≡◌, ap, subst, ◌∙◌}
-use Rattle.std.proofs.lemmas.Result.{on_ok_weaker}
+use Rattle.fb_types.proofs.Common.{List, [], ◌∷◌, ◌++◌, ◌≡◌, ap, subst, ◌∙◌, on_ok_weaker, Value}
 use Rattle.fb_types.specs.declared.run.Emission.{Emission}
-use Rattle.fb_types.specs.declared.value.Value.{Value}
 use Rattle.fb_types.proofs.lemmas.events.Emitting.{first_pushed}
 use Rattle.fb_types.proofs.emits.Emits.push_one.Goals as goal
 

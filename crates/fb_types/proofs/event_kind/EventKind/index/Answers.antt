@@ -1,8 +1,6 @@
-use Rattle.std.proofs.Common.{◌≡◌, refl}
+use Rattle.fb_types.proofs.Common.{◌≡◌, refl, kind_index, EventKind}
 use denote.Enum.Declared.{tag_of}
-use Rattle.fb_types.specs.Blocks.{kind_index}
 use Rattle.fb_types.specs.contracts.event_kind.EventKind.{the_type}
-use Rattle.fb_types.specs.declared.event_kind.EventKind.{EventKind}
 use Rattle.fb_types.specs.declared.event_kind.EventKind.TheVariants as kind
 use Rattle.fb_types.proofs.event_kind.EventKind.index.Goals as goal
 

@@ -1,7 +1,4 @@
-use Rattle.std.proofs.Common.{◌≡◌, true, false, Option, None, Some, sym, ◌∙◌}
-use Rattle.std.specs.Prelude.{codes, if◌then◌else◌}
-use Rattle.fb_types.specs.Names.{same_name}
-use Rattle.fb_types.specs.declared.function.Function.{Function}
+use Rattle.fb_types.proofs.Common.{◌≡◌, true, false, Option, None, Some, sym, ◌∙◌, codes, if◌then◌else◌, same_name, Function}
 use Rattle.fb_types.specs.declared.function.Function.TheVariants.{Min, Max, Abs, Limit, Sel}
 use Rattle.fb_types.proofs.function.Function.named.Goals as goal
 

@@ -1,6 +1,4 @@
-use Rattle.std.proofs.Common.{Option, sym, ap}
-use Rattle.fb_types.specs.Blocks.{initial_of}
-use Rattle.fb_types.specs.declared.value.Value.{Value}
+use Rattle.fb_types.proofs.Common.{Option, sym, ap, initial_of, Value}
 use Rattle.fb_types.proofs.library.Variable.first_value.Goals as goal
 
 pub returns-in-Some-default : goal.returns-in-Some-default

@@ -1,6 +1,4 @@
-use Rattle.std.proofs.Common.{Option, sym, ap, ◌∙◌}
-use Rattle.fb_types.specs.Kinds.{declared_right}
-use Rattle.fb_types.specs.declared.value.Value.{Value}
+use Rattle.fb_types.proofs.Common.{Option, sym, ap, ◌∙◌, declared_right, Value}
 use Rattle.fb_types.proofs.library.Variable.is_declared_right.Goals as goal
 
 pub returns-in-Some : goal.returns-in-Some

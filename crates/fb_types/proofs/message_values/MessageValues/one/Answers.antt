@@ -1,9 +1,7 @@
-use Rattle.std.proofs.Common.{ℤ, [], ◌∷◌, sym, ap, ◌∙◌, rules, to_z-of_z}
+use Rattle.fb_types.proofs.Common.{ℤ, [], ◌∷◌, sym, ap, ◌∙◌, rules, to_z-of_z, Carried, Value}
 use mir.Syntax.{w128}
 use mir.Val.{SFits}
 use Rattle.fb_types.specs.Carrying.{values_in}
-use Rattle.fb_types.specs.declared.run.Carried.{Carried}
-use Rattle.fb_types.specs.declared.value.Value.{Value}
 use Rattle.fb_types.specs.declared.value.Value.TheVariants as value
 use Rattle.fb_types.proofs.message_values.MessageValues.one.Goals as goal
 use Rattle.fb_types.proofs.message_values.MessageValues.one.Goals.{in-Bool, in-Whole}

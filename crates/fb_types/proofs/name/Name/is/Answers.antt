@@ -1,6 +1,4 @@
-use Rattle.std.proofs.Common.{◌≡◌, true, sym, ◌∙◌, ap, arith}
-use Rattle.std.proofs.lemmas.Bool.Decides.{nat_tests}
-use Rattle.fb_types.specs.Names.{same_name}
+use Rattle.fb_types.proofs.Common.{◌≡◌, true, sym, ◌∙◌, ap, arith, nat_tests, same_name}
 use Rattle.fb_types.specs.Spelt.{spelt}
 use Rattle.fb_types.proofs.lemmas.names.NameLaws.{same_name-itself}
 use Rattle.fb_types.proofs.lemmas.names.NameNumbers.{is_the_name}

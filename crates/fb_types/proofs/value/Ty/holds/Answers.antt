@@ -1,10 +1,9 @@
-use Rattle.std.proofs.Common.{◌≡◌, ℕ, ℤ, Result, Ok, Err, is_ok, rules, arith, sym, ap, ◌∙◌, to_z-of_z}
+use Rattle.fb_types.proofs.Common.{◌≡◌, ℕ, ℤ, Result, Ok, Err, is_ok, rules, arith, sym, ap, ◌∙◌, to_z-of_z, ints, fits}
 use Rattle.std.specs.Int.{FitsUnsigned}
 use Rattle.std.specs.Result.{OkIff}
-use Rattle.std.proofs.lemmas.Int.{ints}
 use mir.Syntax.{w64, w128}
 use mir.Val.{SFits}
-use Rattle.fb_types.specs.Values.{fits, within_unsigned}
+use Rattle.fb_types.specs.Values.{within_unsigned}
 use Rattle.fb_types.proofs.value.Ty.holds.Goals as goal
 
 in_64_bits : {E : Type 0} (z : ℤ) (n : ℕ) (r : Result ℕ E) → OkIff r (FitsUnsigned w64 z) n → is_ok r ≡ within_unsigned 64 z

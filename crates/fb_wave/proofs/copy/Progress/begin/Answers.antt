@@ -1,5 +1,4 @@
-use Rattle.std.proofs.Common.{ℕ, List, ◌++◌, ap, ◌∙◌}
-use Rattle.fb_types.specs.Headline.{system_of}
+use Rattle.fb_types.proofs.Common.{ℕ, List, ◌++◌, ap, ◌∙◌, system_of}
 use Rattle.fb_wave.specs.Scopes.{head_text}
 use Rattle.fb_wave.proofs.lemmas.Showing.{sets_none}
 use Rattle.fb_wave.proofs.copy.Progress.begin.Goals as goal

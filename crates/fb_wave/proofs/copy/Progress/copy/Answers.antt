@@ -1,15 +1,12 @@
-use Rattle.std.proofs.Common.{◌≡◌, ◌∙◌, ℕ, true, false, List, refl, subst, sym, arith}
-use Rattle.fb_types.specs.Headline.{system_of}
-use Rattle.fb_wave.specs.declared.error.WaveError.TheVariants.{Read}
-use Rattle.fb_wave.specs.Lines.{IsLast, IsNoLast}
-use Rattle.fb_wave.specs.Copying.{IsTaken, RefusesLine}
+use Rattle.fb_wave.proofs.lemmas.Common.{◌≡◌, ◌∙◌, ℕ, true, false, List, refl, subst, sym, arith, system_of, Read, IsLast, RefusesLine, IsRefusedLine}
+use Rattle.fb_wave.specs.Lines.{IsNoLast}
+use Rattle.fb_wave.specs.Copying.{IsTaken}
 use Rattle.fb_wave.specs.CutOff.{BlamesShown, FailsShown, is_cut, is_unended}
 use Rattle.fb_wave.proofs.lemmas.Copied.{copied_all, copied_none, copied_one, fails_front, fails_taken, fails_unfinished, front_copied, front_flushed, front_none}
 use Rattle.fb_wave.proofs.lemmas.Blaming.{end_blamed, line_blamed, some_resource}
 use Rattle.fb_wave.proofs.lemmas.Forming.{ShowsForm, form_shown}
 use Rattle.fb_wave.proofs.lemmas.Handing.{ok_passed, on_fault, on_ok, on_passed}
 use Rattle.fb_wave.proofs.lemmas.Severed.{blames_in, cut_blames, cut_fails, cut_shown, end_no_cut, fails_in, line_no_cut, read_blames, shown_in, uncut_line, write_blames}
-use Rattle.fb_wave.specs.CurrentLines.{IsRefusedLine}
 use Rattle.fb_wave.proofs.lemmas.Current.{cut_current, end_current, line_current}
 use Rattle.fb_wave.proofs.lemmas.Unread.{read_current, read_writes_none}
 use Rattle.fb_wave.proofs.copy.Progress.copy.Goals as goal

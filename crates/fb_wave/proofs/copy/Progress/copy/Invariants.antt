@@ -1,6 +1,4 @@
-use Rattle.std.proofs.Common.{◌≡◌, false}
-use Rattle.fb_types.specs.Headline.{system_of}
-use Rattle.fb_wave.specs.Copying.{IsCopied}
+use Rattle.fb_wave.proofs.lemmas.Common.{◌≡◌, false, system_of, IsCopied}
 use Rattle.fb_wave.proofs.copy.Progress.copy.Given as goal
 
 abbrev pub invariant-loop-number : goal.invariant-loop-number

@@ -1,5 +1,4 @@
-use Rattle.std.proofs.Common.{inr, refl}
-use Rattle.fb_types.specs.Headline.{system_of}
+use Rattle.fb_types.proofs.Common.{inr, refl, system_of}
 use Rattle.fb_wave.proofs.lemmas.Copied.{unfinished_part}
 use Rattle.fb_wave.proofs.lemmas.Handing.{ok_passed, on_passed}
 use Rattle.fb_wave.proofs.lemmas.Unread.{read_end, read_refused_at, read_unfinished}

@@ -1,9 +1,4 @@
-use Rattle.std.proofs.Common.{Option, refl, sym, subst, ◌∙◌, arith}
-use Rattle.std.specs.Prelude.{IfSome}
-use Rattle.fb_types.specs.Headline.{system_of}
-use Rattle.fb_types.specs.declared.run.Line.{Line}
-use Rattle.fb_wave.specs.Copying.{RefusesLine}
-use Rattle.fb_wave.specs.Lines.{IsTextOf}
+use Rattle.fb_wave.proofs.lemmas.Common.{Option, refl, sym, subst, ◌∙◌, arith, IfSome, system_of, Line, RefusesLine, IsTextOf}
 use Rattle.fb_wave.proofs.lemmas.Lining.{same_line}
 use Rattle.fb_wave.proofs.lemmas.Handing.{ok_passed, on_passed}
 use Rattle.fb_wave.proofs.copy.Progress.take.Goals as goal

@@ -1,6 +1,5 @@
 use Rattle.fb_wave.specs.CutOff.{cut_comment}
-use Rattle.fb_wave.specs.Signals.{sizes_of}
-use Rattle.fb_wave.specs.LineSignals.{fires_of, has_signal, touches_of}
+use Rattle.fb_wave.proofs.lemmas.Common.{sizes_of, fires_of, has_signal, touches_of}
 use Rattle.fb_wave.proofs.lemmas.Showing.{sets_cut}
 use Rattle.fb_wave.proofs.lemmas.Handing.{on_put}
 use Rattle.fb_wave.proofs.dump.Dump.cut_off.Goals as goal

@@ -1,7 +1,4 @@
-use Rattle.std.proofs.Common.{◌++◌, ◌∙◌}
-use Rattle.fb_types.specs.Headline.{system_of}
-use Rattle.fb_wave.specs.Signals.{sizes_of}
-use Rattle.fb_wave.specs.LineSignals.{fires_of, has_signal, touches_of}
+use Rattle.fb_wave.proofs.lemmas.Common.{◌++◌, ◌∙◌, system_of, sizes_of, fires_of, has_signal, touches_of}
 use Rattle.fb_wave.proofs.lemmas.Showing.{sets_more}
 use Rattle.fb_wave.proofs.lemmas.Handing.{on_any, on_ok}
 use Rattle.fb_wave.proofs.dump.Dump.take.Goals as goal

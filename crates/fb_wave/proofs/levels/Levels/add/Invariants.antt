@@ -1,5 +1,4 @@
-use Rattle.std.proofs.Common.{ℕ, ◌+◌, ◌-◌, ◌≤◌, []}
-use Rattle.fb_wave.specs.Levels.{AreLevels}
+use Rattle.fb_wave.proofs.lemmas.Common.{ℕ, ◌+◌, ◌-◌, ◌≤◌, [], AreLevels}
 use Rattle.fb_wave.proofs.levels.Levels.add.Given as goal
 
 abbrev pub invariant-loop-left : goal.invariant-loop-left

@@ -1,6 +1,5 @@
-use Rattle.std.proofs.Common.{◌++◌, [], ◌∷◌, set, refl, ap, ◌∙◌}
+use Rattle.fb_wave.proofs.lemmas.Common.{◌++◌, [], ◌∷◌, set, refl, ap, ◌∙◌, Cell}
 use Rattle.fb_wave.specs.Levels.{after_event}
-use Rattle.fb_wave.specs.declared.levels.Cell.{Cell}
 use Rattle.fb_wave.proofs.lemmas.Noting.{fired_one}
 use Rattle.fb_wave.proofs.levels.Levels.fire.Goals as goal
 

@@ -1,5 +1,4 @@
-use Rattle.std.proofs.Common.{true, set, sym, ap, ◌∙◌}
-use Rattle.fb_wave.specs.declared.levels.Cell.{Cell}
+use Rattle.fb_wave.proofs.lemmas.Common.{true, set, sym, ap, ◌∙◌, Cell}
 use Rattle.fb_wave.proofs.lemmas.Noting.{marked_new, marked_old, within_more}
 use Rattle.fb_wave.proofs.levels.Levels.mark.Goals as goal
 

@@ -1,5 +1,4 @@
-use Rattle.std.proofs.Common.{◌++◌, [], ◌∷◌, set, refl, ap}
-use Rattle.fb_wave.specs.declared.levels.Cell.{Cell}
+use Rattle.fb_wave.proofs.lemmas.Common.{◌++◌, [], ◌∷◌, set, refl, ap, Cell}
 use Rattle.fb_wave.specs.declared.levels.Level.TheVariants.{Last}
 use Rattle.fb_wave.proofs.lemmas.Noting.{shown_one}
 use Rattle.fb_wave.proofs.levels.Levels.show.Goals as goal

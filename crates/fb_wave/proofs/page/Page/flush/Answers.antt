@@ -1,6 +1,4 @@
-use Rattle.std.proofs.Common.{◌≡◌, ◌+◌, ℕ, List, [], length, ap, subst, ◌∙◌, arith}
-use Rattle.std.specs.Io.KnownBytes.{Appends}
-use Rattle.std.proofs.lemmas.List.{take_all}
+use Rattle.fb_types.proofs.Common.{◌≡◌, ◌+◌, ℕ, List, [], length, ap, subst, ◌∙◌, arith, Appends, take_all}
 use Rattle.fb_trace.specs.Progress.{Fails, bounded}
 use Rattle.fb_trace.proofs.lemmas.lines.PutPieces.{Fails-direct}
 use Rattle.fb_wave.proofs.page.Page.flush.Goals as goal

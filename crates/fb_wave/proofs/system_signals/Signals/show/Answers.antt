@@ -1,8 +1,4 @@
-use Rattle.std.proofs.Common.{ℕ, ◌+◌, List, [], ◌∷◌, ◌++◌, map, subst, ◌∙◌, arith}
-use Rattle.fb_types.specs.Headline.{system_of}
-use Rattle.fb_types.specs.declared.value.Value.{Value}
-use Rattle.fb_wave.specs.Levels.{AreLevels}
-use Rattle.fb_wave.specs.LineSignals.{pairs}
+use Rattle.fb_wave.proofs.lemmas.Common.{ℕ, ◌+◌, List, [], ◌∷◌, ◌++◌, map, subst, ◌∙◌, arith, system_of, Value, AreLevels, pairs}
 use Rattle.fb_wave.proofs.lemmas.Marking.{line_once, marks_shown}
 use Rattle.fb_wave.proofs.lemmas.Handing.{on_ok}
 use Rattle.fb_wave.proofs.system_signals.Signals.show.Goals as goal

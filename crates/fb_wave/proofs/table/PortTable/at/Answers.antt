@@ -1,7 +1,4 @@
-use Rattle.std.proofs.Common.{◌≡◌, List, ℕ, Some, ◌++◌, length, refl, sym, ap, subst, ◌∙◌}
-use Rattle.std.specs.Prelude.{slice_get}
-use Rattle.std.proofs.lemmas.Option.{slice_get_read}
-use Rattle.fb_types.specs.Headline.{system_of}
+use Rattle.fb_types.proofs.Common.{◌≡◌, List, ℕ, Some, ◌++◌, length, refl, sym, ap, subst, ◌∙◌, slice_get, slice_get_read, system_of}
 use Rattle.fb_wave.specs.Ports.{IsPortOf}
 use Rattle.fb_wave.proofs.lemmas.Finding.{no_text_past, none_past, unended_port}
 use Rattle.fb_wave.proofs.lemmas.Gluing.{port_named}

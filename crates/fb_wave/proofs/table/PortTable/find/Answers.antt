@@ -1,7 +1,5 @@
-use Rattle.std.proofs.Common.{ap, sym, ◌∙◌}
+use Rattle.fb_types.proofs.Common.{ap, sym, ◌∙◌, system_of, Name}
 use Rattle.fb_check_names.specs.Indexes.{index_in}
-use Rattle.fb_types.specs.Headline.{system_of}
-use Rattle.fb_types.specs.Names.{Name}
 use Rattle.fb_wave.proofs.lemmas.Finding.{begins_three, front_is_port, port_placed, port_there}
 use Rattle.fb_wave.proofs.lemmas.Handing.{none_then}
 use Rattle.fb_wave.proofs.table.PortTable.find.Goals as goal

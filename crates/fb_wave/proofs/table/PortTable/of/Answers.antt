@@ -1,12 +1,6 @@
-use Rattle.std.proofs.Common.{ℕ, Bor, List, map, Contains, Option, sym, ap, subst, ◌∙◌}
-use Rattle.std.specs.Prelude.{All, MatchOption}
-use Rattle.std.specs.BTreeMap.{BTreeMap}
-use Rattle.fb_types.specs.Headline.{system_of}
-use Rattle.fb_types.specs.Names.{Name}
-use Rattle.fb_types.specs.Repeated.{Twice}
+use Rattle.fb_wave.proofs.lemmas.Common.{ℕ, List, map, Contains, Option, sym, ap, subst, ◌∙◌, All, MatchOption, system_of, Name, Twice, IsPortOf, port_text, Port}
+use Rattle.fb_types.proofs.Common.{Bor, BTreeMap}
 use Rattle.fb_check_names.specs.Indexes.{IsIndex}
-use Rattle.fb_wave.specs.Ports.{IsPortOf, port_text}
-use Rattle.fb_wave.specs.declared.ports.Port.{Port}
 use Rattle.fb_wave.proofs.lemmas.Alike.{texts_differ}
 use Rattle.fb_wave.proofs.table.PortTable.of.Goals as goal
 

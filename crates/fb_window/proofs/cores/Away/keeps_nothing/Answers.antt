@@ -1,13 +1,7 @@
-use Rattle.std.proofs.Common.{◌≡◌, All, List, Option, Some, None, [], refl, sym, ◌∙◌, subst, arith}
-use Rattle.std.specs.Global.{Vec}
-use Rattle.std.specs.Prelude.{slice_get}
-use Rattle.std.proofs.lemmas.Option.{slice_get_read}
-use Rattle.fb_types.specs.declared.run.Line.{Line}
-use Rattle.fb_resource.specs.declared.resource.Resource.{Resource}
+use Rattle.fb_window.proofs.lemmas.Common.{◌≡◌, All, List, Option, Some, None, [], refl, sym, ◌∙◌, subst, arith, Vec, slice_get, slice_get_read, Line, Resource, AwayState}
 use Rattle.fb_laws.proofs.lemmas.lists.Indexes.{is_at}
 use Rattle.fb_laws.proofs.lemmas.lists.Scans.{holds_more}
 use Rattle.fb_window.specs.Texts.{KeepsNothing}
-use Rattle.fb_window.specs.declared.cores.AwayState.{AwayState}
 use Rattle.fb_window.proofs.lemmas.phases.JobsGiven.{is_none}
 use Rattle.fb_window.proofs.lemmas.phases.Targets.{all_by_index}
 use Rattle.fb_window.proofs.cores.Away.keeps_nothing.Goals as goal

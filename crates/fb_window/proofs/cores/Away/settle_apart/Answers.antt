@@ -1,35 +1,14 @@
-use Rattle.std.proofs.Common.{◌≡◌, ◌<◌, ℕ, List, length, refl, sym, ap, subst, ◌∙◌, arith, All}
-use Rattle.std.specs.Global.{Vec}
-use Rattle.std.specs.List.{AllZip}
-use Rattle.std.specs.Prelude.{Some, None, slice_get}
-use Rattle.fb_types.specs.Headline.{AreAccepted, Inputs, system_of, stimuli_of}
-use Rattle.fb_types.specs.Limits.{IsWithinLimits}
-use Rattle.fb_types.specs.declared.key.Key.{Key}
-use Rattle.fb_types.specs.declared.run.Line.{Line}
-use Rattle.fb_agenda.specs.Agendas.{IsNext, waiting}
-use Rattle.fb_system.specs.Lines.{BelongsTo}
-use Rattle.fb_link.specs.Exchanges.{all_of}
-use Rattle.fb_laws.specs.Sound.{AreGood}
-use Rattle.fb_resource.specs.declared.resource.Resource.{Resource}
-use Rattle.fb_window.specs.Homes.{AreHome}
-use Rattle.fb_window.specs.Jobs.{Does}
+use Rattle.fb_window.proofs.lemmas.Common.{◌≡◌, ◌<◌, ℕ, List, length, refl, sym, ap, subst, ◌∙◌, arith, All, Vec, AllZip, Some, None, slice_get, Inputs, system_of, stimuli_of, Key, Line, CoreStep, opening_core, machine, IsSchedule, IsNext, waiting, BelongsTo, all_of, AreGood, Resource, AreHome, Does, lists_of, AreCut, edge_of, ArePosted, core_of, AreLegal, HasLeft, IsAt, AwayState}
+use Rattle.fb_types.proofs.Common.{AreAccepted, IsWithinLimits}
 use Rattle.fb_trace.proofs.lemmas.order.StableSort.{kept}
-use Rattle.fb_window.specs.Settling.{IsMerged, Settles, lists_of, settled_of}
-use Rattle.fb_window.specs.Frontiers.{AreCut, IsEnd, IsFrontier, edge_of}
-use Rattle.fb_window.specs.Mails.{ArePosted}
+use Rattle.fb_window.specs.Settling.{IsMerged, Settles, settled_of}
+use Rattle.fb_window.specs.Frontiers.{IsEnd, IsFrontier}
 use Rattle.fb_window.proofs.lemmas.phases.JobsGiven.{fronts_given}
 use Rattle.fb_window.proofs.lemmas.phases.Passes.{few_resources}
 use Rattle.fb_window.proofs.lemmas.phases.Rounds.{HasGathered, settle_each, settle_reached}
 use Rattle.fb_window.proofs.lemmas.lines.FoundLines.{made_ok}
 use Rattle.fb_window.proofs.lemmas.phases.Targets.{fronts_in, lines_belong, rests_in, targets_in}
-use Rattle.fb_types.specs.Cores.{CoreStep, opening_core}
-use Rattle.fb_types.specs.Parts.{machine}
-use Rattle.fb_types.specs.Schedules.{IsSchedule}
-use Rattle.fb_laws.specs.Finality.{core_of}
-use Rattle.fb_window.specs.Leaving.{AreLegal, HasLeft}
-use Rattle.fb_window.specs.Standing.{IsAt}
 use Rattle.fb_window.specs.Texts.{KeepsNothing}
-use Rattle.fb_window.specs.declared.cores.AwayState.{AwayState}
 use Rattle.fb_window.proofs.cores.Away.settle_apart.Goals as goal
 use Rattle.fb_window.proofs.cores.Away.settle_apart.Goals.{After-end_of-end}
 

@@ -1,15 +1,6 @@
-use Rattle.std.proofs.Common.{◌≡◌, ◌+◌, ◌^◌, ◌<◌, ◌≤◌, ℕ, List, min, max, length, set, Some, slice_get, slice_index, refl, sym, ap, subst, ◌∙◌, arith}
-use Rattle.std.specs.Prelude.{is_some}
-use Rattle.std.proofs.lemmas.Option.{slice_get_read, slice_get_within}
-use Rattle.fb_types.specs.Headline.{Inputs, system_of}
-use Rattle.fb_types.specs.Parts.{count_of}
-use Rattle.fb_laws.specs.Sound.{AreGood}
-use Rattle.fb_types.specs.Systems.{System}
-use Rattle.fb_resource.specs.declared.resource.Resource.{Resource}
-use Rattle.fb_laws.specs.Cuts.{IsCut, LinkAllows, StopAllows}
+use Rattle.fb_window.proofs.lemmas.Common.{◌≡◌, ◌+◌, ◌^◌, ◌<◌, ◌≤◌, ℕ, List, min, max, length, set, Some, slice_get, slice_index, refl, sym, ap, subst, ◌∙◌, arith, is_some, slice_get_read, slice_get_within, Inputs, system_of, count_of, System, AreGood, Resource, IsCut, IsReached, CoreState}
+use Rattle.fb_laws.specs.Cuts.{LinkAllows, StopAllows}
 use Rattle.fb_types.proofs.lemmas.lists.Options.{some_from_is_some, none_from_is_some}
-use Rattle.fb_window.specs.Reached.{IsReached}
-use Rattle.fb_window.specs.declared.cores.CoreState.{CoreState}
 use Rattle.fb_window.proofs.lemmas.bounds.Bounding.{AreComputed, stop_live, stop_taken}
 use Rattle.fb_window.proofs.lemmas.bounds.BoundsAre.{are_greatest, are_legal}
 use Rattle.fb_window.proofs.lemmas.phases.Passes.{clock_of, stop_of, Rests, few_resources, IsLeastOf, least_of, least_cut, AreRaised, raised_more}

@@ -1,6 +1,4 @@
-use Rattle.std.proofs.Common.{subst}
-use Rattle.fb_window.specs.Reached.{IsReached}
-use Rattle.fb_window.specs.declared.cores.CoreState.{CoreState}
+use Rattle.fb_window.proofs.lemmas.Common.{subst, IsReached, CoreState}
 use Rattle.fb_window.proofs.cores.Core.facts.Goals as goal
 
 pub returns : goal.returns

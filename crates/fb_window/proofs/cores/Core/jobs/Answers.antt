@@ -1,15 +1,5 @@
-use Rattle.std.proofs.Common.{◌≡◌, ◌≤◌, ◌∙◌, length, refl, ap, subst, sym, arith}
-use Rattle.std.specs.Global.{Vec}
-use Rattle.fb_types.specs.Headline.{Inputs, system_of}
-use Rattle.fb_types.specs.Parts.{count_of}
-use Rattle.fb_laws.specs.Sound.{AreGood}
-use Rattle.fb_resource.specs.Resources.{IsOf}
-use Rattle.fb_window.specs.Jobs.{JobModel, jobs_of}
-use Rattle.fb_window.specs.Leaving.{AreLegal, HasLeft}
-use Rattle.fb_window.specs.Reached.{KeepHorizon}
+use Rattle.fb_window.proofs.lemmas.Common.{◌≡◌, ◌≤◌, ◌∙◌, length, refl, ap, subst, sym, arith, Vec, Inputs, system_of, count_of, AreGood, IsOf, JobModel, jobs_of, AreLegal, HasLeft, KeepHorizon, AwayState, CoreState}
 use Rattle.fb_window.specs.Reaching.{OfEachCore}
-use Rattle.fb_window.specs.declared.cores.AwayState.{AwayState}
-use Rattle.fb_window.specs.declared.cores.CoreState.{CoreState}
 use Rattle.fb_window.proofs.lemmas.bounds.KeptHorizons.{is_away, leave}
 use Rattle.fb_window.proofs.lemmas.phases.Leaves.{jobs_few}
 use Rattle.fb_window.proofs.lemmas.phases.Passes.{few_resources}

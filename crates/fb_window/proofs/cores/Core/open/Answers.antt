@@ -1,7 +1,4 @@
-use Rattle.std.proofs.Common.{◌≡◌, length, ◌∙◌}
-use Rattle.fb_types.specs.Headline.{system_of}
-use Rattle.fb_types.specs.Parts.{count_of}
-use Rattle.fb_laws.specs.Sound.{AreGood}
+use Rattle.fb_window.proofs.lemmas.Common.{◌≡◌, length, ◌∙◌, system_of, count_of, AreGood}
 use Rattle.fb_window.proofs.lemmas.phases.Opens.{opened_at, opened_belong, opened_brought, opened_left, reached_as}
 use Rattle.fb_window.proofs.cores.Core.open.Goals as goal
 

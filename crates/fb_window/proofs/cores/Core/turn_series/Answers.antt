@@ -1,21 +1,7 @@
-use Rattle.std.proofs.Common.{rules, ◌≡◌, ℕ, true, false, All, Option, List, length, refl, sym, ap, subst, ◌∙◌, arith}
-use Rattle.std.specs.Global.{Vec}
-use Rattle.std.specs.Prelude.{IfNone, IfSome, is_some}
-use Rattle.fb_types.specs.Cores.{opening_core}
-use Rattle.fb_types.specs.Headline.{Inputs, stimuli_of, system_of}
-use Rattle.fb_types.specs.Parts.{count_of, machine}
-use Rattle.fb_types.specs.Schedules.{IsSchedule}
-use Rattle.fb_types.specs.declared.run.Line.{Line}
-use Rattle.fb_types.specs.declared.run.StopMark.{StopMark}
+use Rattle.fb_window.proofs.lemmas.Common.{◌≡◌, ℕ, true, false, All, Option, List, length, refl, sym, ap, subst, ◌∙◌, arith, Vec, is_some, opening_core, Inputs, stimuli_of, system_of, count_of, machine, IsSchedule, Line, StopMark, BelongsTo, Resource, AreGood, AreLive, IsFirstStop, AreCurrent, IsReached, KeepHorizon, CoreState}
+use Rattle.fb_types.proofs.Common.{rules, IfNone, IfSome}
 use Rattle.fb_types.proofs.lemmas.lists.Options.{none_from_is_some, some_from_is_some}
-use Rattle.fb_system.specs.Lines.{BelongsTo}
-use Rattle.fb_resource.specs.declared.resource.Resource.{Resource}
-use Rattle.fb_laws.specs.Sound.{AreGood}
-use Rattle.fb_window.specs.Frontiers.{AreLive, IsFirstStop}
-use Rattle.fb_window.specs.Noting.{AreCurrent}
-use Rattle.fb_window.specs.Reached.{IsReached, KeepHorizon}
 use Rattle.fb_window.specs.ManyTurns.{TakesTurns}
-use Rattle.fb_window.specs.declared.cores.CoreState.{CoreState}
 use Rattle.fb_window.proofs.lemmas.bounds.KeptHorizons.{come, is_reached}
 use Rattle.fb_window.proofs.lemmas.turns.TurnByTurn.{by_stop, gone_none}
 use Rattle.fb_window.proofs.cores.Core.turn_series.Goals as goal

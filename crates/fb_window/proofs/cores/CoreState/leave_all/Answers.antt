@@ -1,9 +1,5 @@
-use Rattle.std.proofs.Common.{◌≡◌, ◌^◌, ◌≤◌, ◌++◌, ℕ, List, [], ◌∷◌, Some, length, map, slice_get, sym, ap, subst, ◌∙◌, append_assoc, arith}
-use Rattle.std.specs.Prelude.{slice_index_or}
-use Rattle.std.specs.Vec.Iter.{into_iter_items}
-use Rattle.std.proofs.lemmas.List.{length-map}
-use Rattle.fb_resource.specs.declared.resource.Resource.{Resource}
-use Rattle.fb_window.specs.Jobs.{job_of, jobs_of, resting_of}
+use Rattle.fb_window.proofs.lemmas.Common.{◌≡◌, ◌^◌, ◌≤◌, ◌++◌, ℕ, List, [], ◌∷◌, Some, length, map, slice_get, sym, ap, subst, ◌∙◌, append_assoc, arith, slice_index_or, into_iter_items, Resource, job_of, jobs_of, resting_of}
+use Rattle.fb_types.proofs.Common.{length-map}
 use Rattle.fb_window.proofs.lemmas.phases.Leaves.{jobs_push, map_push, no_more}
 use Rattle.fb_laws.proofs.lemmas.lists.Indexes.{middle_at}
 use Rattle.fb_window.proofs.cores.CoreState.leave_all.Goals as goal

@@ -1,6 +1,4 @@
-use Rattle.std.proofs.Common.{◌≡◌, ◌++◌, length, map}
-use Rattle.std.specs.Vec.Iter.{into_iter_items, into_iter_len}
-use Rattle.fb_window.specs.Jobs.{jobs_of, resting_of}
+use Rattle.fb_window.proofs.lemmas.Common.{◌≡◌, ◌++◌, length, map, into_iter_items, into_iter_len, jobs_of, resting_of}
 use Rattle.fb_window.proofs.cores.CoreState.leave_all.Given as goal
 
 abbrev pub invariant-loop-resource : goal.invariant-loop-resource

@@ -1,12 +1,5 @@
-use Rattle.std.proofs.Common.{◌≡◌, ◌++◌, List, Option, [], ◌∷◌, None, Some, sym, ap, ◌∙◌, subst}
-use Rattle.std.specs.Global.{Vec}
-use Rattle.std.specs.Vec.Iter.{into_iter_items}
-use Rattle.fb_types.specs.declared.run.Line.{Line}
-use Rattle.fb_resource.specs.declared.resource.Resource.{Resource}
-use Rattle.fb_resource.specs.declared.resource.WindowDone.{WindowDone}
-use Rattle.fb_resource.specs.declared.resource.WindowDone.TheVariants.{Ran}
-use Rattle.fb_window.specs.Homes.{AreAwaited, HasGiven, IsHomeTo}
-use Rattle.fb_window.specs.Jobs.{resting_of}
+use Rattle.fb_window.proofs.lemmas.Common.{◌≡◌, ◌++◌, List, Option, [], ◌∷◌, None, Some, sym, ap, ◌∙◌, subst, Vec, into_iter_items, Line, Resource, WindowDone, Ran, AreAwaited, IsHomeTo, resting_of}
+use Rattle.fb_window.specs.Homes.{HasGiven}
 use Rattle.fb_window.proofs.lemmas.phases.JobsGiven.{given_more}
 use Rattle.fb_window.proofs.lemmas.phases.HomeIs.{awaited_ran, awaited_rested, done_awaited, home_ran, home_rested, resting_none, resting_some}
 use Rattle.fb_window.proofs.lemmas.lines.FoundLines.{no_length}

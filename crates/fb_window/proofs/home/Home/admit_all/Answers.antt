@@ -1,11 +1,6 @@
-use Rattle.std.proofs.Common.{◌≡◌, ◌++◌, ℕ, List, Option, None, [], ◌∷◌, length, refl, sym, ap, ◌∙◌, subst, append_assoc, arith}
-use Rattle.std.specs.Prelude.{slice_get}
-use Rattle.std.proofs.lemmas.List.{length-map}
-use Rattle.std.specs.Vec.Iter.{into_iter_items}
+use Rattle.fb_window.proofs.lemmas.Common.{◌≡◌, ◌++◌, ℕ, List, Option, None, [], ◌∷◌, length, refl, sym, ap, ◌∙◌, subst, append_assoc, arith, slice_get, into_iter_items, Resource, AreAwaited, IsHomeTo, resting_of}
+use Rattle.fb_types.proofs.Common.{length-map}
 use Rattle.fb_types.proofs.lemmas.lists.ByIndex.{all_at}
-use Rattle.fb_resource.specs.declared.resource.Resource.{Resource}
-use Rattle.fb_window.specs.Homes.{AreAwaited, IsHomeTo}
-use Rattle.fb_window.specs.Jobs.{resting_of}
 use Rattle.fb_window.proofs.lemmas.phases.JobsGiven.{given_all, given_none}
 use Rattle.fb_window.proofs.lemmas.phases.HomeIs.{home_all}
 use Rattle.fb_window.proofs.lemmas.phases.Leaves.{length_join}

@@ -1,12 +1,5 @@
-use Rattle.std.proofs.Common.{◌≡◌, ◌++◌, ℕ, All, List, None, length, map}
-use Rattle.std.specs.Global.{Vec}
-use Rattle.std.specs.Vec.Iter.{into_iter_items, into_iter_len}
-use Rattle.fb_types.specs.Headline.{Inputs}
-use Rattle.fb_types.specs.declared.run.Line.{Line}
-use Rattle.fb_resource.specs.declared.resource.Resource.{Resource}
-use Rattle.fb_resource.specs.declared.resource.WindowDone.{WindowDone}
-use Rattle.fb_window.specs.Homes.{AreAwaited, HasGiven, IsHomeTo}
-use Rattle.fb_window.specs.Jobs.{resting_of}
+use Rattle.fb_window.proofs.lemmas.Common.{◌≡◌, ◌++◌, ℕ, All, List, None, length, map, Vec, into_iter_items, into_iter_len, Inputs, Line, Resource, WindowDone, AreAwaited, IsHomeTo, resting_of}
+use Rattle.fb_window.specs.Homes.{HasGiven}
 use Rattle.fb_window.proofs.home.Home.admit_all.Given as goal
 
 abbrev pub invariant-loop-rested : goal.invariant-loop-rested

@@ -1,5 +1,4 @@
-use Rattle.std.proofs.Common.{subst}
-use Rattle.fb_window.specs.Jobs.{Does, JobModel}
+use Rattle.fb_window.proofs.lemmas.Common.{subst, Does, JobModel}
 use Rattle.fb_window.proofs.job.Job.run_over.Goals as goal
 
 pub returns : goal.returns

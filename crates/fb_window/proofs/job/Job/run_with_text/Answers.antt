@@ -1,12 +1,8 @@
-use Rattle.std.proofs.Common.{◌≡◌, List, Option, ap, subst, sym}
-use Rattle.std.specs.Prelude.{IfOk, IfSome, Result, Ok, Err}
+use Rattle.fb_window.proofs.lemmas.Common.{◌≡◌, List, Option, ap, subst, sym, Inputs, Line, WindowDone, Does, JobModel}
+use Rattle.fb_types.proofs.Common.{IfOk, IfSome, Result, Ok, Err}
 use Rattle.std.specs.Result.{result_ok}
-use Rattle.fb_types.specs.Headline.{Inputs}
-use Rattle.fb_types.specs.declared.run.Line.{Line}
 use Rattle.fb_trace.specs.Marks.{IsMarkedText}
 use Rattle.fb_trace.specs.declared.marks.MarkedText.{MarkedText}
-use Rattle.fb_resource.specs.declared.resource.WindowDone.{WindowDone}
-use Rattle.fb_window.specs.Jobs.{Does, JobModel}
 use Rattle.fb_window.specs.Texts.{IsTextOf}
 use Rattle.fb_window.proofs.job.Job.run_with_text.Goals as goal
 use Rattle.fb_window.proofs.job.Job.run_with_text.Goals.{in-Ran, in_default}

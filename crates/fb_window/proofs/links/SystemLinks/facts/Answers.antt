@@ -1,5 +1,4 @@
-use Rattle.std.proofs.Common.{subst}
-use Rattle.fb_types.specs.Headline.{AreAccepted}
+use Rattle.fb_types.proofs.Common.{subst, AreAccepted}
 use Rattle.fb_window.proofs.links.SystemLinks.facts.Goals as goal
 
 pub returns-clause-accepted : goal.returns-clause-accepted

@@ -1,5 +1,4 @@
-use Rattle.std.proofs.Common.{◌≡◌, Some, slice_get, refl, arith}
-use Rattle.std.proofs.lemmas.Option.{slice_get_read}
+use Rattle.fb_types.proofs.Common.{◌≡◌, Some, slice_get, refl, arith, slice_get_read}
 use Rattle.fb_window.proofs.lemmas.bounds.NextTicks.{current_all, current_more, current_none}
 use Rattle.fb_window.proofs.nexts.Nexts.of_all.Goals as goal
 

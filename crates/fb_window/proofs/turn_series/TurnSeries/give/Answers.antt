@@ -1,10 +1,4 @@
-use Rattle.std.proofs.Common.{rules, ◌≡◌, ◌<◌, ◌++◌, All, List, [], ◌∷◌, Some, length, refl, sym, ap, subst, ◌∙◌, append_assoc, append-nil, arith}
-use Rattle.std.specs.Prelude.{slice_get}
-use Rattle.std.specs.Vec.Iter.{into_iter_items}
-use Rattle.std.proofs.lemmas.Option.{slice_get_read}
-use Rattle.fb_types.specs.Headline.{Inputs, system_of}
-use Rattle.fb_types.specs.Numbers.{path_at}
-use Rattle.fb_types.specs.declared.run.Message.{Message}
+use Rattle.fb_types.proofs.Common.{rules, ◌≡◌, ◌<◌, ◌++◌, All, List, [], ◌∷◌, Some, length, refl, sym, ap, subst, ◌∙◌, append_assoc, append-nil, arith, slice_get, into_iter_items, slice_get_read, Inputs, system_of, path_at, Message}
 use Rattle.fb_types.proofs.lemmas.lists.ByIndex.{all_at}
 use Rattle.fb_laws.proofs.lemmas.soundness.Accepting.{sound_of}
 use Rattle.fb_link.proofs.lemmas.Lists.{next_of}

@@ -1,5 +1,4 @@
-use Rattle.std.proofs.Common.{◌≡◌, ◌++◌, length}
-use Rattle.std.specs.Vec.Iter.{into_iter_items, into_iter_len}
+use Rattle.fb_types.proofs.Common.{◌≡◌, ◌++◌, length, into_iter_items, into_iter_len}
 use Rattle.fb_window.specs.Turning.{HasGiven, IsSame, MayTurn}
 use Rattle.fb_window.proofs.turn_series.TurnSeries.give.Given as goal
 

@@ -1,10 +1,5 @@
-use Rattle.std.proofs.Common.{◌≡◌, ◌<◌, length, refl, sym, subst, ◌∙◌, arith}
-use Rattle.std.specs.Prelude.{slice_set}
-use Rattle.std.proofs.lemmas.List.{length-set}
-use Rattle.std.proofs.lemmas.Option.{slice_get_read}
-use Rattle.fb_resource.specs.declared.resource.Resource.{Resource}
+use Rattle.fb_window.proofs.lemmas.Common.{◌≡◌, ◌<◌, length, refl, sym, subst, ◌∙◌, arith, slice_set, length-set, slice_get_read, Resource, AreCurrent}
 use Rattle.fb_laws.proofs.lemmas.lists.Indexes.{one_at}
-use Rattle.fb_window.specs.Noting.{AreCurrent}
 use Rattle.fb_window.proofs.lemmas.messages.Receives.{set_same}
 use Rattle.fb_window.proofs.turn_series.TurnSeries.hand.Goals as goal
 use Rattle.fb_window.proofs.turn_series.TurnSeries.hand.Goals.{After-index}

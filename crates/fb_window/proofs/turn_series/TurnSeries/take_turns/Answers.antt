@@ -1,16 +1,5 @@
-use Rattle.std.proofs.Common.{◌≡◌, ℕ, ◌+◌, ◌<◌, ◌≤◌, All, List, Option, Some, None, slice_get, refl, sym, subst, ◌∙◌, arith}
-use Rattle.std.specs.Global.{Vec}
-use Rattle.fb_types.specs.Headline.{Inputs, system_of}
-use Rattle.fb_types.specs.declared.key.Key.{Key}
-use Rattle.fb_types.specs.declared.run.Line.{Line}
-use Rattle.fb_types.specs.declared.run.StopMark.{StopMark}
-use Rattle.fb_system.specs.Lines.{BelongsTo}
-use Rattle.fb_laws.specs.Sound.{AreGood}
-use Rattle.fb_agenda.specs.Agendas.{IsNext, waiting}
-use Rattle.fb_resource.specs.Resources.{IsOf}
-use Rattle.fb_resource.specs.declared.resource.Resource.{Resource}
+use Rattle.fb_window.proofs.lemmas.Common.{◌≡◌, ℕ, ◌+◌, ◌<◌, ◌≤◌, All, List, Option, Some, None, slice_get, refl, sym, subst, ◌∙◌, arith, Vec, Inputs, system_of, Key, Line, StopMark, BelongsTo, AreGood, IsNext, waiting, IsOf, Resource, CoreState}
 use Rattle.fb_window.specs.ManyTurns.{HasTurned}
-use Rattle.fb_window.specs.declared.cores.CoreState.{CoreState}
 use Rattle.fb_types.proofs.lemmas.lists.Options.{none_from_is_some, some_from_is_some}
 use Rattle.fb_laws.proofs.lemmas.lists.Indexes.{is_at, one_at}
 use Rattle.fb_window.proofs.lemmas.turns.OneTurn.{clock_before}

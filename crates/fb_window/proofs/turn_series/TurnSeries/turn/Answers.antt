@@ -1,15 +1,5 @@
-use Rattle.std.proofs.Common.{◌≡◌, ◌<◌, length, refl, sym, ap, subst, ◌∙◌, arith}
-use Rattle.std.specs.Global.{Vec}
-use Rattle.std.specs.Prelude.{slice_set}
-use Rattle.std.proofs.lemmas.List.{length-set}
-use Rattle.std.proofs.lemmas.Option.{slice_get_read}
-use Rattle.fb_types.specs.Headline.{Inputs, system_of}
-use Rattle.fb_types.specs.declared.run.Line.{Line}
+use Rattle.fb_window.proofs.lemmas.Common.{◌≡◌, ◌<◌, length, refl, sym, ap, subst, ◌∙◌, arith, Vec, slice_set, length-set, slice_get_read, Inputs, system_of, Line, Ran, Resource, AreGiven, AreCurrent}
 use Rattle.fb_resource.specs.Resources.{HasRun}
-use Rattle.fb_resource.specs.declared.resource.WindowDone.TheVariants.{Ran}
-use Rattle.fb_resource.specs.declared.resource.Resource.{Resource}
-use Rattle.fb_window.specs.Mails.{AreGiven}
-use Rattle.fb_window.specs.Noting.{AreCurrent}
 use Rattle.fb_laws.proofs.lemmas.lists.Indexes.{one_at}
 use Rattle.fb_window.proofs.lemmas.messages.Receives.{set_same}
 use Rattle.fb_window.proofs.turn_series.TurnSeries.turn.Goals as goal

@@ -1,5 +1,4 @@
-use Rattle.std.proofs.Common.{refl, subst, take, List, ℕ}
-use Rattle.std.specs.Io.KnownBytes.{Appends}
+use Rattle.fb_types.proofs.Common.{refl, subst, take, List, ℕ, Appends}
 use Rattle.fbsim_session.proofs.talking.Console.send.Goals as goal
 
 pub returns-then-taken-len : goal.returns-then-taken-len

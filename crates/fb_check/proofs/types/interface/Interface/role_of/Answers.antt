@@ -1,6 +1,4 @@
-use Rattle.std.proofs.Common.{Some, None, sym, ◌∙◌, ap}
-use Rattle.std.specs.Prelude.{position}
-use Rattle.fb_types.specs.Names.{same_name}
+use Rattle.fb_types.proofs.Common.{Some, None, sym, ◌∙◌, ap, position, same_name}
 use Rattle.fb_check.specs.types.Roles.{names_of}
 use Rattle.fb_check.proofs.lemmas.types.Roles.{role_found}
 use Rattle.fb_check.proofs.types.interface.Interface.role_of.Goals as goal

@@ -1,8 +1,4 @@
-use Rattle.std.proofs.Common.{◌∙◌, ap}
-use Rattle.std.specs.Prelude.{is_some}
-use Rattle.fb_types.specs.Names.{same_name}
-use Rattle.fb_types.specs.Blocks.{among}
-use Rattle.fb_types.specs.Repeated.{algorithm_names}
+use Rattle.fb_types.proofs.Common.{◌∙◌, ap, is_some, same_name, among, algorithm_names}
 use Rattle.fb_types.proofs.lemmas.lists.Positions.{is_some-position}
 use Rattle.fb_check.proofs.types.scope.Scope.is_algorithm.Goals as goal
 

@@ -1,5 +1,4 @@
-use Rattle.std.proofs.Common.{◌∙◌, ap}
-use Rattle.std.specs.Prelude.{is_some}
+use Rattle.fb_types.proofs.Common.{◌∙◌, ap, is_some}
 use Rattle.fb_types.specs.Blocks.{type_named}
 use Rattle.fb_check.specs.types.Roles.{variables_of}
 use Rattle.fb_check.proofs.lemmas.types.Roles.{is_some-type_named}

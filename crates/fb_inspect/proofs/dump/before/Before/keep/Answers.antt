@@ -1,9 +1,4 @@
-use Rattle.std.proofs.Common.{◌≡◌, map, sym, ap, ◌∙◌}
-use Rattle.fb_types.specs.Headline.{system_of}
-use Rattle.fb_types.specs.Numbers.{path_at}
-use Rattle.fb_types.specs.Reactions.{state_of}
-use Rattle.fb_types.specs.Values.{Values}
-use Rattle.fb_st.specs.Frames.{values_of}
+use Rattle.fb_inspect.proofs.lemmas.Common.{◌≡◌, map, sym, ap, ◌∙◌, system_of, path_at, state_of, Values, values_of}
 use Rattle.fb_wave.proofs.lemmas.Handing.{on_ok}
 use Rattle.fb_inspect.proofs.lemmas.dump.Changing.{before_none, before_of}
 use Rattle.fb_inspect.proofs.dump.before.Before.keep.Goals as goal

@@ -1,6 +1,4 @@
-use Rattle.std.proofs.Common.{ℕ, List, ◌++◌, sym, ap, ◌∙◌, append-nil}
-use Rattle.fb_types.specs.Headline.{system_of}
-use Rattle.fb_types.specs.Numbers.{path_at}
+use Rattle.fb_types.proofs.Common.{ℕ, List, ◌++◌, sym, ap, ◌∙◌, append-nil, system_of, path_at}
 use Rattle.fb_wave.proofs.lemmas.Handing.{on_ok}
 use Rattle.fb_inspect.specs.dump.Inner.{chart_changes}
 use Rattle.fb_inspect.proofs.lemmas.dump.Changing.{chart_text, no_chart_text, saved_of}

@@ -1,11 +1,6 @@
-use Rattle.std.proofs.Common.{◌≡◌, ℕ, List, ◌++◌, length, map, sym, ap, ◌∙◌, append_assoc}
-use Rattle.std.proofs.lemmas.List.{length-map}
-use Rattle.fb_types.specs.Blocks.{variable_names}
-use Rattle.fb_types.specs.Names.{Name}
-use Rattle.fb_types.specs.Reactions.{state_of}
-use Rattle.fb_coverage.specs.Listed.{listed}
+use Rattle.fb_inspect.proofs.lemmas.Common.{◌≡◌, ℕ, List, ◌++◌, length, map, sym, ap, ◌∙◌, append_assoc, length-map, variable_names, Name, state_of, listed, internal_change}
 use Rattle.fb_wave.proofs.lemmas.Handing.{on_ok}
-use Rattle.fb_inspect.specs.dump.Inner.{internal_change, lost_change, state_change}
+use Rattle.fb_inspect.specs.dump.Inner.{lost_change, state_change}
 use Rattle.fb_inspect.proofs.dump.before.Before.put_chart_changes.Goals as goal
 
 regroup : (o a b d : List ℕ) → ((o ++ a) ++ b) ++ d ≡ o ++ ((a ++ b) ++ d)

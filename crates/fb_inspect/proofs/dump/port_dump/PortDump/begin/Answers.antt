@@ -1,5 +1,4 @@
-use Rattle.std.proofs.Common.{List, ℕ, ◌++◌, ap, ◌∙◌, refl, true}
-use Rattle.fb_types.specs.Headline.{system_of}
+use Rattle.fb_types.proofs.Common.{List, ℕ, ◌++◌, ap, ◌∙◌, refl, true, system_of}
 use Rattle.fb_inspect.specs.dump.Heads.{state_head}
 use Rattle.fb_inspect.proofs.lemmas.dump.Growing.{shows_none}
 use Rattle.fb_inspect.proofs.dump.port_dump.PortDump.begin.Goals as goal

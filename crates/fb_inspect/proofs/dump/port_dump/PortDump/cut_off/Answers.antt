@@ -1,8 +1,5 @@
-use Rattle.std.proofs.Common.{◌++◌}
-use Rattle.fb_wave.specs.Signals.{sizes_of}
-use Rattle.fb_wave.specs.LineSignals.{fires_of, has_signal, touches_of}
+use Rattle.fb_inspect.proofs.lemmas.Common.{◌++◌, sizes_of, fires_of, has_signal, touches_of, lines_of}
 use Rattle.fb_wave.proofs.lemmas.Handing.{on_put}
-use Rattle.fb_inspect.specs.dump.StateDumps.{lines_of}
 use Rattle.fb_inspect.proofs.lemmas.dump.Growing.{shows_cut}
 use Rattle.fb_inspect.proofs.dump.port_dump.PortDump.cut_off.Goals as goal
 

@@ -1,7 +1,4 @@
-use Rattle.std.proofs.Common.{◌++◌, refl}
-use Rattle.fb_wave.specs.Signals.{sizes_of}
-use Rattle.fb_wave.specs.LineSignals.{fires_of, has_signal, touches_of}
-use Rattle.fb_inspect.specs.dump.StateDumps.{lines_of}
+use Rattle.fb_inspect.proofs.lemmas.Common.{◌++◌, refl, sizes_of, fires_of, has_signal, touches_of, lines_of}
 use Rattle.fb_inspect.proofs.lemmas.dump.Growing.{up_to_next, up_to_same}
 use Rattle.fb_inspect.proofs.dump.port_dump.PortDump.go_to.Goals as goal
 

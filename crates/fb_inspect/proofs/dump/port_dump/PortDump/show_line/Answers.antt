@@ -1,9 +1,6 @@
-use Rattle.std.proofs.Common.{List, [], ◌∷◌, ◌++◌, refl}
-use Rattle.fb_types.specs.Headline.{system_of}
-use Rattle.fb_types.specs.declared.run.Line.{Line}
+use Rattle.fb_inspect.proofs.lemmas.Common.{List, [], ◌∷◌, ◌++◌, refl, system_of, Line, sizes_of, fires_of, has_signal, touches_of}
 use Rattle.fb_wave.specs.Levels.{AreLevels}
-use Rattle.fb_wave.specs.Signals.{sizes_of}
-use Rattle.fb_wave.specs.LineSignals.{fired, fires_of, has_signal, set_by, touched, touches_of}
+use Rattle.fb_wave.specs.LineSignals.{fired, set_by, touched}
 use Rattle.fb_wave.proofs.lemmas.Handing.{on_any, on_ok}
 use Rattle.fb_inspect.specs.declared.dump.port_dump.PortDump.{PortDump}
 use Rattle.fb_inspect.proofs.lemmas.dump.Growing.{line_one, on_lines}

@@ -1,5 +1,4 @@
-use Rattle.std.proofs.Common.{take}
-use Rattle.fb_types.specs.Headline.{system_of}
+use Rattle.fb_types.proofs.Common.{take, system_of}
 use Rattle.fb_inspect.specs.dump.Dumping.{IsPortDump, ShowsLines}
 use Rattle.fb_inspect.proofs.dump.port_dump.PortDump.show_lines.Given as goal
 

@@ -1,20 +1,8 @@
-use Rattle.std.proofs.Common.{sym, ap, subst, ◌∙◌, Ok, false}
-use Rattle.fb_types.specs.Headline.{system_of}
-use Rattle.fb_inspect.specs.Inspections.{last_look}
-use Rattle.fb_inspect.specs.walk.Lines.{IsNext, IsNextLine}
-use Rattle.fb_inspect.specs.walk.Looks.{Look, opening_look}
+use Rattle.fb_inspect.proofs.lemmas.Common.{sym, ap, subst, ◌∙◌, Ok, false, system_of, err_from_is_err_and, last_look, IsNext, IsNextLine, Look, opening_look, unread, Reading, Trail, Step, Walk, takings_of, GoesAfter}
 use Rattle.fb_inspect.specs.walk.Stepping.{StepGoes}
-use Rattle.fb_inspect.specs.walk.Walking.{unread}
-use Rattle.fb_inspect.specs.declared.walk.reading.Reading.{Reading}
-use Rattle.fb_inspect.specs.declared.walk.trail.Trail.{Trail}
-use Rattle.fb_inspect.specs.declared.walk.Step.{Step}
 use Rattle.fb_inspect.specs.declared.walk.Step.TheVariants as step
-use Rattle.fb_inspect.specs.declared.walk.Walk.{Walk}
-use Rattle.fb_inspect.specs.dump.StateDumps.{takings_of}
 use Rattle.fb_inspect.specs.dump.Waving.{HasGoneOn, IsNextKept}
 use Rattle.fb_inspect.proofs.lemmas.dump.DumpSteps.{can_show, gone_cut, gone_none, gone_on, own_rows, ready_of, rows_belong, within_of}
-use Rattle.std.proofs.lemmas.Result.{err_from_is_err_and}
-use Rattle.fb_inspect.specs.walk.Standing.{GoesAfter}
 use Rattle.fb_inspect.proofs.lemmas.walk.UpToRefusal.{well_aside}
 use Rattle.fb_inspect.proofs.lemmas.lines.Moving.{next_line}
 use Rattle.fb_inspect.proofs.lemmas.results.Joined.{ok_passed}

@@ -1,8 +1,6 @@
-use Rattle.fb_types.specs.Headline.{system_of}
-use Rattle.fb_wave.specs.declared.page.Page.{Page}
+use Rattle.fb_inspect.proofs.lemmas.Common.{system_of, err_from_is_err_and, Page}
 use Rattle.fb_inspect.proofs.lemmas.reactions.Placed.{err_any}
 use Rattle.fb_inspect.proofs.lemmas.dump.Ending.{none_sent, part_sent}
-use Rattle.std.proofs.lemmas.Result.{err_from_is_err_and}
 use Rattle.fb_inspect.proofs.dump.state_wave.StateWave.finish.Goals as goal
 
 pub returns-in_err-end-clause-fault : goal.returns-in_err-end-clause-fault

@@ -1,22 +1,10 @@
-use Rattle.std.proofs.Common.{List, ℕ, Option, subst, sym, ◌≡◌, ◌<◌, ◌+◌, inl, length, Some, Ok}
-use Rattle.std.specs.Io.KnownBytes.{Consumes}
-use Rattle.fb_types.specs.Headline.{system_of}
-use Rattle.fb_inspect.specs.Inspections.{last_look}
-use Rattle.fb_inspect.specs.walk.Looks.{opening_look}
-use Rattle.fb_inspect.specs.walk.Walking.{unread}
+use Rattle.fb_inspect.proofs.lemmas.Common.{List, ℕ, Option, subst, sym, ◌≡◌, ◌<◌, ◌+◌, inl, length, Some, Ok, Consumes, system_of, IfSome, err_from_is_err_and, last_look, opening_look, unread, last_tick, lines_of, takings_of, HasWaved, IsWrongAt, IsWrongLine, GoesAfter, Step}
 use Rattle.fb_inspect.proofs.lemmas.reactions.Placed.{err_any, err_then}
 use Rattle.fb_inspect.proofs.lemmas.walk.Stepped.{none_ahead}
-use Rattle.fb_wave.specs.Dumps.{last_tick}
 use Rattle.fb_wave.proofs.lemmas.Handing.{on_ok}
-use Rattle.fb_inspect.specs.dump.StateDumps.{lines_of, takings_of}
-use Rattle.fb_inspect.specs.dump.Waving.{HasGoneOn, HasWaved}
+use Rattle.fb_inspect.specs.dump.Waving.{HasGoneOn}
 use Rattle.fb_inspect.proofs.lemmas.dump.Ending.{cut_done, cut_part, front_flush, front_waved, shown_cut, shown_whole, some_text, whole_done, whole_part, after_last}
 use Rattle.fb_inspect.proofs.lemmas.dump.Waved.{flushed_on, waved_none}
-use Rattle.std.specs.Prelude.{IfSome}
-use Rattle.std.proofs.lemmas.Result.{err_from_is_err_and}
-use Rattle.fb_inspect.specs.Refusals.{IsWrongAt, IsWrongLine}
-use Rattle.fb_inspect.specs.walk.Standing.{GoesAfter}
-use Rattle.fb_inspect.specs.declared.walk.Step.{Step}
 use Rattle.fb_inspect.proofs.lemmas.results.Refused.{err_none, err_refused, refused_then}
 use Rattle.fb_inspect.proofs.lemmas.results.Joined.{ok_passed}
 use Rattle.fb_inspect.proofs.dump.state_wave.StateWave.go.Goals as goal

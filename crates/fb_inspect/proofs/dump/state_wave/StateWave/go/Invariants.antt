@@ -1,11 +1,4 @@
-use Rattle.std.proofs.Common.{◌≡◌, ◌≤◌, ℕ, List, Option, Some}
-use Rattle.std.specs.Io.KnownBytes.{Consumes}
-use Rattle.fb_types.specs.Headline.{system_of}
-use Rattle.fb_wave.specs.Named.{HasNames}
-use Rattle.fb_inspect.specs.walk.Looks.{most}
-use Rattle.fb_inspect.specs.walk.Standing.{IsLeft, StandsWell}
-use Rattle.fb_inspect.specs.walk.Walking.{unread}
-use Rattle.fb_inspect.specs.dump.Waving.{HasWaved}
+use Rattle.fb_inspect.proofs.lemmas.Common.{◌≡◌, ◌≤◌, ℕ, List, Option, Some, Consumes, system_of, HasNames, most, IsLeft, StandsWell, unread, HasWaved}
 use Rattle.fb_inspect.proofs.dump.state_wave.StateWave.go.Given as goal
 
 -- the takings up to here were gone through, and the walk stands at the next line

@@ -1,14 +1,5 @@
-use Rattle.std.proofs.Common.{◌++◌, List, ℕ, sym, ap, subst, ◌∙◌}
-use Rattle.std.specs.Prelude.{All}
-use Rattle.fb_types.specs.Headline.{system_of}
-use Rattle.fb_types.specs.Numbers.{path_at}
-use Rattle.fb_types.specs.declared.run.Line.{Line}
-use Rattle.fb_system.specs.Lines.{BelongsTo}
+use Rattle.fb_inspect.proofs.lemmas.Common.{◌++◌, List, ℕ, sym, ap, subst, ◌∙◌, All, system_of, path_at, Line, BelongsTo, AreKept, Remembered, ShowsLines, lines_of}
 use Rattle.fb_wave.proofs.lemmas.Handing.{on_ok}
-use Rattle.fb_inspect.specs.walk.Walking.{AreKept}
-use Rattle.fb_inspect.specs.declared.walk.blocks.Remembered.{Remembered}
-use Rattle.fb_inspect.specs.dump.Dumping.{ShowsLines}
-use Rattle.fb_inspect.specs.dump.StateDumps.{lines_of}
 use Rattle.fb_inspect.proofs.lemmas.dump.Changing.{taking_text}
 use Rattle.fb_inspect.proofs.lemmas.dump.Growing.{here, shows_more}
 use Rattle.fb_inspect.proofs.lemmas.dump.WithoutInside.{last_lines}

@@ -1,11 +1,7 @@
-use Rattle.std.proofs.Common.{◌∷◌, ◌++◌, [], List, sym, subst}
-use Rattle.std.specs.Prelude.{All}
-use Rattle.fb_types.specs.Headline.{system_of}
-use Rattle.fb_types.specs.declared.run.Line.{Line}
-use Rattle.fb_system.specs.Lines.{BelongsTo}
+use Rattle.fb_inspect.proofs.lemmas.Common.{◌∷◌, ◌++◌, [], List, sym, subst, All, system_of, Line, BelongsTo, ShowsLines}
 use Rattle.fb_wave.proofs.lemmas.Handing.{on_ok}
 use Rattle.fb_inspect.specs.declared.walk.reading.Next.TheVariants as next
-use Rattle.fb_inspect.specs.dump.Dumping.{ShowsLines, ShowsUpTo}
+use Rattle.fb_inspect.specs.dump.Dumping.{ShowsUpTo}
 use Rattle.fb_inspect.proofs.lemmas.dump.DumpSteps.{same_line}
 use Rattle.fb_inspect.proofs.lemmas.dump.Growing.{shows_untaken}
 use Rattle.fb_inspect.proofs.dump.state_wave.StateWave.show_untaken.Goals as goal

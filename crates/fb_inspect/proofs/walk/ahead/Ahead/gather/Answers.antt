@@ -1,6 +1,4 @@
-use Rattle.std.proofs.Common.{List, ap, refl, subst, ◌∙◌, ◌++◌, ℕ}
-use Rattle.fb_types.specs.Headline.{system_of}
-use Rattle.fb_inspect.specs.walk.Lines.{IsNext}
+use Rattle.fb_inspect.proofs.lemmas.Common.{List, ap, refl, subst, ◌∙◌, ◌++◌, ℕ, system_of, IsNext}
 use Rattle.fb_inspect.proofs.lemmas.lines.Gathered.{rows_last, rows_more, rows_none}
 use Rattle.fb_inspect.proofs.lemmas.lines.AheadOf.{last_other}
 use Rattle.fb_inspect.proofs.walk.ahead.Ahead.gather.Goals as goal

@@ -1,5 +1,4 @@
-use Rattle.std.proofs.Common.{◌≡◌}
-use Rattle.fb_types.specs.Headline.{system_of}
+use Rattle.fb_types.proofs.Common.{◌≡◌, system_of}
 use Rattle.fb_inspect.specs.walk.Walking.{AreRows}
 use Rattle.fb_inspect.proofs.walk.ahead.Ahead.gather.Given as goal
 

@@ -1,5 +1,4 @@
-use Rattle.std.proofs.Common.{refl, sym}
-use Rattle.std.proofs.lemmas.Bool.{true≢false}
+use Rattle.fb_types.proofs.Common.{refl, sym, true≢false}
 use Rattle.fb_inspect.proofs.walk.ahead.Ahead.go_back.Goals as goal
 
 pub returns-clause-excess : goal.returns-clause-excess

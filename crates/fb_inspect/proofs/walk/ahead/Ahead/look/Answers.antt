@@ -1,9 +1,5 @@
-use Rattle.std.proofs.Common.{◌≡◌, ◌++◌, List, ℕ, ap, length, subst, sym, true, vec_len, ◌∙◌}
-use Rattle.std.proofs.lemmas.Bool.{eqb-false, eqb-true, false≢true}
-use Rattle.std.proofs.lemmas.List.{nil_from_length}
-use Rattle.fb_types.specs.Headline.{system_of}
-use Rattle.fb_wave.specs.CutOff.{is_unended}
-use Rattle.fb_inspect.specs.walk.Walking.{unread}
+use Rattle.fb_inspect.proofs.lemmas.Common.{◌≡◌, ◌++◌, List, ℕ, ap, length, subst, sym, true, ◌∙◌, false≢true, system_of, is_unended, unread}
+use Rattle.fb_types.proofs.Common.{vec_len, eqb-false, eqb-true, nil_from_length}
 use Rattle.fb_inspect.proofs.lemmas.lines.AheadOf.{gathered_ahead, look_filled, look_stays}
 use Rattle.fb_inspect.proofs.lemmas.lines.Gathered.{rows_cut, rows_read}
 use Rattle.fb_inspect.proofs.lemmas.walk.Stepped.{filled_on, same_on}

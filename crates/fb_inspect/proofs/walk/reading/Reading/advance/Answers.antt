@@ -1,6 +1,4 @@
-use Rattle.std.proofs.Common.{ℕ, List, subst}
-use Rattle.fb_types.specs.Headline.{system_of}
-use Rattle.fb_inspect.specs.walk.Lines.{IsNext}
+use Rattle.fb_inspect.proofs.lemmas.Common.{ℕ, List, subst, system_of, IsNext}
 use Rattle.fb_inspect.proofs.walk.reading.Reading.advance.Goals as goal
 
 pub returns-clause-next : goal.returns-clause-next

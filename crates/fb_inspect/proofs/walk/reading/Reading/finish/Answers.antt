@@ -1,9 +1,5 @@
-use Rattle.std.proofs.Common.{◌≡◌, ◌<◌, ◌+◌, length, vec_len, sym, ◌∙◌}
-use Rattle.std.proofs.lemmas.Bool.{eqb-false, eqb-true}
-use Rattle.std.proofs.lemmas.List.{nil_from_length}
+use Rattle.fb_types.proofs.Common.{◌≡◌, ◌<◌, ◌+◌, length, vec_len, sym, ◌∙◌, eqb-false, eqb-true, nil_from_length, IfSome, err_from_is_err_and}
 use Rattle.fb_inspect.specs.walk.Walking.{unread}
-use Rattle.std.specs.Prelude.{IfSome}
-use Rattle.std.proofs.lemmas.Result.{err_from_is_err_and}
 use Rattle.fb_inspect.proofs.lemmas.dump.Ending.{end_left, more_left, some_left}
 use Rattle.fb_inspect.proofs.lemmas.results.Errors.{read_refuses}
 use Rattle.fb_inspect.proofs.lemmas.results.Refused.{none_refused, refused_then}

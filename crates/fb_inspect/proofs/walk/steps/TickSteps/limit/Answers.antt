@@ -1,5 +1,4 @@
-use Rattle.std.proofs.Common.{◌+◌, ◌-◌, ℕ, Some, ap, ◌∙◌}
-use Rattle.fb_inspect.specs.walk.Looks.{Left, most}
+use Rattle.fb_inspect.proofs.lemmas.Common.{◌+◌, ◌-◌, ℕ, Some, ap, ◌∙◌, Left, most}
 use Rattle.fb_inspect.proofs.walk.steps.TickSteps.limit.Goals as goal
 
 pub returns-clause-left : goal.returns-clause-left

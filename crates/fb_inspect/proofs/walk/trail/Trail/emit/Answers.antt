@@ -1,15 +1,6 @@
-use Rattle.std.proofs.Common.{List, ℕ, [], ◌∷◌, ap, refl, subst, sym, ◌∙◌}
-use Rattle.fb_types.specs.Headline.{system_of}
-use Rattle.fb_types.specs.Numbers.{emission_of, line_of, path_at, ports_at}
-use Rattle.fb_types.specs.Text.{line_text}
-use Rattle.fb_types.specs.declared.key.Key.{Key}
+use Rattle.fb_inspect.proofs.lemmas.Common.{List, ℕ, [], ◌∷◌, ap, refl, subst, sym, ◌∙◌, system_of, emission_of, line_of, path_at, ports_at, line_text, Key, IsNext, Goes, shown_text, Next, Reading, Trail}
 use Rattle.fb_types.specs.declared.run.Line as run
 use Rattle.fb_wave.proofs.lemmas.Handing.{on_ok}
-use Rattle.fb_inspect.specs.walk.Lines.{IsNext}
-use Rattle.fb_inspect.specs.walk.Moves.{Goes, shown_text}
-use Rattle.fb_inspect.specs.declared.walk.reading.Next.{Next}
-use Rattle.fb_inspect.specs.declared.walk.reading.Reading.{Reading}
-use Rattle.fb_inspect.specs.declared.walk.trail.Trail.{Trail}
 use Rattle.fb_inspect.proofs.lemmas.lines.Moving.{aside, goes_same}
 use Rattle.fb_inspect.proofs.lemmas.lines.OneEmission.{other_event, other_next}
 use Rattle.fb_inspect.proofs.lemmas.results.Refused.{emits_fail, err_none, refused_then}

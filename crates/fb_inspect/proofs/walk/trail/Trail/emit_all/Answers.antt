@@ -1,12 +1,6 @@
-use Rattle.std.proofs.Common.{List, [], ◌∷◌, ◌++◌, refl, sym, ◌∙◌, ap, map, subst, append_assoc}
-use Rattle.fb_types.specs.Headline.{system_of}
+use Rattle.fb_inspect.proofs.lemmas.Common.{List, [], ◌∷◌, ◌++◌, refl, sym, ◌∙◌, ap, map, subst, append_assoc, system_of, All, emission_of, path_at, ports_at, Ports, IsEmission as IsEmissionOf, EmitsFail}
 use Rattle.fb_types.specs.declared.run.Emission as run
 use Rattle.fb_inspect.proofs.lemmas.lines.Emitted.{emits_none, emits_one}
-use Rattle.std.specs.Prelude.{All}
-use Rattle.fb_types.specs.Numbers.{emission_of, path_at, ports_at}
-use Rattle.fb_types.specs.declared.library.Ports.{Ports}
-use Rattle.fb_system.specs.Lines.{IsEmission as IsEmissionOf}
-use Rattle.fb_inspect.specs.Refusals.{EmitsFail}
 use Rattle.fb_inspect.proofs.lemmas.results.Refused.{err_passed, fit_at, rest_fails}
 use Rattle.fb_inspect.proofs.walk.trail.Trail.emit_all.Goals as goal
 

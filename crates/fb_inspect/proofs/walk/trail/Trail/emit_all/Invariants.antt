@@ -1,8 +1,5 @@
-use Rattle.std.proofs.Common.{◌≡◌, ◌++◌, List, length}
-use Rattle.fb_types.specs.Headline.{system_of}
+use Rattle.fb_inspect.proofs.lemmas.Common.{◌≡◌, ◌++◌, List, length, system_of, IsNext, EmitsGo}
 use Rattle.fb_types.specs.declared.run.Emission as run
-use Rattle.fb_inspect.specs.walk.Lines.{IsNext}
-use Rattle.fb_inspect.specs.walk.Moves.{EmitsGo}
 use Rattle.fb_inspect.proofs.walk.trail.Trail.emit_all.Given as goal
 
 -- the first of the emissions are in the lines that were read

@@ -1,6 +1,4 @@
-use Rattle.std.proofs.Common.{ℕ, List, ◌++◌, ap, ◌∙◌, refl}
-use Rattle.fb_types.specs.Headline.{system_of}
-use Rattle.fb_inspect.specs.walk.Moves.{shown_text}
+use Rattle.fb_inspect.proofs.lemmas.Common.{ℕ, List, ◌++◌, ap, ◌∙◌, refl, system_of, shown_text}
 use Rattle.fb_inspect.proofs.lemmas.lines.Moving.{goes_pass}
 use Rattle.fb_inspect.proofs.lemmas.results.Refused.{alone_first}
 use Rattle.fb_inspect.proofs.lemmas.reactions.Placed.{on_both}

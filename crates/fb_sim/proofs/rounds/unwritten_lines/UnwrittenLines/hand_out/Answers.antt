@@ -1,12 +1,6 @@
-use Rattle.std.proofs.Common.{◌≡◌, List, All, map, length, ◌∙◌, subst, sym, inr}
-use Rattle.std.specs.Io.KnownBytes.{Appends}
-use Rattle.fb_types.specs.Headline.{system_of}
-use Rattle.fb_types.specs.Numbers.{line_of}
-use Rattle.fb_types.specs.declared.run.Line.{Line}
-use Rattle.fb_system.specs.Lines.{BelongsTo}
-use Rattle.fb_trace.specs.Progress.{bounded}
+use Rattle.fb_sim.proofs.lemmas.Common.{◌≡◌, List, All, map, length, ◌∙◌, subst, sym, inr, Appends, system_of, line_of, Line, BelongsTo, bounded, WritesPartOf, text_of}
 use Rattle.fb_trace.proofs.lemmas.order.StableSort.{kept}
-use Rattle.fb_sim.specs.Rounds.{FailsToHandOut, WritesPartOf, text_of}
+use Rattle.fb_sim.specs.Rounds.{FailsToHandOut}
 use Rattle.fb_sim.proofs.lemmas.text.HandedOut.{failed_passed, part_by_list, whole_by_list}
 use Rattle.fb_sim.proofs.rounds.unwritten_lines.UnwrittenLines.hand_out.Goals as goal
 

@@ -1,7 +1,5 @@
-use Rattle.std.proofs.Common.{subst, refl, arith}
-use Rattle.std.proofs.lemmas.List.{take_all}
+use Rattle.fb_types.proofs.Common.{subst, refl, arith, take_all, system_of}
 use Rattle.std.proofs.lemmas.List.Elements.{All-more}
-use Rattle.fb_types.specs.Headline.{system_of}
 use Rattle.fb_system.specs.Lines.{BelongsTo}
 use Rattle.fb_tests.proofs.tests.parts.belonging.all_belong.Goals as goal
 

@@ -1,5 +1,4 @@
-use Rattle.std.proofs.Common.{All, take}
-use Rattle.fb_types.specs.Headline.{system_of}
+use Rattle.fb_types.proofs.Common.{All, take, system_of}
 use Rattle.fb_system.specs.Lines.{BelongsTo}
 use Rattle.fb_tests.proofs.tests.parts.belonging.all_belong.Given as goal
 

@@ -1,6 +1,4 @@
-use Rattle.fb_types.specs.Headline.{system_of}
-use Rattle.fb_types.specs.Simulation.{opening_state}
-use Rattle.fb_types.specs.Takes.{world_of}
+use Rattle.fb_types.proofs.Common.{system_of, opening_state, world_of}
 use Rattle.fb_laws.proofs.lemmas.typing.Accepted.{accepted_typed}
 use Rattle.fb_laws.proofs.lemmas.typing.Simulated.{opening_state-typed}
 use Rattle.fb_tests.proofs.tests.parts.chain.built.Goals as goal

@@ -1,6 +1,4 @@
-use Rattle.std.proofs.Common.{◌≡◌, sym, subst, Some, length}
-use Rattle.std.specs.Prelude.{slice_get}
-use Rattle.fb_types.specs.Headline.{system_of}
+use Rattle.fb_types.proofs.Common.{◌≡◌, sym, subst, Some, length, slice_get, system_of}
 use Rattle.fb_resource.specs.Posts.{IsMessage}
 use Rattle.fb_types.proofs.lemmas.lists.ByIndex.{slice_get-append_here}
 use Rattle.fb_tests.proofs.lemmas.Handed.{handed}
