@@ -134,7 +134,7 @@ pub fn inputs_of_each<'a, T: Interfaced>(
         let ports = each.interface();
         // for the prover: there are fewer than 2^32 ports of each kind, so their indexes fit
         ports.event_inputs.count();
-        ports.inputs.count();
+        ports.inputs.count(); // for the prover: how many of them there are at most
         let events = ports.event_inputs.as_slice();
         inputs.push(TypeInputs {
             events: events_of(alloc, events)?,

@@ -1,7 +1,8 @@
 //! Locations at which refusals apply, and limits.
 
 use fb_check_names::{
-    TooHighAt, GivenTwice, TwoSourcesAt, KindWrongAt, OutOfRangeAt, UnknownName, NoLinkAt, NotMappedAt,
+    GivenTwice, KindWrongAt, NoLinkAt, NotMappedAt, OutOfRangeAt, TooHighAt, TwoSourcesAt,
+    UnknownName,
 };
 
 /// A location at which a refusal applies, under the name of its fault. It counts what is meant by its indexes in the

@@ -10,7 +10,7 @@ ghost use Rattle.fb_check.specs.networks.Mapping.{IsMapping};
 use crate::case::Case;
 use crate::fault::Fault;
 use crate::location::Location;
-use crate::networks::{Mapping, holders_of, mapping_of, no_link_locations, no_event_locations};
+use crate::networks::{Mapping, holders_of, mapping_of, no_event_locations, no_link_locations};
 use crate::refusal::{CheckEnd, passed};
 use fb_check_names::Resolved;
 use fb_types::Items;

@@ -9,7 +9,7 @@ ghost use Rattle.fb_check.specs.Verdicts.{HasPassed};
 use crate::case::Case;
 use crate::fault::Fault;
 use crate::location::Location;
-use crate::networks::{two_sources_locations, out_of_range_locations, too_high_location};
+use crate::networks::{out_of_range_locations, too_high_location, two_sources_locations};
 use crate::refusal::{CheckEnd, Refusal, passed};
 use crate::types::kind_wrong_locations;
 use fb_check_names::{Catalog, Resolved};

@@ -16,7 +16,7 @@ use crate::name_pair::NamePair;
 use crate::types::adding::push_one;
 use fb_check_names::{Catalog, index_of_name, indexes};
 use fb_system::StimulusRow;
-use fb_types::{Items, Library, Name, Setting, InputValue, Stimulus, Value, all_ports};
+use fb_types::{InputValue, Items, Library, Name, Setting, Stimulus, Value, all_ports};
 use std::alloc::{AllocError, Global};
 
 /// Whether a stimulus sets a variable twice.

@@ -35,8 +35,8 @@ pub mod types;
 pub use catalog::{BlockIndexes, Catalog, catalog_of};
 pub use listed::push_unless;
 pub use location::{
-    ActionPart, TooHighAt, Direction, FlowKind, TwoSourcesAt, KindWrongAt, OutOfRangeAt, Side, Site, StatementPart,
-    TransitionPart, UnknownName, NoLinkAt, NotMappedAt, Variables,
+    ActionPart, Direction, FlowKind, KindWrongAt, NoLinkAt, NotMappedAt, OutOfRangeAt, Side, Site,
+    StatementPart, TooHighAt, TransitionPart, TwoSourcesAt, UnknownName, Variables,
 };
 pub use named::{Named, indexes, push_names};
 pub use numbers::{

@@ -235,7 +235,7 @@ impl Chart {
         let outputs = ports.event_outputs.as_slice();
         // for the prover: a type has fewer than 2^32 of each, so that a slot is a number of 64 bits
         ports.inputs.count();
-        ports.outputs.count();
+        ports.outputs.count(); // for the prover: how many of them there are at most
         let first_output = ports.inputs.len();
         Ok(Chart {
             rows: rows(alloc, block, &numbers)?,

@@ -35,7 +35,7 @@ fn deal(
     ensures dealt { OnOk result ((all : List model.Message) → AreDealt system.now all inboxes.old.items
         → AreDealt system.now (all ++ outbox.items) inboxes.new.items) }
 {
-    system.facts();
+    system.facts(); // for the prover: what holds of every accepted system
     for message in outbox {
         let receiver = system.resource(message.target.instance);
         inboxes[receiver].push(message)?;

@@ -16,21 +16,21 @@
 
 pub mod arrival;
 pub mod block;
+pub mod effects;
 pub mod held_copies;
 pub mod laws;
 pub mod opening;
-pub mod effects;
 pub mod resource;
+pub mod resource_blocks;
 pub mod shell;
 mod taking;
-pub mod resource_blocks;
 
 pub use arrival::Arrival;
 pub use block::Block;
+pub use effects::{Effects, Out, OutgoingMessage};
 pub use held_copies::HeldCopies;
 pub use opening::blocks::block_of;
 pub use opening::charts::Charts;
-pub use effects::{Out, Effects, OutgoingMessage};
 pub use resource::Forest;
-pub use shell::Shell;
 pub use resource_blocks::ResourceBlocks;
+pub use shell::Shell;

@@ -12,11 +12,11 @@ ghost use Rattle.fb_net.specs.Events.{HasTaken, IsEventIn, Remembered, event_in,
 
 use crate::arrival::Arrival;
 use crate::block::Block;
+use crate::effects::Effects;
 use crate::opening::copies::held_of;
 use crate::opening::roots::roots_of;
 use crate::opening::shell_indexes::index_shells;
 use crate::opening::trees::blocks_of;
-use crate::effects::Effects;
 use crate::resource::Forest;
 use crate::shell::Shell;
 use crate::taking::Taking;
@@ -70,7 +70,11 @@ impl ResourceBlocks {
     ///
     /// # Errors
     /// When memory runs out.
-    pub fn build(alloc: Global, system: &System, resource: u32) -> Result<ResourceBlocks, AllocError>
+    pub fn build(
+        alloc: Global,
+        system: &System,
+        resource: u32,
+    ) -> Result<ResourceBlocks, AllocError>
         requires { IsResource system.now resource }
         ensures opened { IfOk result (λ t. IsForest system.now t (world_of (opening_state system.now) resource)) }
         ensures resource { IfOk result (λ t. t.resource ≡ resource) }

@@ -102,7 +102,7 @@ impl Rule for Network {
     #[tactic(auto, unfolding(crate::specs::Network::network))]
     fn read(cursor: &mut Cursor<'_>) -> Result<Network, ParseFault> {
         cursor.expect(Mark::Fbs)?;
-        cursor.bound();
+        cursor.bound(); // for the prover: how many tokens are left at most
         let instances = many::<Instance>(cursor, Mark::EndFbs)?;
         let event_connections = section::<Connection>(
             cursor,

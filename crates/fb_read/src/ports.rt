@@ -78,7 +78,7 @@ pub fn variables(cursor: &mut Cursor<'_>, begin: Mark) -> Result<Items<Variable>
 fn numbered_events(cursor: &mut Cursor<'_>, begin: Mark) -> Result<Numbered<EventPort>, ParseFault>
     ensures { Reads (section spec.event begin mark.EndEvent cursor.old) result cursor.new }
 {
-    cursor.bound();
+    cursor.bound(); // for the prover: how many tokens are left at most
     let found = section::<EventPort>(cursor, begin, Mark::EndEvent)?;
     Ok(Numbered::new(found))
 }
@@ -90,7 +90,7 @@ fn numbered_variables(
 ) -> Result<Numbered<Variable>, ParseFault>
     ensures { Reads (spec.variables begin cursor.old) result cursor.new }
 {
-    cursor.bound();
+    cursor.bound(); // for the prover: how many tokens are left at most
     let found = variables(cursor, begin)?;
     Ok(Numbered::new(found))
 }

@@ -8,8 +8,9 @@ ghost use Rattle.fb_read_positions.specs.FindingPositions as spec;
 use crate::names::{action_at, network_inside};
 use crate::position::{BasicPart, ConnectionPart, NetworkPart, PortPart, Position, TransitionPart};
 use fb_check_names::{
-    ActionPart, TooHighAt, Direction, FlowKind, GivenTwice, InBlock, InNetwork, KindWrongAt, Side, Site,
-    StatementPart, TransitionPart as NamedPart, UnknownName, NoLinkAt, NotMappedAt, Variables,
+    ActionPart, Direction, FlowKind, GivenTwice, InBlock, InNetwork, KindWrongAt, NoLinkAt,
+    NotMappedAt, Side, Site, StatementPart, TooHighAt, TransitionPart as NamedPart, UnknownName,
+    Variables,
 };
 use fb_types::{
     Action, BlockType, Connection, Instance, Library, Network, PortName, Ports, State,

@@ -18,16 +18,16 @@ pub mod next;
 pub mod one_taking;
 pub mod opening;
 mod posting;
-pub mod traffic;
 pub mod resource;
 pub mod taken;
 pub mod tick_counts;
+pub mod traffic;
 
 pub use determined::{keys_rise, simulation_exists};
 pub use next::{find_next, put_next};
 pub use one_taking::take;
 pub use opening::{open_agenda, open_agendas, open_sent};
-pub use traffic::Traffic;
 pub use resource::{Output, Resource, WindowDone};
 pub use taken::Taken;
 pub use tick_counts::TickCounts;
+pub use traffic::Traffic;

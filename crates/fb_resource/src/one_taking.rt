@@ -12,9 +12,9 @@ ghost use Rattle.fb_resource.specs.Posts.{CountsAre};
 ghost use Rattle.fb_resource.specs.Takings.{AreReady, IsHere, IsRaised, IsTakenHere, MaySettle, Settles, ended, with_least_event};
 
 use crate::posting::{Posting, count_lone, lone_of, post_lone};
-use crate::traffic::Traffic;
 use crate::taken::Taken;
 use crate::tick_counts::TickCounts;
+use crate::traffic::Traffic;
 use fb_agenda::Least;
 use fb_net::{Out, ResourceBlocks};
 use fb_system::System;

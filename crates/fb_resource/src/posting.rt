@@ -16,7 +16,7 @@ ghost use Rattle.fb_resource.specs.OfSystem.{message_of};
 
 use fb_agenda::Agenda;
 use fb_link::arrival;
-use fb_net::{Out, Effects, OutgoingMessage};
+use fb_net::{Effects, Out, OutgoingMessage};
 use fb_system::System;
 use fb_types::{Event, Key, Message, Target, TimerAsk};
 use std::alloc::AllocError;

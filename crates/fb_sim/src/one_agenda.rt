@@ -46,7 +46,7 @@ fn run_through<W: Write>(
     ensures ran { IfOk result (λ r. RunsThrough system.now options (W.contents out.old) (W.contents out.new) (ending_of r.0) r.1) }
     ensures failed { IfErr result (λ e. RunsOn system.now options [] (W.contents out.old) (W.contents out.new) (Err e)) }
 {
-    system.facts();
+    system.facts(); // for the prover: what holds of every accepted system
     let mut written: u128 = 0;
     loop {
         let pause = machine.go_on(system, options.horizon, options.steps, MANY_LINES)?;

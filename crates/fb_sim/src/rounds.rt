@@ -276,7 +276,7 @@ fn window<R: Threads + Wait + Sync, P: Gate>(
     ensures unwritten { IfOk result (λ r. AreUnwrittenOf system.now r.1.finals) }
     ensures memory { IfErr result (λ e. e ≡ Memory) }
 {
-    system.facts();
+    system.facts(); // for the prover: what holds of every accepted system
     let RoundPlan { options, ticks, .. } = plan;
     let bounds = core.bounds(options.horizon, ticks);
     let (away, jobs) = core.jobs(alloc, system, bounds)?;
@@ -347,7 +347,7 @@ pub(crate) fn round_with_counts<R: Threads + Wait + Sync, W: Write, P: Gate>(
     ensures { (ws : List model.Line) (holds : HoldsTo system.now plan.options.steps plan.options.horizon round_state.core round_state.unwritten ws)
         → RoundsWithCounts system.now plan.options round_state.core round_state.unwritten ws holds (W.contents out.old) (W.contents out.new) result }
 {
-    system.facts();
+    system.facts(); // for the prover: what holds of every accepted system
     let RoundState { core, unwritten } = round_state;
     let options = plan.options;
     // What becomes final in the turns of single resources is handed out after the next window.
@@ -389,8 +389,8 @@ pub fn round<R: Threads + Wait + Sync, W: Write, P: Gate>(
     ensures { (ls : List model.Line) (come : HasCome system.now options.steps options.horizon core ls)
         → Rounds system.now options come.steps ls (W.contents out.old) (W.contents out.new) result }
 {
-    system.facts();
-    core.facts();
+    system.facts(); // for the prover: what holds of every accepted system
+    core.facts(); // for the prover: what its type keeps
     let bounds = core.bounds(options.horizon, LONGEST_WINDOW);
     let (away, jobs) = core.jobs(alloc, system, bounds)?;
     let workers = options.workers as usize;

@@ -150,7 +150,7 @@ impl Simulation {
         requires out { self.old.stage ≡ going.Failed }
         ensures { RunsTo (record self.old { stage = going.Running }) self.new to (W.contents out.old) (W.contents out.new) result }
     {
-        self.system.facts();
+        self.system.facts(); // for the prover: what holds of every accepted system
         let options = Options {
             horizon: to,
             steps: self.steps,

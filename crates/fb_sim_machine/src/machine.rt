@@ -22,7 +22,7 @@ use crate::deliver::deliver;
 use crate::pause::{Pause, Step};
 use fb_agenda::Least;
 use fb_net::ResourceBlocks;
-use fb_resource::{Traffic, Taken, TickCounts, find_next, put_next, take};
+use fb_resource::{Taken, TickCounts, Traffic, find_next, put_next, take};
 use fb_system::System;
 use fb_types::{GivenRow, Line, Reason, StopMark};
 use std::alloc::AllocError;

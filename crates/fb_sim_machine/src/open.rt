@@ -8,7 +8,7 @@ ghost use Rattle.fb_sim_machine.specs.Openings.{AreOpened};
 
 use crate::machine::Machine;
 use fb_net::ResourceBlocks;
-use fb_resource::{Traffic, TickCounts, open_agenda, open_sent};
+use fb_resource::{TickCounts, Traffic, open_agenda, open_sent};
 use fb_system::System;
 use std::alloc::{AllocError, Global};
 

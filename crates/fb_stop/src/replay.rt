@@ -84,7 +84,7 @@ impl Replay {
         ensures at { IfOk result (λ m. IsAt system.now (opening_state system.now) (opening_agenda system.now (stimuli_of system.now)) m.run) }
         ensures copies { IfOk result (λ m. AreAllCopies system.now (opening_state system.now) m.copies.items) }
     {
-        system.facts();
+        system.facts(); // for the prover: what holds of every accepted system
         let run = Machine::open(alloc, system)?;
         let mut charts = BTreeMap::new(alloc);
         let mut copies = Vec::new(alloc);
@@ -199,7 +199,7 @@ impl Replay {
         ensures ready { OnOk result (IsReady system.now limit least.old.key.tick self.new.run) }
         ensures spent { IfOk result (λ found. found ≡ None → IsSpent limit least.old.key self.old.run.meters.items self.new.run.meters.items) }
     {
-        system.facts();
+        system.facts(); // for the prover: what holds of every accepted system
         self.run.clear_lines();
         let key = least.key;
         let at = site_of(system, &least.event);

@@ -83,7 +83,7 @@ fn step(
     ensures ready { OnOk result (IsReady system.now limit least.old.key.tick run.new) }
     ensures less { IfOk result (λ stop. stop ≡ None → IsSpent limit least.old.key run.old.meters.items run.new.meters.items) }
 {
-    system.facts();
+    system.facts(); // for the prover: what holds of every accepted system
     run.clear_lines();
     let key = least.key;
     let at = site_of(system, &least.event);

@@ -160,7 +160,7 @@ fn push_most(text: &mut Text, system: &System, spent: &mut Vec<u64>, limit: u64,
     requires { length spent.old.items ≡ instance_count system.now }
     ensures { length spent.new.items ≡ length spent.old.items }
 {
-    system.facts();
+    system.facts(); // for the prover: what holds of every accepted system
     let Some(index) = most(spent.as_slice()) else {
         return;
     };

@@ -152,7 +152,7 @@ pub(crate) fn ends_of(alloc: Global, system: &System) -> Result<Ends, AllocError
     ensures ports { IfOk result (ArePortRows system.now) }
     ensures sources { IfOk result (AreSources system.now) }
 {
-    system.facts();
+    system.facts(); // for the prover: what holds of every accepted system
     let mut ends = Ends::new(alloc);
     for instance in 0..system.count() {
         add_instance(&mut ends, system, instance as u32)?;

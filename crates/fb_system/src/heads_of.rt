@@ -181,7 +181,7 @@ fn add_instance(
     requires heads { AreHeads system.now heads.old }
     ensures { OnOk result (AreHeads system.now heads.new) }
 {
-    system.facts();
+    system.facts(); // for the prover: what holds of every accepted system
     let resource = system.resource(instance);
     if resource >= system.resources() || heads.ranges.len() != instance as usize {
         return Ok(());
@@ -201,7 +201,7 @@ fn add_instance(
 pub(crate) fn heads_of(alloc: Global, system: &System) -> Result<Heads, AllocError>
     ensures { IfOk result (AreHeads system.now) }
 {
-    system.facts();
+    system.facts(); // for the prover: what holds of every accepted system
     let mut text = Vec::new(alloc);
     let mut heads = Heads::new(alloc);
     for instance in 0..system.count() {

@@ -11,10 +11,14 @@ use fb_types::Items;
 use std::alloc::{AllocError, Global};
 
 /// For each instance, the resource that holds it: that of the application's instance which it is, or is inside of.
-fn instance_resources_of(alloc: Global, netlist: &Netlist, links: &Links) -> Result<Items<usize>, AllocError>
+fn instance_resources_of(
+    alloc: Global,
+    netlist: &Netlist,
+    links: &Links,
+) -> Result<Items<usize>, AllocError>
     ensures { IfOk result (λ instance_resources. (plan : Plan) → IsLinked netlist.now plan links.now → AreInstanceResources netlist.now plan instance_resources) }
 {
-    netlist.facts();
+    netlist.facts(); // for the prover: there are at most 4,096 instances, with different paths
     let mut instance_resources = Items::new(alloc);
     for instance in 0..netlist.count() {
         let instance_resource = match netlist.route(instance as u32).first() {

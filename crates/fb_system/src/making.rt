@@ -14,10 +14,10 @@ pub(crate) fn bound_all(blocks: &[BlockType])
 {
     for block in blocks {
         let ports = block.ports();
-        ports.event_inputs.count();
-        ports.event_outputs.count();
-        ports.inputs.count();
-        ports.outputs.count();
+        ports.event_inputs.count(); // for the prover: how many of them there are at most
+        ports.event_outputs.count(); // for the prover: how many of them there are at most
+        ports.inputs.count(); // for the prover: how many of them there are at most
+        ports.outputs.count(); // for the prover: how many of them there are at most
     }
 }
 

@@ -1,6 +1,6 @@
 //! Stimuli by number.
 
-use fb_types::{Items, InputValue};
+use fb_types::{InputValue, Items};
 
 /// A stimulus by number.
 #[derive(Drop)]

@@ -24,8 +24,8 @@ ghost use Rattle.fb_system.specs.OfSystem.{AreTogether, IsHead, IsPort, IsSource
 
 use crate::given::Given;
 use crate::heads::{Head, HeadOf};
-use crate::instance_resources::add_instance_resources;
 use crate::initial_values::{input_values, output_values};
+use crate::instance_resources::add_instance_resources;
 use crate::kept::{Kept, kept_of};
 use crate::links::Links;
 use crate::netlist::Netlist;
@@ -178,7 +178,7 @@ impl System {
     {
         let whole = &*self.whole;
         let _plan = whole.deploy.plan();
-        whole.netlist.facts();
+        whole.netlist.facts(); // for the prover: there are at most 4,096 instances, with different paths
     }
 
     /// The declaration.
@@ -297,7 +297,7 @@ impl System {
         let sender = self.resource(from.instance);
         let receiver = self.resource(next.target.instance);
         // There are at most 1,024 links, so that the number of one fits.
-        self.facts();
+        self.facts(); // for the prover: what holds of every accepted system
         Some(NextTarget {
             target: next.target,
             more: next.more,
@@ -471,7 +471,7 @@ impl System {
         requires { IsInstance self.now instance }
         ensures { IfOk result (λ vs. vs ≡ initial_outputs self.now (path_at self.now instance)) }
     {
-        self.facts();
+        self.facts(); // for the prover: what holds of every accepted system
         output_values(alloc, self.ports(instance))
     }
 

@@ -82,8 +82,8 @@ pub(crate) fn with_indexes(
     requires { IsIndexed ports.now indexes.now }
     ensures { IfOk result (AreWithIndexes ports.now) }
 {
-    ports.inputs.count();
-    ports.outputs.count();
+    ports.inputs.count(); // for the prover: how many of them there are at most
+    ports.outputs.count(); // for the prover: how many of them there are at most
     let inputs = indexes_of_lists(
         alloc,
         ports.event_inputs.as_slice(),

@@ -64,8 +64,8 @@ pub use name::Name;
 pub use numbered::Numbered;
 pub use reference::Reference;
 pub use run::{
-    Carried, Emission, Emits, Event, Form, GivenRow, Halt, InstanceVariable, Line, Message,
-    InputValue, StopMark, Target, TimerAsk, Values,
+    Carried, Emission, Emits, Event, Form, GivenRow, Halt, InputValue, InstanceVariable, Line,
+    Message, StopMark, Target, TimerAsk, Values,
 };
 pub use text::{BinaryOperator, Body, Branch, Choice, Expr, Label, Stmt, UnaryOperator};
 pub use value::{Reason, Ty, Value};

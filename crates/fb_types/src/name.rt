@@ -59,7 +59,10 @@ impl Name {
     {
         let spelling = spelling_of(alloc, bytes)?;
         let short_number = short_number_of(bytes);
-        Ok(Name { spelling, short_number })
+        Ok(Name {
+            spelling,
+            short_number,
+        })
     }
 
     /// The name with the bytes of a text.

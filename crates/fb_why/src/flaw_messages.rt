@@ -6,7 +6,9 @@ use crate::place::position_of;
 use crate::stimulus_messages::push_stimulus;
 use crate::unknown_messages::push_unknown;
 use fb_check::{Case, Limit, Location};
-use fb_check_names::{TooHighAt, FlowKind, GivenTwice, InBlock, TwoSourcesAt, Repeat, NoLinkAt, NotMappedAt};
+use fb_check_names::{
+    FlowKind, GivenTwice, InBlock, NoLinkAt, NotMappedAt, Repeat, TooHighAt, TwoSourcesAt,
+};
 use fb_read_positions::finding_positions::port_at;
 use fb_read_positions::headings::{
     network_at, push_connection, push_item, push_position, site_position,
@@ -191,9 +193,9 @@ fn heading_of(location: Location, position: Option<Position>) -> Option<Position
         }
         Location::TwoSources(joined) => Some(site_position(joined.site)),
         Location::NotMapped(NotMappedAt::Again(_)) => Some(Position::Application),
-        Location::TooHigh(TooHighAt::Circle(block, instance) | TooHighAt::Height(block, instance)) => {
-            Some(Position::InComposite(block, NetworkPart::InstanceType(instance)))
-        }
+        Location::TooHigh(
+            TooHighAt::Circle(block, instance) | TooHighAt::Height(block, instance),
+        ) => { Some(Position::InComposite(block, NetworkPart::InstanceType(instance))) }
         Location::OverLimit(_) => None,
         _ => position,
     }

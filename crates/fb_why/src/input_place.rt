@@ -9,7 +9,7 @@ ghost use Rattle.fb_why.specs.InputStretches.{IsDeployPlace};
 use crate::location::FindingLocation;
 use crate::place::PlacedFinding;
 use fb_check::{Limit, Location, StimulusFault, StimulusLocation};
-use fb_check_names::{GivenTwice, Side, UnknownName, NotMappedAt};
+use fb_check_names::{GivenTwice, NotMappedAt, Side, UnknownName};
 use fb_inputs::{
     DeployKey, DeployPosition, InputError, StimuliPosition, TableLocation, deploy_position,
     nearest_in_deployment, nearest_spans, read_deploy, stimuli_position,

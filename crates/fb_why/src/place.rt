@@ -5,10 +5,10 @@ ghost use Rattle.fb_why.specs.Positions as spec;
 
 use crate::location::Finding;
 use fb_check::{Limit, Location};
-use fb_check_names::{TwoSourcesAt, OutOfRangeAt, Site};
+use fb_check_names::{OutOfRangeAt, Site, TwoSourcesAt};
 use fb_read_positions::finding_positions::{
-    data_position, too_high_position, kind_wrong_position, twice_position, unknown_position,
-    no_link_position, not_mapped_position,
+    data_position, kind_wrong_position, no_link_position, not_mapped_position, too_high_position,
+    twice_position, unknown_position,
 };
 use fb_read_positions::{Place, Position};
 use fb_types::Library;
@@ -30,7 +30,9 @@ pub(crate) fn position_of(library: &Library, location: Location) -> Option<Posit
         Location::NameTwice(given) => twice_position(library, given),
         Location::NameUnknown(name) => unknown_position(library, name),
         Location::KindWrong(kind_wrong) => Some(kind_wrong_position(kind_wrong)),
-        Location::OutOfRange(OutOfRangeAt { site, connection }) => Some(data_position(site, connection)),
+        Location::OutOfRange(OutOfRangeAt { site, connection }) => Some(data_position(
+            site, connection,
+        )),
         // The later one of two data connections that lead to one port.
         Location::TwoSources(
             TwoSourcesAt {

@@ -97,7 +97,7 @@ fn is_of(
     requires event { event < length (spec.events_of (ports_of system.now instance) taken) }
     ensures { IfOk result (λ b. b ≡ is_of system.now pattern.now instance taken event) }
 {
-    system.facts();
+    system.facts(); // for the prover: what holds of every accepted system
     let ports = system.ports(instance);
     let resource = system.resource_name(system.resource(instance));
     let port = port_text(
@@ -139,7 +139,7 @@ fn any_event(
 fn has_port(alloc: Global, system: &System, pattern: &Pattern) -> Result<bool, AllocError>
     ensures { IfOk result (λ b. b ≡ has_port system.now pattern.now) }
 {
-    system.facts();
+    system.facts(); // for the prover: what holds of every accepted system
     for instance in 0..system.count() {
         let instance = instance as u32;
         let is_taken = any_event(alloc, system, pattern, instance, true)?;

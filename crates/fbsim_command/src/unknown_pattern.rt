@@ -57,7 +57,7 @@ fn fits(
     requires instance { IsInstance system.now at.0 }
     requires event { at.2 < length (spec.events_of (ports_of system.now at.0) at.1) }
 {
-    system.facts();
+    system.facts(); // for the prover: what holds of every accepted system
     let (instance, taken, event) = at;
     let ports = system.ports(instance);
     let own = system.resource_name(system.resource(instance));
@@ -119,7 +119,7 @@ fn first_fit(
 ) -> Result<Option<(u32, bool, u32)>, AllocError>
     ensures { IfOk result (λ o. IfSome o (λ at. IsInstance system.now at.0 × (at.2 < length (spec.events_of (ports_of system.now at.0) at.1)))) }
 {
-    system.facts();
+    system.facts(); // for the prover: what holds of every accepted system
     for instance in 0..system.count() {
         let instance = instance as u32;
         if let Some(event) = fitting_event(alloc, system, pattern, stage, instance, true)? {
@@ -171,7 +171,7 @@ fn parted(port: &[u8]) -> (&[u8], &[u8]) {
 fn instance_at(system: &System, path: &[u8]) -> Option<u32>
     ensures { IfSome result (IsInstance system.now) }
 {
-    system.facts();
+    system.facts(); // for the prover: what holds of every accepted system
     for instance in 0..system.count() {
         if system.path(instance as u32) == path {
             return Some(instance as u32);
@@ -184,7 +184,7 @@ fn instance_at(system: &System, path: &[u8]) -> Option<u32>
 fn nearest(alloc: Global, system: &System, path: &[u8]) -> Result<Option<u32>, AllocError>
     ensures { IfOk result (λ o. IfSome o (IsInstance system.now)) }
 {
-    system.facts();
+    system.facts(); // for the prover: what holds of every accepted system
     let mut least = usize::MAX;
     let mut nearest = None;
     for instance in 0..system.count() {
@@ -237,7 +237,7 @@ fn push_events(text: &mut Text, inputs: &[EventPort], outputs: &[EventPort]) {
 fn push_event(text: &mut Text, system: &System, instance: u32, way: Way, event: &[u8])
     requires { IsInstance system.now instance }
 {
-    system.facts();
+    system.facts(); // for the prover: what holds of every accepted system
     let ports = system.ports(instance);
     text.shown(system.path(instance));
     text.words(match way {

@@ -8,7 +8,7 @@ ghost use Rattle.fb_check_names.specs.Numbers.{IsResolved};
 ghost use Rattle.fb_check.specs.networks.Heights as spec;
 ghost use Rattle.fb_check.specs.networks.Heights.{IsTooHighAt};
 
-use fb_check_names::{TooHighAt, NetworkNumbers, Resolved, TypeNumber};
+use fb_check_names::{NetworkNumbers, Resolved, TooHighAt, TypeNumber};
 use std::alloc::{AllocError, Global};
 
 /// The number of steps below a component's type from which its holder is too high. A composite type that contains no

@@ -9,7 +9,7 @@ ghost use Rattle.fb_check.specs.networks.Mapping.{IsMapping, holder_in, owner_of
 ghost use Rattle.fb_check.specs.networks.NotMapped.{not_mapped_all, not_mapped_among};
 
 use fb_check_names::{
-    Indexes, Repeat, NotMappedAt, index_of_name, last_indexes, push_names, push_unless,
+    Indexes, NotMappedAt, Repeat, index_of_name, last_indexes, push_names, push_unless,
 };
 use fb_types::{Instance, Items, Library, Name, Plan, PortName, ResourceEntry};
 use std::alloc::{AllocError, Global};

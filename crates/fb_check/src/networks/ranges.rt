@@ -13,7 +13,7 @@ ghost use Rattle.fb_check.specs.networks.OutOfRange.{IsOutOfRangeAt, out_of_rang
 use crate::networks::values::is_within;
 use crate::networks::variables::{source_type, target_type};
 use fb_check_names::{
-    OutOfRangeAt, NetworkNumbers, NumberedConnection, Resolved, Site, TypeNumber, push_unless,
+    NetworkNumbers, NumberedConnection, OutOfRangeAt, Resolved, Site, TypeNumber, push_unless,
 };
 use fb_types::{BlockType, Items, Library, Ports};
 use std::alloc::{AllocError, Global};

@@ -9,7 +9,7 @@ ghost use Rattle.fb_check_names.specs.Repeats.{repeats};
 ghost use Rattle.fb_check_names.specs.Sites.{inside_of};
 ghost use Rattle.fb_check.specs.networks.Sources.{IsTwoSourcesAt, two_sources_all, two_sources_among, two_sources_at, two_sources_in, target, targets};
 
-use fb_check_names::{EndNames, TwoSourcesAt, Repeat, Site, end_names, push_pair};
+use fb_check_names::{EndNames, Repeat, Site, TwoSourcesAt, end_names, push_pair};
 use fb_types::{BlockType, Connection, Library};
 use std::alloc::{AllocError, Global};
 use std::collections::BTreeMap;
@@ -99,7 +99,10 @@ fn push_in_blocks(
 /// # Errors
 ///
 /// When memory runs out.
-pub fn two_sources_locations(alloc: Global, library: &Library) -> Result<Vec<TwoSourcesAt>, AllocError>
+pub fn two_sources_locations(
+    alloc: Global,
+    library: &Library,
+) -> Result<Vec<TwoSourcesAt>, AllocError>
     ensures listed { IfOk result (λ found. found.items ≡ two_sources_all library.now) }
     ensures each { IfOk result (λ found. All (IsTwoSourcesAt library.now) found.items) }
     ensures none { IfOk result (λ found. found.items ≡ [] → ¬ (TwoSources library.now)) }

@@ -90,7 +90,14 @@ impl Taking<'_> {
     {
         let row = row_of(self.system, at);
         self.take_samples(at, &row.with)?;
-        send_out(&mut self.effects.outs, self.system, at, &row.first, &[], &[])
+        send_out(
+            &mut self.effects.outs,
+            self.system,
+            at,
+            &row.first,
+            &[],
+            &[],
+        )
     }
 
     /// An event from inside arrives at an event output of a composite, which shows the outputs WITH the event and emits

@@ -13,7 +13,7 @@ ghost use Rattle.fb_net.specs.Worlds.{Stands};
 
 use crate::resource::Forest;
 use fb_system::System;
-use fb_types::{Carried, InstanceVariable, MessageValues, InputValue, Target, Value};
+use fb_types::{Carried, InputValue, InstanceVariable, MessageValues, Target, Value};
 
 /// Gives the variables WITH an event input, which are at `indexes`, the values that they sampled. The instance is an
 /// event block or a composite, and is in the resource.

@@ -14,7 +14,7 @@ ghost use Rattle.fb_net.specs.Steps.{EmitsWell, MayEmit, StaysWhole, ports_in};
 ghost use Rattle.fb_net.specs.OfSystem.{outputs_at};
 ghost use Rattle.fb_net.specs.Worlds.{Stands};
 
-use crate::effects::{Out, Effects, OutgoingMessage};
+use crate::effects::{Effects, Out, OutgoingMessage};
 use crate::resource::Forest;
 use crate::taking::Taking;
 use fb_system::{NextTarget, PortRow, System, With};

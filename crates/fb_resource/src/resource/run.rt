@@ -8,9 +8,9 @@ ghost use Rattle.fb_resource.specs.declared.resource.WindowDone.TheVariants.{Ran
 
 use crate::next::{find_next, put_next};
 use crate::one_taking::take;
-use crate::traffic::Traffic;
 use crate::resource::{Output, Resource, WindowDone};
 use crate::tick_counts::TickCounts;
+use crate::traffic::Traffic;
 use fb_agenda::{Agenda, Least};
 use fb_system::System;
 use fb_types::{Line, StopMark};

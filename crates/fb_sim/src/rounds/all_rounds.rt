@@ -87,7 +87,7 @@ pub(crate) fn run_on<R: Threads + Wait + Sync, W: Write, P: Gate>(
     requires come { (ls : List model.Line) × HasCome system.now options.steps options.horizon first ls }
     ensures { (ls : List model.Line) → HasCome system.now options.steps options.horizon first ls → RunsOn system.now options ls (W.contents out.old) (W.contents out.new) result }
 {
-    system.facts();
+    system.facts(); // for the prover: what holds of every accepted system
     let unwritten = UnwrittenLines::none(alloc);
     let mut round_state = RoundState {
         core: first,

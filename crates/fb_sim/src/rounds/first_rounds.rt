@@ -96,7 +96,7 @@ pub(crate) fn run_first<R: Threads + Wait + Sync, P: Gate, C: Clock>(
     ensures first_rounds { IfOk result (λ r. AreFirstRounds system.now options r.0 r.1 text.new.items) }
     ensures memory { IfErr result (λ e. e ≡ Memory) }
 {
-    system.facts();
+    system.facts(); // for the prover: what holds of every accepted system
     let unwritten = UnwrittenLines::none(alloc);
     let mut round_state = RoundState {
         core: first,
@@ -194,7 +194,7 @@ pub(crate) fn run_rest<R: Threads + Wait + Sync, W: Write, P: Gate>(
     requires first_rounds { AreFirstRounds system.now options first_rounds begun text.items }
     ensures { RunsOn system.now options [] (W.contents out.old) (W.contents out.new) result }
 {
-    system.facts();
+    system.facts(); // for the prover: what holds of every accepted system
     let length = text.len();
     let count = write_front(out, text.as_slice());
     drop(text);

@@ -124,7 +124,7 @@ fn expect_text<R: Abort>(rt: &R, made: &MarkedText, given: &Given) {
 fn expect_texts<R: Abort>(rt: &R, alloc: Global, run: &Run, given: &[Given]) {
     assert!(rt; 1 <= run.steps && run.steps <= 10_000_000 && run.horizon <= 1_000_000_000_000);
     let system = system_of(rt, alloc, run);
-    system.facts();
+    system.facts(); // for the prover: what holds of every accepted system
     let core = opened(rt, alloc, &system, run.steps);
     let mut texts = Vec::new(alloc);
     let finals = first_round(rt, alloc, &system, core, run.horizon, &mut texts);

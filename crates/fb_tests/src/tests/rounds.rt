@@ -95,7 +95,7 @@ fn make_rounds<R: Abort + Threads + Wait + Sync>(
 ) -> (usize, Outcome)
     requires { AreWithin options }
 {
-    system.facts();
+    system.facts(); // for the prover: what holds of every accepted system
     let mut core = opened(rt, alloc, system, options.steps);
     for (number, part) in rounds.iter().enumerate() {
         expect_bounds(rt, &core, options.horizon, part.bounds);

@@ -54,7 +54,7 @@ pub fn opened(rt: &impl Abort, alloc: Global, system: &System, number: u32) -> R
     ensures unheard { (j : Key) → j.class ≡ 2 → j.resource ≡ result.resource_blocks.resource → waiting result.agenda j ≡ None }
 {
     assert!(rt; (number as usize) < system.resources());
-    system.facts();
+    system.facts(); // for the prover: what holds of every accepted system
     let Ok(resource) = Resource::open(alloc, system, number) else {
         rt.panic("memory")
     };
@@ -68,7 +68,7 @@ pub fn built(rt: &impl Abort, alloc: Global, system: &System, number: u32) -> Re
     ensures number { result.resource ≡ number }
 {
     assert!(rt; (number as usize) < system.resources());
-    system.facts();
+    system.facts(); // for the prover: what holds of every accepted system
     let Ok(resource_blocks) = ResourceBlocks::build(alloc, system, number) else {
         rt.panic("memory")
     };

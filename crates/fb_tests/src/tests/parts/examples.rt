@@ -40,7 +40,8 @@ fn a_tree_takes_a_timer(rt: HostRuntime) {
     };
     let mut meter = Meter { left: 100 };
     assert!(rt; system.count() == 1 && system.resource(0) == 0);
-    resource_blocks.take(&system, Arrival::Timer(0), 0, &mut meter, &mut effects)
+    resource_blocks
+        .take(&system, Arrival::Timer(0), 0, &mut meter, &mut effects)
         .expect(&rt, "taken");
     assert!(rt; effects.lines.len() == 1 && effects.outs.is_empty());
     forget((resource_blocks, effects));
