@@ -1,17 +1,17 @@
 -- What the rule of a claim board means for each number.
 -- This project's own profile: no clause of IEC 61499 speaks of a claim board.
 use Rattle.std.specs.Prelude.{◌≡◌, ◌≢◌, ◌⊎◌, ℕ, List, slice_get, Some, Contains}
-use Rattle.fb_board.specs.declared.rule.CellContent.TheVariants.{Waiting, Home}
+use Rattle.fb_board.specs.declared.rule.SlotContent.TheVariants.{Waiting, Home}
 use Rattle.fb_board.specs.declared.rule.View.{View}
 use Rattle.fb_board.specs.View.{times_drawn}
-use Rattle.fb_board.specs.Claims.{BoardState, Knows, CellHas, MeetsRule, flag}
+use Rattle.fb_board.specs.Claims.{BoardState, Knows, SlotHas, MeetsRule, flag}
 
 module _ {J D : Type 0} (s : BoardState J D) (k : ℕ) where
-  -- nobody drew k, and its cell has its job
+  -- nobody drew k, and its slot has its job
   pub record IsWaiting (job : J) : Type 0 where
     pub lowered : flag s k ≡ 0
     pub undrawn : (seat : ℕ) (v : View J) → Knows s seat v → ¬ Contains v.drawn k
-    pub cell : CellHas s k (Waiting job)
+    pub slot : SlotHas s k (Waiting job)
 
   -- one seat drew k, whose slip it is, and nobody put it back
   pub record IsOut : Type 0 where
@@ -23,7 +23,7 @@ module _ {J D : Type 0} (s : BoardState J D) (k : ℕ) where
     pub slip : view.slip ≡ Some k
     pub others : (other : ℕ) (w : View J) → other ≢ seat → Knows s other w → ¬ Contains w.drawn k
 
-  -- one seat drew k and put it back, and its cell has what was made of its job
+  -- one seat drew k and put it back, and its slot has what was made of its job
   pub record IsBack (does : J → D → Type 0) (job : J) : Type 0 where
     pub raised : flag s k ≡ 1
     pub seat : ℕ
@@ -33,7 +33,7 @@ module _ {J D : Type 0} (s : BoardState J D) (k : ℕ) where
     pub back : Contains view.back k
     pub others : (other : ℕ) (w : View J) → other ≢ seat → Knows s other w → ¬ Contains w.drawn k
     pub done : D
-    pub cell : CellHas s k (Home done)
+    pub slot : SlotHas s k (Home done)
     pub does_job : does job done
 
 module _ {J D : Type 0} (does : J → D → Type 0) where

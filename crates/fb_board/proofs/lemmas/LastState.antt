@@ -1,10 +1,10 @@
--- What the last state of a board reveals: `words` are read after the table is closed, and `values` come out of its cells.
+-- What the last state of a board reveals: `words` are read after the table is closed, and `values` come out of its slots.
 use Rattle.std.proofs.Common.{◌≡◌, ◌≢◌, ℕ, ◌+◌, ◌<◌, List, length, get_or, slice_get, Some, Contains, sym, ap, ◌∙◌, subst}
 use mathlib.Core.Option.{some}
 use lib.ListN.{get_elem?}
 use Rattle.atomic_table.specs.Table.{Final, Seen}
-use Rattle.fb_board.specs.declared.rule.CellContent.{CellContent}
-use Rattle.fb_board.specs.declared.rule.CellContent.TheVariants.{Home}
+use Rattle.fb_board.specs.declared.rule.SlotContent.{SlotContent}
+use Rattle.fb_board.specs.declared.rule.SlotContent.TheVariants.{Home}
 use Rattle.fb_board.specs.declared.rule.View.{View}
 use Rattle.fb_board.specs.Claims.{Knows, MeetsRule, flag}
 use Rattle.fb_board.specs.Moment.{Moment, IsLeastOut}
@@ -12,7 +12,7 @@ use Rattle.fb_board.proofs.lemmas.Counts.{is_there}
 use Rattle.fb_board.proofs.lemmas.OneState.{back_raised}
 use Rattle.std.proofs.lemmas.Option.{slice_get_within}
 
-module _ {J D : Type 0} (does : J → D → Type 0) (jobs : List J) (seat : ℕ) (v : View J) (words : List ℕ) (values : List (CellContent J D))
+module _ {J D : Type 0} (does : J → D → Type 0) (jobs : List J) (seat : ℕ) (v : View J) (words : List ℕ) (values : List (SlotContent J D))
     (last : Final (Seen (MeetsRule does jobs) seat v) words values) where
   flag_is : (k : ℕ) → flag last.0 k ≡ get_or words (k + 1) 0
   flag_is k = ap (λ ws. get_or ws (k + 1) 0) last.2
@@ -36,5 +36,5 @@ module _ {J D : Type 0} (does : J → D → Type 0) (jobs : List J) (seat : ℕ)
     pub each_does : (k : ℕ) (job : J) (done : D) → slice_get jobs k ≡ Some job → get_elem? values k ≡ some (Home done) → does job done
     each_does k job done there value =
         let home = last.1.0.home k job there (flag_is k ∙ raised k (slice_get_within jobs k job there)) in
-        let same_cell : get_elem? values k ≡ some (Home home.0) = last.4 k (Home home.0) home.1 in
+        let same_slot : get_elem? values k ≡ some (Home home.0) = last.4 k (Home home.0) home.1 in
         let same : home.0 ≡ done = cc in subst (does job) same home.2

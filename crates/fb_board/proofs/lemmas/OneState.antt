@@ -117,7 +117,7 @@ module _ {J D : Type 0} {does : J → D → Type 0} {jobs : List J} (s : BoardSt
         back = back;
         others = alone seat v at k drawn;
         done = done.0;
-        cell = done.1;
+        slot = done.1;
         does_job = done.2;
       })
       (λ out.
@@ -138,6 +138,6 @@ module _ {J D : Type 0} {does : J → D → Type 0} {jobs : List J} (s : BoardSt
       (λ beyond. inl record {
         lowered = rule.flags k (slice_get_within jobs k job there) ∙ not_back k beyond;
         undrawn = λ seat v at. undrawn seat v at k (omega arith);
-        cell = rule.waiting k job there beyond;
+        slot = rule.waiting k job there beyond;
       })
       (λ no. inr (drawn_index k job there (lt_of_not-le no)))

@@ -9,8 +9,8 @@ use native.Mathlib.Decide.{ℕ_discrete}
 use lib.ListN.{get_elem?, length-replicate, get_or-replicate, length-map}
 use Rattle.atomic_table.specs.Table.{keeps, takes, gives, stepped, opening}
 use Rattle.atomic_table.proofs.Lists.{at_set, set_here, set_else, at_map}
-use Rattle.fb_board.specs.declared.rule.CellContent.{CellContent}
-use Rattle.fb_board.specs.declared.rule.CellContent.TheVariants.{Waiting, Home}
+use Rattle.fb_board.specs.declared.rule.SlotContent.{SlotContent}
+use Rattle.fb_board.specs.declared.rule.SlotContent.TheVariants.{Waiting, Home}
 use Rattle.fb_board.specs.declared.rule.View.{View}
 use Rattle.fb_board.specs.declared.board.TheConstants.{MAX_JOBS}
 use Rattle.fb_board.specs.View.{opener_view, view_after_split, split_off_view, view_after_draw, view_after_dry_draw, view_after_put_back, times_drawn, times_back, times_out, dryness}
@@ -76,7 +76,7 @@ module _ {J D : Type 0} {does : J → D → Type 0} {jobs : List J} (s : BoardSt
   flag_after : (x : ℕ) → get_or drawn_words (x + 1) 0 ≡ flag s x
   flag_after x = get_or-set_other s.words 0 (x + 1) ((draw_count s + 1) % 2 ^ 64) 0 (λ e. omega arith)
 
-  module _ (held : List (ℕ × CellContent J D)) (wet : v.dry ≡ false) where
+  module _ (held : List (ℕ × SlotContent J D)) (wet : v.dry ≡ false) where
     -- a draw that finds a number
     pub draw_keeps : (job : J) → v.slip ≡ None → draw_count s < length jobs
         → MeetsRule does jobs (stepped s 0 ((draw_count s + 1) % 2 ^ 64) seat held (view_after_draw v (draw_count s)) (takes (draw_count s) (Waiting job)))
@@ -85,7 +85,7 @@ module _ {J D : Type 0} {does : J → D → Type 0} {jobs : List J} (s : BoardSt
         let before : drawn_count s jobs ≡ k = omega arith in let after : min (length jobs) (get_or drawn_words 0 0) ≡ k + 1 = omega arith in
         record {
           words = length-set s.words 0 ((k + 1) % 2 ^ 64) ∙ rule.words;
-          cells = length-set s.homes k none ∙ rule.cells;
+          slots = length-set s.homes k none ∙ rule.slots;
           few_jobs = rule.few_jobs;
           seats = seats_stay s.views rule.seats seat v w at refl refl refl;
           at_most = (let dry = sum_keep dryness s.views seat v w at refl in omega arith);
@@ -117,7 +117,7 @@ module _ {J D : Type 0} {does : J → D → Type 0} {jobs : List J} (s : BoardSt
         let same : min (length jobs) (get_or drawn_words 0 0) ≡ drawn_count s jobs = omega arith in
         record {
           words = length-set s.words 0 ((draw_count s + 1) % 2 ^ 64) ∙ rule.words;
-          cells = rule.cells;
+          slots = rule.slots;
           few_jobs = rule.few_jobs;
           seats = seats_stay s.views rule.seats seat v w at refl refl refl;
           at_most = (let dry = sum_set dryness s.views seat v w at in let was = rule.at_most in omega arith);
@@ -142,7 +142,7 @@ module _ {J D : Type 0} {does : J → D → Type 0} {jobs : List J} (s : BoardSt
       let flag_stays : (x : ℕ) → x ≢ k → get_or words (x + 1) 0 ≡ flag s x = λ x ne. get_or-set_other s.words (k + 1) (x + 1) 1 0 (λ e. ne (omega arith)) in
       record {
         words = length-set s.words (k + 1) 1 ∙ rule.words;
-        cells = length-set s.homes k (some (Home done)) ∙ rule.cells;
+        slots = length-set s.homes k (some (Home done)) ∙ rule.slots;
         few_jobs = rule.few_jobs;
         seats = seats_stay s.views rule.seats seat v w at refl refl refl;
         at_most = (let dry = sum_keep dryness s.views seat v w at refl in let was = rule.at_most in omega arith);
@@ -167,7 +167,7 @@ module _ {J D : Type 0} {does : J → D → Type 0} {jobs : List J} (s : BoardSt
         home = λ x i there raised. dite (ℕ_discrete x k)
             (λ e. (
               done,
-              subst (λ y. get_elem? (set s.homes k (some (Home done))) y ≡ some (some (Home done))) (sym e) (set_here s.homes k (some (Home done)) (let cells = rule.cells in omega arith)),
+              subst (λ y. get_elem? (set s.homes k (some (Home done))) y ≡ some (some (Home done))) (sym e) (set_here s.homes k (some (Home done)) (let slots = rule.slots in omega arith)),
               right i (subst (λ y. slice_get jobs y ≡ Some i) e there),
             ))
             (λ ne. (let was = rule.home x i there (sym (flag_stays x ne) ∙ raised) in (was.0, set_else s.homes k x (some (Home done)) ne ∙ was.1, was.2)));
@@ -184,7 +184,7 @@ module _ {J D : Type 0} {does : J → D → Type 0} {jobs : List J} (s : BoardSt
       = λ f same none. (let keep = sum_keep f s.views seat v w at same in let push = sum_by_push f left new in omega arith) in
       record {
         words = rule.words;
-        cells = rule.cells;
+        slots = rule.slots;
         few_jobs = rule.few_jobs;
         seats = seats_split s.views rule.seats seat v at more;
         at_most = (let dry = sum dryness refl refl in let was = rule.at_most in omega arith);
@@ -212,7 +212,7 @@ module _ {J D : Type 0} (does : J → D → Type 0) (jobs : List J) where
       = λ K mine j u there. (let t = only (opener_view jobs) u j there in subst (λ i. K i u) (sym t.0) (subst (K 0) t.1 mine)) in
       record {
         words = length-replicate (n + 1) 0;
-        cells = length-map (map Waiting jobs) some ∙ length-map jobs Waiting;
+        slots = length-map (map Waiting jobs) some ∙ length-map jobs Waiting;
         few_jobs = few;
         seats = record {
           few = refl;
@@ -230,7 +230,7 @@ module _ {J D : Type 0} (does : J → D → Type 0) (jobs : List J) where
         waiting = λ k job there _. at_map some (map Waiting jobs) k (Waiting job) (at_map Waiting jobs k job (at_from_slice_get jobs k job there));
       }
 
-  pub opening_keeps : (words : List ℕ) (cells : List (CellContent J D)) → words ≡ replicate (length jobs + 1) 0 → cells ≡ map Waiting jobs → length jobs ≤ MAX_JOBS
-      → MeetsRule does jobs (opening words cells (opener_view jobs))
-  opening_keeps words cells words_are cells_are few = subst (λ (z : List ℕ × List (CellContent J D)). MeetsRule does jobs (opening z.0 z.1 (opener_view jobs)))
-      (λ i. (sym words_are i, sym cells_are i)) (opening_keeps_plain few)
+  pub opening_keeps : (words : List ℕ) (slots : List (SlotContent J D)) → words ≡ replicate (length jobs + 1) 0 → slots ≡ map Waiting jobs → length jobs ≤ MAX_JOBS
+      → MeetsRule does jobs (opening words slots (opener_view jobs))
+  opening_keeps words slots words_are slots_are few = subst (λ (z : List ℕ × List (SlotContent J D)). MeetsRule does jobs (opening z.0 z.1 (opener_view jobs)))
+      (λ i. (sym words_are i, sym slots_are i)) (opening_keeps_plain few)
