@@ -20,7 +20,7 @@ pub use Rattle.std.proofs.lemmas.Slice.Eq.{bytes_eq-Decides, slice_eq-Decides}
 pub use Rattle.std.specs.BTreeMap.{BTreeMap, insert_entry}
 pub use Rattle.std.specs.Bool.{Decides, OnFalse, OnTrue}
 pub use Rattle.std.specs.Char.{is_ascii_digit}
-pub use Rattle.std.specs.Fmt.{digits}
+unfoldable pub use Rattle.std.specs.Fmt.{digits}
 pub use Rattle.std.specs.Global.{Vec}
 pub use Rattle.std.specs.Io.BufRead.{take_through}
 pub use Rattle.std.specs.Io.KnownBytes.{Appends, Consumes, IsAtEnd}
@@ -62,7 +62,8 @@ pub use Rattle.fb_types.specs.Simulation.{AtHorizon, AtStop, Chain, Ending, IsSi
 pub use Rattle.fb_types.specs.States.{Agenda, Arrived, Block, Config, Expired, InState, Meter, Raised, State, Stimulated, path_of}
 pub use Rattle.fb_types.specs.Syntax.{Assign, Binary, Branches, Case, Choices, Empty, Exit, For, If, Repeat, Return, Stmt, Stmts, While, body_of, expr_of, exprs, no_branch, no_choice, no_stmt, step_of, stmt_of, then_branches, then_choices, then_stmts}
 pub use Rattle.fb_types.specs.Systems.{System}
-pub use Rattle.fb_types.specs.Takes.{Effect, Posts, Takes, TakesWith, agenda_after, begun, effect_of, is_timer_of, out_of_steps, post, post_all, posts_of, put_of, timer_change, with_at, world_of}
+pub use Rattle.fb_types.specs.Takes.{Effect, Posts, TakesWith, agenda_after, begun, effect_of, is_timer_of, out_of_steps, post, post_all, posts_of, put_of, timer_change, with_at, world_of}
+unfoldable pub use Rattle.fb_types.specs.Takes.{Takes}
 pub use Rattle.fb_types.specs.Text.{last_line, line_text, lines_text, path_text, reason_text, tick_and_resource_text, trace_text, value_text, values_text}
 pub use Rattle.fb_types.specs.Unknown.{Mention, NameUnknown, Required, all_of, data_ins, data_outs, ends_known, event_ins, event_outs, is_end, is_known, mentioned, mentions, mentions_body, required, required_chart, required_deployment, required_parameters, required_types, required_withs}
 pub use Rattle.fb_types.specs.Values.{Types, Values, and_then, binary_value, fits, function_named, truth, truth_of, unary_value, value_if_known, value_of, values_of, whole}

@@ -3,8 +3,8 @@ pub use Rattle.fb_expect.specs.Drafts.{text_of}
 pub use Rattle.fb_expect.specs.Events.{Event, event_of}
 pub use Rattle.fb_expect.specs.Hits.{hit_at, tick_at}
 pub use Rattle.fb_expect.specs.Judging.{AllFollow, AreJudged, rules_of}
-pub use Rattle.fb_expect.specs.Lists.{each}
-pub use Rattle.fb_expect.specs.Patterns.{is_at}
+unfoldable pub use Rattle.fb_expect.specs.Lists.{each}
+unfoldable pub use Rattle.fb_expect.specs.Patterns.{is_at}
 pub use Rattle.fb_expect.specs.Reports.{joined}
 pub use Rattle.fb_expect.specs.Rules.{IsOver, count_in}
 pub use Rattle.fb_expect.specs.Traces.{AreBelow, tick_of}

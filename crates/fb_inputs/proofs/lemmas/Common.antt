@@ -1,15 +1,19 @@
 -- The names that most proofs of this crate cite, passed on from one place. Declares nothing.
-pub use Rattle.fb_inputs.specs.Counts.{at, count_below}
+pub use Rattle.fb_inputs.specs.Counts.{at}
+unfoldable pub use Rattle.fb_inputs.specs.Counts.{count_below}
 pub use Rattle.fb_inputs.specs.DeployLocations.{element_at, location_of, shape_in}
-pub use Rattle.fb_inputs.specs.Deployments.{among_links, entries_of_link, entry, first_failing, has_latency, latency_of_link, out_of_order, start_of_link}
+pub use Rattle.fb_inputs.specs.Deployments.{entries_of_link, entry, has_latency, latency_of_link, start_of_link}
+unfoldable pub use Rattle.fb_inputs.specs.Deployments.{among_links, first_failing, out_of_order}
 pub use Rattle.fb_inputs.specs.Documents.{count_of, of_table}
-pub use Rattle.fb_inputs.specs.Lines.{is_blank, is_first}
-pub use Rattle.fb_inputs.specs.Lists.{all_after, each_at, each_in, placed}
+pub use Rattle.fb_inputs.specs.Lines.{is_blank}
+unfoldable pub use Rattle.fb_inputs.specs.Lines.{is_first}
+pub use Rattle.fb_inputs.specs.Lists.{all_after, placed}
+unfoldable pub use Rattle.fb_inputs.specs.Lists.{each_at, each_in}
 pub use Rattle.fb_inputs.specs.Readers.{IsAt, rows_from}
 pub use Rattle.fb_inputs.specs.Records.{is_quote}
 pub use Rattle.fb_inputs.specs.Refusals.{and_then, or_refuse}
 pub use Rattle.fb_inputs.specs.Rows.{Row, setting}
-pub use Rattle.fb_inputs.specs.Stimuli.{stimuli_from, stimulus}
+unfoldable pub use Rattle.fb_inputs.specs.Stimuli.{stimuli_from, stimulus}
 pub use Rattle.fb_inputs.specs.StimuliLocations.{fault_of, value_at}
 pub use Rattle.fb_inputs.specs.Words.{Text}
 pub use Rattle.fb_inputs.specs.declared.deploy_location.DeployLocation.{DeployLocation}

@@ -5,7 +5,8 @@ pub use Rattle.fb_net.specs.Blocks.{components_of, own_of}
 pub use Rattle.fb_net.specs.Changes.{Changes, block_in, with_instance}
 pub use Rattle.fb_net.specs.Emitting.{carried_by, outputs_at, outputs_shown}
 pub use Rattle.fb_net.specs.Events.{Remembered}
-pub use Rattle.fb_net.specs.HeldAt.{IsSet, held_at, side_index_of}
+pub use Rattle.fb_net.specs.HeldAt.{IsSet, side_index_of}
+unfoldable pub use Rattle.fb_net.specs.HeldAt.{held_at}
 pub use Rattle.fb_net.specs.Leaves.{EventCame, taken_reaction}
 pub use Rattle.fb_net.specs.Opening.{AreGrown, Covers, begun_all}
 pub use Rattle.fb_net.specs.Outs.{IsOut, RepresentsOutcome, StillAreOuts, asked, gathered, out_of}

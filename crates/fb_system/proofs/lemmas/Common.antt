@@ -8,7 +8,8 @@ pub use Rattle.fb_system.specs.Begins.{parameter_names}
 pub use Rattle.fb_system.specs.Ends.{IsSourceRowAt}
 pub use Rattle.fb_system.specs.Heads.{IsRowAt}
 pub use Rattle.fb_system.specs.IndexLists.{AreIndexes, AreWithIndexes}
-pub use Rattle.fb_system.specs.Layers.{layer, network_inside}
+pub use Rattle.fb_system.specs.Layers.{network_inside}
+unfoldable pub use Rattle.fb_system.specs.Layers.{layer}
 pub use Rattle.fb_system.specs.Layouts.{AreComponents, AreNumbers, IsRow, index_at, path_of, route_to}
 pub use Rattle.fb_system.specs.Linking.{IsLinked}
 pub use Rattle.fb_system.specs.Netlists.{port_of, variable_of}
