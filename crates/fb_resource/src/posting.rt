@@ -1,6 +1,6 @@
 //! Posting what taking an event puts out: the timer, local events onto the agenda, messages after the mail.
 
-ghost use Rattle.std.specs.Prelude.{◌≡◌, ◌+◌, ◌<◌, ◌≤◌, ◌^◌, ◌++◌, ◌∷◌, ℕ, [], length, All, IfOk, IfSome, OnOk, slice_index, slice_set};
+ghost use Rattle.std.specs.Prelude.{◌≡◌, ◌+◌, ◌<◌, ◌≤◌, ◌^◌, ◌++◌, ◌∷◌, ℕ, [], length, All, IfErr, IfOk, IfSome, OnOk, slice_index, slice_set};
 ghost use Rattle.std.specs.Bool.{OnTrue};
 ghost use Rattle.fb_types.specs.States.{path_of};
 ghost use Rattle.fb_types.specs.declared.run.Event.TheVariants.{Local};
@@ -31,9 +31,13 @@ fn count_message(sent: &mut Vec<u128>, link: u32) -> Result<u128, AllocError>
     requires { link < length sent.old.items }
     ensures number { IfOk result (λ number. number ≡ slice_index sent.old.items link) }
     ensures counted { OnOk result (sent.new.items ≡ slice_set sent.old.items link (slice_index sent.old.items link + 1)) }
+    ensures full { IfErr result (λ e. slice_index sent.old.items link + 1 ≡ 2 ^ 128) }
 {
     let number = sent[link as usize];
-    sent[link as usize] = number.checked_add(1).ok_or(AllocError)?;
+    if number == u128::MAX {
+        return Err(AllocError);
+    }
+    sent[link as usize] = number + 1;
     Ok(number)
 }
 
