@@ -151,7 +151,8 @@ impl ResourceBlocks {
     /// };
     /// let mut meter = Meter { left: 100 };
     /// assert!(rt; system.count() == 1 && system.resource(0) == 0);
-    /// resource_blocks.take(&system, Arrival::Timer(0), 0, &mut meter, &mut effects)
+    /// resource_blocks
+    ///     .take(&system, Arrival::Timer(0), 0, &mut meter, &mut effects)
     ///     .expect(&rt, "taken");
     /// assert!(rt; effects.lines.len() == 1 && effects.outs.is_empty());
     /// forget((resource_blocks, effects));
