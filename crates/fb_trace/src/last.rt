@@ -1,11 +1,11 @@
 //! The last line of a trace.
 
-ghost use Rattle.std.specs.Prelude.{◌≡◌, [], ◌∷◌, ◌++◌, codes, decimal, IfErr, OnOk};
+ghost use Rattle.std.specs.Prelude.{◌≡◌, [], ◌∷◌, ◌++◌, codes, decimal, length, IfErr, IfOk, OnOk};
 ghost use Rattle.std.specs.Io.KnownBytes.{Appends};
 ghost use Rattle.fb_types.specs.Text.{reason_text};
 ghost use Rattle.fb_types.specs.OfSystem.{last_line};
 ghost use Rattle.fb_trace.specs.End.{ending_of};
-ghost use Rattle.fb_trace.specs.Progress.{Gathers, IsPartWritten};
+ghost use Rattle.fb_trace.specs.Progress.{Gathers, IsPartWritten, bounded};
 ghost use Rattle.fb_trace.specs.OfSystem.{EndsIn};
 
 use crate::fault::WriteError;
@@ -66,11 +66,34 @@ fn put_last<W: Write>(
     }
 }
 
-/// Writes the last line of a trace of the system. It takes no memory.
+/// Writes the last line of a trace of the system, and returns how many bytes it has, up to the greatest `u128`. It takes
+/// no memory.
 ///
 /// # Errors
 /// If the writer returns an error or takes no byte. It then has a beginning of the line, but not all of it. The fault
 /// says how many bytes.
+pub fn write_last_with_count<W: Write>(
+    out: &mut W,
+    system: &System,
+    end: Outcome,
+) -> Result<u128, WriteError>
+    requires { EndsIn system.now end }
+    ensures whole { OnOk result
+        (Appends (W.contents out.old) (W.contents out.new) (last_line system.now (ending_of end))) }
+    ensures counted { IfOk result (λ n. n ≡ bounded (length (last_line system.now (ending_of end)))) }
+    ensures part { IfErr result (λ fault. IsPartWritten (W.contents out.old) (W.contents out.new)
+        (last_line system.now (ending_of end)) fault.written) }
+{
+    let mut page = Page::new();
+    put_last(&mut page, out, system, end)?;
+    page.flush(out)?;
+    Ok(page.written())
+}
+
+/// Writes the last line of a trace of the system. It takes no memory.
+///
+/// # Errors
+/// Those of `write_last_with_count`.
 pub fn write_last<W: Write>(out: &mut W, system: &System, end: Outcome) -> Result<(), WriteError>
     requires { EndsIn system.now end }
     ensures whole { OnOk result
@@ -78,7 +101,6 @@ pub fn write_last<W: Write>(out: &mut W, system: &System, end: Outcome) -> Resul
     ensures part { IfErr result (λ fault. IsPartWritten (W.contents out.old) (W.contents out.new)
         (last_line system.now (ending_of end)) fault.written) }
 {
-    let mut page = Page::new();
-    put_last(&mut page, out, system, end)?;
-    page.flush(out)
+    write_last_with_count(out, system, end)?;
+    Ok(())
 }

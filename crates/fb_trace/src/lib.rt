@@ -23,7 +23,7 @@ mod start;
 
 pub use fault::WriteError;
 pub use front::write_front;
-pub use last::{Outcome, write_last};
+pub use last::{Outcome, write_last, write_last_with_count};
 pub use lines::{write_lines, write_lines_with_count, write_parts};
 pub use marks::{Mark, MarkedText, marked_text};
 pub use merging::merge;
