@@ -163,8 +163,20 @@ pub(crate) fn deployed<'a>(
     ensures app { IfOk result (λ c. app_of c ≡ spec.with_arguments (spec.deployed outline.entry.name.now) outline.entry.arguments.now) }
     ensures globals { IfOk result (λ c. (fields_of c).has_globals ≡ false) }
 {
+    deployed_with(alloc, DECLARATION_HELP, outline)
+}
+
+/// The same, with this help text of the declaration.
+pub(crate) fn deployed_with<'a>(
+    alloc: Global,
+    declaration: &'a str,
+    outline: Outline<'a, '_>,
+) -> Result<Command<'a>, AllocError>
+    ensures app { IfOk result (λ c. app_of c ≡ spec.with_arguments (spec.deployed outline.entry.name.now) outline.entry.arguments.now) }
+    ensures globals { IfOk result (λ c. (fields_of c).has_globals ≡ false) }
+{
     let files = [
-        Argument::Required("DECL", DECLARATION_HELP),
+        Argument::Required("DECL", declaration),
         Argument::Repeated("types", TYPES_HELP),
         Argument::Named("deploy", DEPLOY_HELP),
     ];

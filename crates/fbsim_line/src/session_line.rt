@@ -7,7 +7,7 @@ ghost use Rattle.fbsim_line.specs.Line as spec;
 ghost use Rattle.fbsim_line.specs.Line.{AsksSession, IsCall, call_name};
 ghost use Rattle.fbsim_line.specs.declared.session_line.SessionCall.{SessionCall};
 
-use crate::arguments::{Argument, Outline, deployed};
+use crate::arguments::{Argument, Outline, deployed_with};
 use crate::line::{Call, STEPS_HELP, STIMULI_HELP, TRACE_HELP, form_of, number, texts_of};
 use clap::builder::ValueParser;
 use clap::{ArgMatches, Command};
@@ -30,6 +30,9 @@ pub struct SessionCall<'a> {
     pub form: Form,
 }
 
+const DECLARATION_HELP: &str =
+    "The file with the declaration of the types and the application, at most 1 MiB. Standard input has the commands, so `-` is a file fault, here and below.";
+
 const ABOUT: &str =
     "Runs an application by commands from standard input, one a line; the command help lists them.";
 
@@ -51,7 +54,7 @@ pub(crate) fn session<'a>(alloc: Global, forms: ValueParser<'a>) -> Result<Comma
         example: EXAMPLE,
         arguments: &arguments,
     };
-    deployed(alloc, outline)
+    deployed_with(alloc, DECLARATION_HELP, outline)
 }
 
 /// The call, from the parser's matches.

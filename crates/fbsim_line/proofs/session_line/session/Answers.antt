@@ -1,7 +1,7 @@
 use Rattle.fbsim_line.proofs.session_line.session.Goals as goal
 
 pub returns-clause-app : goal.returns-clause-app
-returns-clause-app c = c.deployed.ensures.app
+returns-clause-app c = c.deployed_with.ensures.app
 
 pub returns-clause-globals : goal.returns-clause-globals
-returns-clause-globals c = c.deployed.ensures.globals
+returns-clause-globals c = c.deployed_with.ensures.globals
