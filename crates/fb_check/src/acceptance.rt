@@ -15,8 +15,7 @@ use std::alloc::Global;
 ///
 /// # Errors
 ///
-/// `Refused` with the least number that applies if the inputs are not accepted, and `Memory`. A type with 2^32 ports or
-/// more counts as out of memory.
+/// `Refused` with the least number that applies if the inputs are not accepted, and `Memory`.
 ///
 /// # Example
 ///

@@ -71,7 +71,7 @@ fn of_blocks(
 ///
 /// # Errors
 ///
-/// When memory runs out. A type with 2^32 variables or more counts as out of memory.
+/// When memory runs out.
 pub fn interfaces_of(
     alloc: Global,
     library: &Library,
