@@ -8,6 +8,7 @@ use Rattle.fb_types.specs.Numbers.{event_at, by_index, emission_of}
 use Rattle.fb_types.specs.Reactions.{emissions}
 use Rattle.fb_types.specs.Names.{Name}
 use Rattle.fb_types.specs.declared.event_kind.EventKind.{EventKind}
+use Rattle.fb_types.specs.declared.event_kind.EventKind.TheVariants as kind
 use Rattle.fb_types.specs.declared.library.Variable.{Variable}
 use Rattle.fb_types.specs.declared.run.Emission as run
 use Rattle.fb_types.specs.declared.run.TimerAsk.TheVariants.{Keep}
@@ -19,9 +20,11 @@ abbrev pub FitTheirTypes : List Variable → List Value → Type 0
 FitTheirTypes (x ∷ xs) (v ∷ vs) = IsTrue (fits x.ty v) × FitTheirTypes xs vs
 FitTheirTypes _ _ = Unit {0}
 
--- Each data input of a block of this kind has a value of its type.
+-- The data input of a block that measures time, E_DELAY or E_CYCLE, has a value of its type. Of the inputs of all others nothing is asked.
 abbrev pub FitInputs : EventKind → List Value → Type 0
-FitInputs k inputs = FitTheirTypes (ports_of_event_block k).inputs inputs
+FitInputs kind.Delay inputs = FitTheirTypes (ports_of_event_block kind.Delay).inputs inputs
+FitInputs kind.Cycle inputs = FitTheirTypes (ports_of_event_block kind.Cycle).inputs inputs
+FitInputs _ inputs = Unit {0}
 
 -- the value of the first variable
 abbrev pub first_value : List Value → Value

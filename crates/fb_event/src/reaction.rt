@@ -12,8 +12,9 @@ use fb_types::{Emits, EventKind, Halt, TimerAsk, Value};
 
 /// The reaction of an event block to the event input at an index of its event inputs, in a tick that is at most
 /// 10^12. `inputs` are the values of all its data inputs, in the order of the declaration, as they are
-/// after the sampling. Where each fits its type, the reaction is the defined one. What it emits is put after the other
-/// emissions, which stay as they are, by the allocator that they keep.
+/// after the sampling. The reaction is the defined one, for E_DELAY and E_CYCLE where DT fits its type: a longer time
+/// counts as the longest. What it emits is put after the other emissions, which stay as they are, by the allocator that
+/// they keep.
 ///
 /// # Errors
 /// `Halt::Memory` where memory ran out, and never a stop. Nothing is said of what the block remembers then.
@@ -29,7 +30,7 @@ pub fn react(
 ) -> Result<(), Halt>
     requires early { tick ≤ 10 ^ 12 }
 
-    // Where each input fits its type.
+    // Where DT of E_DELAY or E_CYCLE fits its type. Nothing is asked of the inputs of other kinds.
     ensures memory { let reaction = reaction_to state.old event tick inputs.now in
         FitInputs state.old.kind inputs.now → OnOk result (state.new.memory ≡ reaction.memory) }
     ensures timer { let reaction = reaction_to state.old event tick inputs.now in

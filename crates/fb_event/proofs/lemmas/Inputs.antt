@@ -8,7 +8,7 @@ use Rattle.fb_types.specs.declared.event_kind.EventKind.TheVariants as kind
 use Rattle.fb_types.specs.declared.value.Value.TheVariants as value
 use Rattle.fb_event.specs.State.{State}
 use Rattle.fb_event.specs.Block.{state, as_time, input_of}
-use Rattle.fb_event.specs.Reactions.{FitInputs, reaction_to, first_value}
+use Rattle.fb_event.specs.Reactions.{FitInputs, FitTheirTypes, reaction_to, first_value}
 use Rattle.fb_event.specs.Step.{Performs, reaction_with}
 use Rattle.fb_event.specs.declared.memory.EventMemory.{EventMemory}
 use Rattle.fb_event.specs.declared.step.Step.{Step}
@@ -56,6 +56,12 @@ pub performs_typed :
 performs_typed s event tick inputs after step h typed =
     subst (λ (r : Reaction). Performs s r after step)
     (with_inputs s.kind s.memory event tick inputs typed ∙ sym (reaction_to-first s event tick inputs)) h
+
+-- where all data inputs of a block fit their types, what its reaction asks holds
+pub all_fit : (k : EventKind) (inputs : List Value) → FitTheirTypes (ports_of_event_block k).inputs inputs → FitInputs k inputs
+all_fit kind.Delay inputs fit = fit
+all_fit kind.Cycle inputs fit = fit
+all_fit _ inputs fit = tt
 
 -- ---- Of any inputs
 
