@@ -8,7 +8,8 @@ use Rattle.fb_types.specs.declared.run.Emission as run
 use Rattle.fb_types.proofs.lemmas.names.NameLaws.{same_name-itself}
 use Rattle.fb_types.proofs.lemmas.events.EventCounts.{one_input}
 use Rattle.fb_net.specs.Outs.{Gathered}
-use Rattle.fb_event.specs.Reactions.{FitTheirTypes}
+use Rattle.fb_event.specs.Reactions.{FitInputs, FitTheirTypes}
+use Rattle.fb_event.proofs.lemmas.Inputs.{all_fit}
 use Rattle.fb_net.specs.Leaves.{HasTypedInputs}
 use Rattle.fb_net.specs.Samples.{AreShown}
 use Rattle.fb_laws.specs.Typed.{AllFit, AreTyped, IsTypedSystem, variable_named}
@@ -34,8 +35,8 @@ inputs-typed i k at w is typed =
     let p : Path = path_at sys at in
     let its : Ports = ports_of_event_block k in
     let vars : Values = (w.blocks p).variables in
-    subst (λ (x : Ports). FitTheirTypes its.inputs (map vars (variable_names x.inputs))) (sym (ports-of_kind sys p (Event k) is))
-    (one_fits its.inputs its.outputs vars (one_input k) (typed.blocks p (Event k) is).variables)
+    subst (λ (x : Ports). FitInputs k (map vars (variable_names x.inputs))) (sym (ports-of_kind sys p (Event k) is))
+    (all_fit k (map vars (variable_names its.inputs)) (one_fits its.inputs its.outputs vars (one_input k) (typed.blocks p (Event k) is).variables))
 
 -- ---- Event blocks
 
