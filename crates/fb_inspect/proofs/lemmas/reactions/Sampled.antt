@@ -1,11 +1,12 @@
 -- What an event block samples: all its inputs, or none.
-use Rattle.fb_inspect.proofs.lemmas.Common.{◌≡◌, ◌<◌, ◌≤◌, ◌⊎◌, ℕ, zero, suc, Bool, true, List, [], ◌∷◌, ◌++◌, length, map, Some, refl, sym, ◌∙◌, ap, subst, arith, inl, inr, if◌then◌else◌, and_parts, Bound, inputs_with, ports_of_event_block, variable_names, Name, event_at, pair_up, with_values, Values, fits, EventKind, Variable, Value, AllFit, AreIndexes, fit_each, type_at}
+use Rattle.fb_inspect.proofs.lemmas.Common.{◌≡◌, ◌<◌, ◌≤◌, ◌⊎◌, ℕ, zero, suc, Bool, true, List, [], ◌∷◌, ◌++◌, length, map, Some, refl, sym, ◌∙◌, ap, subst, arith, inl, inr, if◌then◌else◌, and_parts, Bound, inputs_with, ports_of_event_block, variable_names, Name, event_at, pair_up, with_values, Values, fits, EventKind, Variable, Value, AllFit, FitInputs, AreIndexes, fit_each, type_at}
 use Rattle.fb_types.proofs.Common.{Ty}
 use Rattle.fb_types.specs.declared.event_kind.EventKind.TheVariants as kind
 use Rattle.fb_types.proofs.lemmas.lists.ByIndex.{all_at}
 use Rattle.fb_types.proofs.lemmas.events.EventCounts.{one_input}
 use Rattle.fb_types.proofs.lemmas.names.NameLaws.{same_name-itself}
 use Rattle.fb_event.specs.Reactions.{FitTheirTypes}
+use Rattle.fb_event.proofs.lemmas.Inputs.{all_fit}
 use Rattle.fb_laws.specs.Typed.{variable_named}
 use Rattle.fb_inspect.specs.walk.Timing.{inputs_after}
 
@@ -84,6 +85,14 @@ module _ (vs : List Variable) (ns : List Name) where
       (subst (λ (t : Ty). fits t v ≡ true) ty (and_parts (fits (type_at vs k) v) (fit_each (map (type_at vs) ks) []) typed).0, tt)
   sampled_fit (v ∷ (w ∷ rest)) inputs ks (inr h) stand typed counted fit = absurd (omega (arith, ap length h.2))
 
+-- sampled inputs of an event block are as its reaction asks
+pub sampled_typed :
+    (k : EventKind) (ns : List Name) (values inputs : List Value) (indexes : List ℕ) → AllOrNone (ports_of_event_block k).inputs ns → AreIndexes (ports_of_event_block k).inputs ns indexes
+    → fit_each (map (type_at (ports_of_event_block k).inputs) indexes) values ≡ true → length values ≡ length ns → FitInputs k inputs → FitInputs k (inputs_after inputs values)
+sampled_typed kind.Delay ns values inputs ks some stand typed counted fit = sampled_fit (ports_of_event_block kind.Delay).inputs ns values inputs ks some stand typed counted fit
+sampled_typed kind.Cycle ns values inputs ks some stand typed counted fit = sampled_fit (ports_of_event_block kind.Cycle).inputs ns values inputs ks some stand typed counted fit
+sampled_typed _ ns values inputs ks some stand typed counted fit = tt
+
 -- ---- Before the first event
 
 first_named : (x : Variable) (vs : List Variable) → variable_named x.name (x ∷ vs) ≡ Some x
@@ -94,8 +103,10 @@ one_fits [] ws all few fit = tt
 one_fits (x ∷ []) ws all few fit = (fit x.name x (first_named x ws), tt)
 one_fits (x ∷ (y ∷ vs)) ws all few fit = absurd (omega arith)
 
--- the inputs of an event block hold values of their types where all variables do
+-- the inputs of an event block are as its reaction asks where all variables hold values of their types
 pub inputs_fit :
     (k : EventKind) (all : Values) → AllFit ((ports_of_event_block k).inputs ++ (ports_of_event_block k).outputs) all
-    → FitTheirTypes (ports_of_event_block k).inputs (map all (variable_names (ports_of_event_block k).inputs))
-inputs_fit k all fit = one_fits (ports_of_event_block k).inputs (ports_of_event_block k).outputs all (one_input k) fit
+    → FitInputs k (map all (variable_names (ports_of_event_block k).inputs))
+inputs_fit k all fit =
+    let its = ports_of_event_block k in
+    all_fit k (map all (variable_names its.inputs)) (one_fits its.inputs its.outputs all (one_input k) fit)

@@ -16,7 +16,7 @@ use Rattle.fb_inspect.specs.walk.Timing.{BlockGoes, HasExpired, HasReacted, IsBl
 use Rattle.fb_inspect.proofs.lemmas.lines.Emitted.{emission_is, emissions_are, emits_text, shown_pieces}
 use Rattle.fb_inspect.proofs.lemmas.lines.Moving.{alone_from, alone_on, goes_as, goes_note, goes_then, shown-append}
 use Rattle.fb_inspect.proofs.lemmas.reactions.Showing.{emits_pieces}
-use Rattle.fb_inspect.proofs.lemmas.reactions.Sampled.{all_or_none, sampled_are, sampled_fit}
+use Rattle.fb_inspect.proofs.lemmas.reactions.Sampled.{all_or_none, sampled_are, sampled_typed}
 
 -- ---- Lines that are taken
 
@@ -113,7 +113,7 @@ module _ (sys : System) (b : EventBlock) (l : Line) (line : IsBlockLine sys b l)
   -- the inputs have values of their types, also after they were sampled
   pub fits_after : FitInputs b.state.kind (inputs_after b.inputs l.values)
   fits_after =
-      sampled_fit its.inputs names l.values b.inputs line.line.indexes (all_or_none b.state.kind l.event event_within)
+      sampled_typed b.state.kind names l.values b.inputs line.line.indexes (all_or_none b.state.kind l.event event_within)
       (subst (λ (ns : List Name). AreIndexes its.inputs ns line.line.indexes) names_are (subst (λ (vs : List Variable). AreIndexes vs (line_variables sys l) line.line.indexes) side_is line.line.stand))
       (subst (λ (vs : List Variable). fit_each (map (type_at vs) line.line.indexes) l.values ≡ true) side_is line.line.typed) counted line.typed
 
