@@ -1,8 +1,8 @@
 //! The system of accepted inputs.
 
-ghost use Rattle.std.specs.Prelude.{◌≡◌, ◌+◌, ◌<◌, ◌≤◌, [], List, ℕ, length, option_map, slice_get, ◌↔◌, IfOk, IfSome, IsTrue};
+ghost use Rattle.std.specs.Prelude.{◌≡◌, ◌+◌, ◌<◌, ◌≤◌, [], List, ℕ, length, option_map, slice_get, ◌↔◌, IfOk, IfSome, IsTrue, Some};
 ghost use Rattle.std.specs.Arc.{arc_value};
-ghost use Rattle.fb_types.specs.Flat.{latency_at};
+ghost use Rattle.fb_types.specs.Flat.{instance_at, latency_at};
 ghost use Rattle.fb_types.specs.Headline.{AreAccepted, inputs};
 ghost use Rattle.fb_types.specs.Limits.{IsWithinLimits};
 ghost use Rattle.fb_types.specs.Numbers.{event_at};
@@ -40,8 +40,8 @@ use crate::with_all::with_all;
 use crate::with_indexes::WithIndexes;
 use fb_check_names::TypeNumber;
 use fb_types::{
-    Deploy, GivenRow, InstanceVariable, Items, Latency, Library, Plan, Ports, Stimulus, Target,
-    Value, all_ports,
+    Deploy, GivenRow, Instance, InstanceVariable, Items, Latency, Library, Plan, Ports, Stimulus,
+    Target, Value, all_ports,
 };
 use std::alloc::{AllocError, Global};
 use std::marker::Model;
@@ -215,6 +215,14 @@ impl System {
         ensures { kind_of_number self.now.library result ≡ kind_at self.now (path_at self.now instance) }
     {
         self.whole.netlist.kind(instance)
+    }
+
+    /// The declaration of an instance, in the network that contains it.
+    pub fn declared(&self, instance: u32) -> &Instance
+        requires { IsInstance self.now instance }
+        ensures { instance_at self.now.library (path_at self.now instance) ≡ Some result.now }
+    {
+        self.whole.netlist.declared(instance)
     }
 
     /// The instance names from the outermost, joined by full stops.

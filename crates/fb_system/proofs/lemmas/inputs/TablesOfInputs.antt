@@ -1,7 +1,8 @@
 -- What the tables say of the inputs that a system represents.
 use Rattle.fb_system.proofs.lemmas.Common.{◌≡◌, ℕ, ◌<◌, ◌≤◌, ◌+◌, List, [], length, get_or, Option, Some, None, refl, sym, ◌∙◌, ap, subst, inl, inr, IfSome, IsTrue, ◌↔◌, option_map, slice_get, length-map, slice_get-get_or, kind_at, paths_of, source_of, targets_of, Inputs, system_of, NameTwice, NameUnknown, Plan, Library, Ports, Target, InstanceVariable, kind_of_number, TypeNumber, AreComponents, AreNumbers, path_of, route_to, NetlistTarget, IsLinked, inputs_of, AreTables, Whole}
 use Rattle.fb_types.proofs.Common.{Ok, IfOk, Result, cases_lt, latency_at, AreAccepted, inputs, TooHigh, port_of, path_text, Link, ResourceEntry, Stimulus, ArePortsOfKinds}
-use Rattle.fb_types.specs.Flat.{link_between, number_of}
+use Rattle.fb_types.specs.Flat.{instance_at, link_between, number_of}
+use Rattle.fb_types.specs.declared.library.Instance.{Instance}
 use Rattle.fb_system.specs.Layouts.{IsParent}
 use Rattle.fb_system.specs.Netlists as netlist
 use Rattle.fb_system.specs.Tables.{AreInterfaces}
@@ -63,6 +64,11 @@ pub kind_seen :
     → kind_of_number i.library t ≡ kind_at i.library (path_of i.library k)
 kind_seen v w i k t e s h =
     subst (λ (lib : Library). kind_of_number lib t ≡ kind_at lib (path_of lib k)) (library_seen v w i e s) h
+
+pub declared_seen :
+    (v w : Whole) (i : Inputs) (k : ℕ) (x : Instance) → v ≡ w → inputs_of w ≡ i → instance_at v.netlist (path_of v.netlist k) ≡ Some x
+    → instance_at i.library (path_of i.library k) ≡ Some x
+declared_seen v w i k x e s h = subst (λ (lib : Library). instance_at lib (path_of lib k) ≡ Some x) (library_seen v w i e s) h
 
 pub text_seen :
     (v w : Whole) (i : Inputs) (k : ℕ) (bytes : List ℕ) → v ≡ w → inputs_of w ≡ i → bytes ≡ path_text (path_of v.netlist k)
