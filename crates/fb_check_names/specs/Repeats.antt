@@ -1,5 +1,6 @@
 -- What is in a list before, by its indexes.
-use Rattle.std.specs.Prelude.{◌≡◌, ◌<◌, ◌+◌, ℕ, Bool, List, [], ◌∷◌, Option, Some, None, cond, slice_get, take}
+use Rattle.std.specs.Prelude.{◌≡◌, ◌<◌, ◌+◌, ℕ, Bool, List, [], ◌∷◌, Option, Some, None, Contains, cond, slice_get, take}
+use Rattle.fb_types.specs.Repeated.{Twice}
 use Rattle.fb_check_names.specs.Listed.{each_at}
 
 -- The same item is at both indexes, the earlier one first.
@@ -8,6 +9,13 @@ pub record IsPair {A : Type 0} (xs : List A) (locations : ℕ × ℕ) : Type 0 w
   pub what : A
   pub first : slice_get xs locations.0 ≡ Some what
   pub again : slice_get xs locations.1 ≡ Some what
+
+-- The item at the index is in the list before, and no item before it is there twice.
+pub record IsFirstRepeat {A : Type 0} (xs : List A) (location : ℕ) : Type 0 where
+  pub what : A
+  pub here : slice_get xs location ≡ Some what
+  pub before : Contains (take location xs) what
+  pub first : ¬ (Twice (take location xs))
 
 -- one index further
 abbrev pub further : Option ℕ → Option ℕ

@@ -38,7 +38,7 @@ pub use location::{
     ActionPart, Direction, FlowKind, KindWrongAt, NoLinkAt, NotMappedAt, OutOfRangeAt, Side, Site,
     StatementPart, TooHighAt, TransitionPart, TwoSourcesAt, UnknownName, Variables,
 };
-pub use named::{Named, indexes, push_names};
+pub use named::{Named, first_repeat, indexes, push_names};
 pub use numbers::{
     ConnectionEnd, LinkEnds, NetworkNumbers, NumberedConnection, Resolved, TypeNumber,
 };

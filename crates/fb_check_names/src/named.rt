@@ -2,6 +2,7 @@
 
 ghost use Rattle.std.specs.Prelude.{◌≡◌, ◌++◌, map, IfOk, MatchOption};
 ghost use Rattle.fb_check_names.specs.Indexes.{IsIndex, names_in};
+ghost use Rattle.fb_check_names.specs.Repeats.{IsFirstRepeat};
 ghost use Rattle.fb_types.specs.Repeated.{Twice};
 
 use crate::placing::{Indexes, indexes_of};
@@ -10,6 +11,7 @@ use fb_types::{
     Variable,
 };
 use std::alloc::{AllocError, Global};
+use std::collections::BTreeMap;
 
 /// An item that has a name in a name space.
 pub trait Named {
@@ -124,4 +126,21 @@ pub fn indexes<'a, T: Named>(
     let mut names = Vec::new(alloc);
     push_names(&mut names, items)?;
     indexes_of(alloc, names.as_slice())
+}
+
+/// The index of the first item with the name of one before it, if there is one.
+///
+/// # Errors
+///
+/// When memory runs out.
+pub fn first_repeat<T: Named>(alloc: Global, items: &[T]) -> Result<Option<usize>, AllocError>
+    ensures { IfOk result (λ o. MatchOption o (¬ (Twice (map T.called items.now))) (IsFirstRepeat (map T.called items.now))) }
+{
+    let mut seen = BTreeMap::new(alloc);
+    for (index, item) in items.iter().enumerate() {
+        if seen.insert(item.name(), index)?.is_some() {
+            return Ok(Some(index));
+        }
+    }
+    Ok(None)
 }

@@ -115,7 +115,7 @@ last_more {Y = Y} cmp view same f xs i x m t k agree h e g are updates =
 abbrev pub pair_in : {A Y : Type 0} → (Y → Y → Bool) → (A → Y) → List A → ℕ → A → List (ℕ × ℕ)
 pair_in same f xs k x = pair_at k (last_index (same (f x)) (map f (take k xs)))
 
-take-map : {A Y : Type 0} (f : A → Y) (k : ℕ) (xs : List A) → take k (map f xs) ≡ map f (take k xs)
+pub take-map : {A Y : Type 0} (f : A → Y) (k : ℕ) (xs : List A) → take k (map f xs) ≡ map f (take k xs)
 take-map f zero xs = refl
 take-map f (suc k) [] = refl
 take-map {Y = Y} f (suc k) (x ∷ xs) = ap (λ (ys : List Y). f x ∷ ys) (take-map f k xs)
