@@ -8,7 +8,10 @@ pub use Rattle.fb_agenda.specs.Moments.{IsPast}
 pub use Rattle.fb_agenda.specs.Timing.{timer_event, timer_events}
 pub use Rattle.fb_agenda.specs.declared.moment.Moment.{Moment}
 pub use Rattle.fb_agenda.specs.declared.timer_row.Timed.{Timed}
-pub use Rattle.fb_types.proofs.Common.{Bool, Equal, Err, Greater, IfNone, IfSome, IsSome, Key, Less, List, None, Ok, OnErr, OnOk, OnTrue, Option, Precedes, Result, Some, Target, Timer, [], answers_always, ap, arith, cond, deque_len, false, get_or, insert_entry, is_eq, is_lt, is_some, key_cmp, length, local_key, lookup, map, map-append, nil_from_length, or_else, refl, rules, same_key, subst, suc, sym, take, timer_key, true, zero, ℕ, ◌++◌, ◌<◌, ◌∙◌, ◌∷◌, ◌≡◌, ◌≤◌}
+pub use Rattle.fb_types.proofs.Common.{Bool, Equal, Err, Greater, IfNone, IfSome, IsSome, Less, List, None, Ok, OnErr, OnOk, OnTrue, Option, Precedes, Result, Some, [], answers_always, ap, arith, cond, deque_len, false, get_or, insert_entry, is_eq, is_lt, is_some, key_cmp, length, local_key, lookup, map, map-append, nil_from_length, or_else, refl, rules, same_key, subst, suc, sym, take, timer_key, true, zero, ℕ, ◌++◌, ◌<◌, ◌∙◌, ◌∷◌, ◌≡◌, ◌≤◌}
+pub use Rattle.fb_types.specs.declared.key.Key.{Key}
+pub use Rattle.fb_types.specs.declared.run.Target.{Target}
+pub use Rattle.fb_types.specs.declared.run.Event.TheVariants.{Timer}
 pub use Rattle.fb_types.specs.declared.run.Event.{Event}
 pub use Rattle.std.specs.List.{AllByRecursion, remove}
 unfoldable pub use Rattle.std.specs.List.Sorted.{IsStrictlySortedBy}

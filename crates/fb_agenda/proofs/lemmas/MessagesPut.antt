@@ -1,6 +1,7 @@
 -- Messages that are put among the events of an agenda.
 use Rattle.fb_agenda.proofs.lemmas.Common.{◌≡◌, ℕ, suc, ◌<◌, Bool, true, false, cond, List, [], ◌∷◌, ◌++◌, length, get_or, take, map, refl, sym, ap, subst, ◌∙◌, Option, Some, None, Result, Ok, Err, arith, IsSome, OnOk, OnErr, is_some, lookup, map-append, or_else, same_key, Key, Contents, AreApart, waiting, HasKeys, KeepsOthers, LacksKeys, arrival_at, arrivals_at, Event, Sets}
-use Rattle.fb_types.proofs.Common.{◌+◌, drop, take-append-drop, All-head, All-tail, found, Message}
+use Rattle.fb_types.proofs.Common.{◌+◌, drop, take-append-drop, All-head, All-tail, found}
+use Rattle.fb_types.specs.declared.run.Message.{Message}
 use Rattle.std.proofs.Math.Seq.{take-suc}
 use Rattle.fb_types.proofs.lemmas.events.KeyLaws.{same_key_is, same_key_itself}
 use Rattle.fb_types.proofs.lemmas.lists.Lookups.{found-append, none_since, or_else_nones, or_else_parts}

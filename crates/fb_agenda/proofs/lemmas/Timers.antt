@@ -1,5 +1,7 @@
 -- Timers that wait on an agenda.
-use Rattle.fb_types.proofs.Common.{◌≡◌, ◌≢◌, ℕ, ◌<◌, Bool, true, false, cond, eqb, ◌&&◌, List, length, refl, sym, ap, subst, ◌∙◌, Option, Some, None, Result, Ok, Err, get_or-set_same, get_or-set_other, arith, slice_index, slice_set, IfNone, IfSome, IsSome, OnOk, lookup, eqb-true, eq-eqb, changed_to, or_else, same_key, timer_key, is_timer_of, Key, Timer}
+use Rattle.fb_types.proofs.Common.{◌≡◌, ◌≢◌, ℕ, ◌<◌, Bool, true, false, cond, eqb, ◌&&◌, List, length, refl, sym, ap, subst, ◌∙◌, Option, Some, None, Result, Ok, Err, get_or-set_same, get_or-set_other, arith, slice_index, slice_set, IfNone, IfSome, IsSome, OnOk, lookup, eqb-true, eq-eqb, changed_to, or_else, same_key, timer_key, is_timer_of}
+use Rattle.fb_types.specs.declared.key.Key.{Key}
+use Rattle.fb_types.specs.declared.run.Event.TheVariants.{Timer}
 use Rattle.std.specs.Cmp.{first_so, second_so}
 use Rattle.fb_types.proofs.lemmas.events.KeyLaws.{same_key_is}
 use Rattle.fb_agenda.specs.Agendas.{Contents, waiting, IsQueue, IsTimed, IsInResource}

@@ -1,5 +1,8 @@
 -- What acceptance guarantees of names and stimuli.
-use Rattle.fb_types.proofs.Common.{◌≡◌, List, refl, sym, subst, inl, inr, AreAccepted, Inputs, inputs, NameUnknown, Plan, Stimulus, Library}
+use Rattle.fb_types.proofs.Common.{◌≡◌, List, refl, sym, subst, inl, inr, AreAccepted, Inputs, inputs, NameUnknown}
+use Rattle.fb_types.specs.declared.deploy.Plan.{Plan}
+use Rattle.fb_types.specs.declared.deploy.Stimulus.{Stimulus}
+use Rattle.fb_types.specs.declared.library.Library.{Library}
 
 pub known_of : (i : Inputs) → AreAccepted i → ¬ (NameUnknown i.library i.plan)
 known_of i h t = h 21 (inr (inl (refl, t)))

@@ -45,7 +45,32 @@ pub use Rattle.fb_check_names.specs.declared.numbers.ConnectionEnd.{ConnectionEn
 pub use Rattle.fb_check_names.specs.declared.numbers.NetworkNumbers.{NetworkNumbers}
 pub use Rattle.fb_check_names.specs.declared.numbers.Resolved.{Resolved}
 pub use Rattle.fb_check_names.specs.declared.numbers.TypeNumber.{TypeNumber}
-pub use Rattle.fb_types.proofs.Common.{Action, Algorithm, All, All-append, ArePortsOfKinds, Assign, BasicType, BlockType, Bool, Bor, Branch, Case, Choice, CompositeType, Connection, Contains, Contains-append_left, Contains-append_right, Decides, Event, EventKind, EventPort, Expr, For, If, IfOk-equal, InputValue, Instance, IsTrue, Kind, KindWrong, Library, Link, List, Mention, Name, NameTwice, NameUnknown, None, Option, OwnedNetwork, Parameter, Plan, Port, PortName, Ports, Repeat, Required, ResourceEntry, Result, Setting, Some, Stimulus, TooHigh, Transition, Twice, Ty, Variable, While, [], algorithm_names, among, and_parts, ap, append-nil, append_assoc, arith, basics, block_type_names, body_of, cond, context_in, data_ins, data_outs, declared_right, drop, event_blocks, event_ins, event_names, expr_of, false, false_from_ne_true, fits, flat_map, get_or, inl, inr, instance_names, interfaces, is_condition, is_known, is_some, kind_of, kind_of_instance, length, list_all, list_all-append, list_any, map, map-append, mentions, mentions_body, named, nat_eq, nat_tests, networks, networks_in, not, option_and_then, option_copied, option_map, parameter_lists, port_in, port_names, ports_of, ports_of_event_block, position, refl, required_chart, required_parameters, required_withs, resource_names_of, rules, same_Some, same_name, same_port, slice_get, slice_get-map, slice_get_past, slice_get_read, state_names, stmt_of, subst, suc, sym, take, take_all, true, true≢false, type_name, type_named, unwrap_or, variable_names, with_lists, zero, ℕ, ◌&&◌, ◌++◌, ◌+◌, ◌<◌, ◌||◌, ◌↔◌, ◌∙◌, ◌∷◌, ◌≡◌, ◌≢◌, ◌≤◌, ◌⊎◌}
+pub use Rattle.fb_types.proofs.Common.{All, All-append, ArePortsOfKinds, Assign, Bool, Bor, Case, Contains, Contains-append_left, Contains-append_right, Decides, Event, For, If, IfOk-equal, IsTrue, Kind, KindWrong, List, Mention, Name, NameTwice, NameUnknown, None, Option, OwnedNetwork, Port, Repeat, Required, Result, Some, TooHigh, Twice, While, [], algorithm_names, among, and_parts, ap, append-nil, append_assoc, arith, basics, block_type_names, body_of, cond, context_in, data_ins, data_outs, declared_right, drop, event_blocks, event_ins, event_names, expr_of, false, false_from_ne_true, fits, flat_map, get_or, inl, inr, instance_names, interfaces, is_condition, is_known, is_some, kind_of, kind_of_instance, length, list_all, list_all-append, list_any, map, map-append, mentions, mentions_body, named, nat_eq, nat_tests, networks, networks_in, not, option_and_then, option_copied, option_map, parameter_lists, port_in, port_names, ports_of, ports_of_event_block, position, refl, required_chart, required_parameters, required_withs, resource_names_of, rules, same_Some, same_name, same_port, slice_get, slice_get-map, slice_get_past, slice_get_read, state_names, stmt_of, subst, suc, sym, take, take_all, true, true≢false, type_name, type_named, unwrap_or, variable_names, with_lists, zero, ℕ, ◌&&◌, ◌++◌, ◌+◌, ◌<◌, ◌||◌, ◌↔◌, ◌∙◌, ◌∷◌, ◌≡◌, ◌≢◌, ◌≤◌, ◌⊎◌}
+pub use Rattle.fb_types.specs.declared.library.Action.{Action}
+pub use Rattle.fb_types.specs.declared.library.Algorithm.{Algorithm}
+pub use Rattle.fb_types.specs.declared.library.BasicType.{BasicType}
+pub use Rattle.fb_types.specs.declared.library.BlockType.{BlockType}
+pub use Rattle.fb_types.specs.declared.text.Branch.{Branch}
+pub use Rattle.fb_types.specs.declared.text.Choice.{Choice}
+pub use Rattle.fb_types.specs.declared.library.CompositeType.{CompositeType}
+pub use Rattle.fb_types.specs.declared.library.Connection.{Connection}
+pub use Rattle.fb_types.specs.declared.event_kind.EventKind.{EventKind}
+pub use Rattle.fb_types.specs.declared.library.EventPort.{EventPort}
+pub use Rattle.fb_types.specs.declared.text.Expr.{Expr}
+pub use Rattle.fb_types.specs.declared.run.InputValue.{InputValue}
+pub use Rattle.fb_types.specs.declared.library.Instance.{Instance}
+pub use Rattle.fb_types.specs.declared.library.Library.{Library}
+pub use Rattle.fb_types.specs.declared.deploy.Link.{Link}
+pub use Rattle.fb_types.specs.declared.library.Parameter.{Parameter}
+pub use Rattle.fb_types.specs.declared.deploy.Plan.{Plan}
+pub use Rattle.fb_types.specs.declared.library.PortName.{PortName}
+pub use Rattle.fb_types.specs.declared.library.Ports.{Ports}
+pub use Rattle.fb_types.specs.declared.deploy.ResourceEntry.{ResourceEntry}
+pub use Rattle.fb_types.specs.declared.deploy.Setting.{Setting}
+pub use Rattle.fb_types.specs.declared.deploy.Stimulus.{Stimulus}
+pub use Rattle.fb_types.specs.declared.library.Transition.{Transition}
+pub use Rattle.fb_types.specs.declared.value.Ty.{Ty}
+pub use Rattle.fb_types.specs.declared.library.Variable.{Variable}
 pub use Rattle.fb_types.specs.Kinds.{value_kind_of, value_kind_of_type}
 pub use Rattle.fb_types.specs.declared.library.State.{State}
 pub use Rattle.fb_types.specs.declared.text.Stmt.{Stmt}

@@ -1,6 +1,13 @@
 -- A data input of an instance of the application is connected exactly if a data connection of the application leads to
 -- it.
-use Rattle.fb_types.proofs.Common.{◌≡◌, Bool, true, false, ◌&&◌, ◌||◌, cond, List, [], ◌∷◌, ◌++◌, map, Option, Some, None, Contains, refl, sym, ◌∙◌, ap, subst, inl, inr, option_map, option_and_then, is_some, flat_map, list_any, list_all, filter, false_from_ne_true, and_parts, list_any-append, Contains-append_right, Name, Path, Port, same_name, same_port, Kind, Basic, Event, Composite, named, event_blocks, ports_of, event_names, variable_names, first_of, kind_of, type_name, type_named, network_of, instance_in, kind_of_instance, inside, network_at, port_in, pairs_in, data_inside, source_of, resource_names_of, Twice, OwnedNetwork, networks, networks_in, basics, interfaces, block_type_names, port_names, algorithm_names, state_names, instance_names, with_lists, parameter_lists, NameTwice, NameUnknown, is_end, data_ins, data_outs, event_ins, event_outs, ends_known, Library, BlockType, CompositeType, Network, Connection, PortName, Plan}
+use Rattle.fb_types.proofs.Common.{◌≡◌, Bool, true, false, ◌&&◌, ◌||◌, cond, List, [], ◌∷◌, ◌++◌, map, Option, Some, None, Contains, refl, sym, ◌∙◌, ap, subst, inl, inr, option_map, option_and_then, is_some, flat_map, list_any, list_all, filter, false_from_ne_true, and_parts, list_any-append, Contains-append_right, Name, Path, Port, same_name, same_port, Kind, Basic, Event, Composite, named, event_blocks, ports_of, event_names, variable_names, first_of, kind_of, type_name, type_named, network_of, instance_in, kind_of_instance, inside, network_at, port_in, pairs_in, data_inside, source_of, resource_names_of, Twice, OwnedNetwork, networks, networks_in, basics, interfaces, block_type_names, port_names, algorithm_names, state_names, instance_names, with_lists, parameter_lists, NameTwice, NameUnknown, is_end, data_ins, data_outs, event_ins, event_outs, ends_known}
+use Rattle.fb_types.specs.declared.library.Library.{Library}
+use Rattle.fb_types.specs.declared.library.BlockType.{BlockType}
+use Rattle.fb_types.specs.declared.library.CompositeType.{CompositeType}
+use Rattle.fb_types.specs.declared.library.Network.{Network}
+use Rattle.fb_types.specs.declared.library.Connection.{Connection}
+use Rattle.fb_types.specs.declared.library.PortName.{PortName}
+use Rattle.fb_types.specs.declared.deploy.Plan.{Plan}
 use Rattle.fb_types.specs.Flat.{data_at}
 use Rattle.fb_types.specs.declared.library.BlockType.TheVariants as block
 use Rattle.fb_check_names.specs.GivenTwice.{TwiceIn}

@@ -1,5 +1,10 @@
 -- What the directory has for a type and for an instance of the application.
-use Rattle.fb_types.proofs.Common.{◌≡◌, ℕ, map, Option, Some, None, refl, sym, ◌∙◌, ap, subst, option_map, option_and_then, position, slice_get, slice_get-map, Name, same_name, Kind, Event, named, event_blocks, event_block_named, ports_of, ports_of_event_block, kind_index, kind_of, type_name, type_named, kind_of_instance, EventKind, Library, BlockType, Instance, Ports}
+use Rattle.fb_types.proofs.Common.{◌≡◌, ℕ, map, Option, Some, None, refl, sym, ◌∙◌, ap, subst, option_map, option_and_then, position, slice_get, slice_get-map, Name, same_name, Kind, Event, named, event_blocks, event_block_named, ports_of, ports_of_event_block, kind_index, kind_of, type_name, type_named, kind_of_instance}
+use Rattle.fb_types.specs.declared.event_kind.EventKind.{EventKind}
+use Rattle.fb_types.specs.declared.library.Library.{Library}
+use Rattle.fb_types.specs.declared.library.BlockType.{BlockType}
+use Rattle.fb_types.specs.declared.library.Instance.{Instance}
+use Rattle.fb_types.specs.declared.library.Ports.{Ports}
 use Rattle.fb_types.proofs.lemmas.lists.Positions.{named-position}
 use Rattle.fb_check.specs.Directory.{IsFound, IsDirectory, ports_at, ports_at_index}
 use Rattle.fb_check.specs.declared.directory_making.TypeInputs.{TypeInputs}

@@ -1,5 +1,9 @@
 -- One more element of a loop that fills a set or a map by names.
-use Rattle.fb_types.proofs.Common.{◌≡◌, ℕ, zero, suc, ◌<◌, ◌+◌, Bool, true, false, ◌&&◌, ◌||◌, cond, List, [], ◌∷◌, ◌++◌, length, map, take, get_or, Option, Some, None, Bor, refl, sym, ◌∙◌, ap, subst, arith, option_map, option_and_then, is_some, position, slice_get, list_any, is_eq, ordering_then, lookup, true≢false, length-map, length-take-le, map-append, take_more, slice_get-map, Name, same_name, same_port, among, ports_of_event_block, ArePortsOfKinds, kind_index, port_in, EventKind, EventPort, Connection, Ports}
+use Rattle.fb_types.proofs.Common.{◌≡◌, ℕ, zero, suc, ◌<◌, ◌+◌, Bool, true, false, ◌&&◌, ◌||◌, cond, List, [], ◌∷◌, ◌++◌, length, map, take, get_or, Option, Some, None, Bor, refl, sym, ◌∙◌, ap, subst, arith, option_map, option_and_then, is_some, position, slice_get, list_any, is_eq, ordering_then, lookup, true≢false, length-map, length-take-le, map-append, take_more, slice_get-map, Name, same_name, same_port, among, ports_of_event_block, ArePortsOfKinds, kind_index, port_in}
+use Rattle.fb_types.specs.declared.event_kind.EventKind.{EventKind}
+use Rattle.fb_types.specs.declared.library.EventPort.{EventPort}
+use Rattle.fb_types.specs.declared.library.Connection.{Connection}
+use Rattle.fb_types.specs.declared.library.Ports.{Ports}
 use Rattle.std.proofs.Common.{Ordering}
 use Rattle.std.specs.declared.cmp.Ordering.TheVariants as order
 use Rattle.std.specs.BTreeMap as tree

@@ -1,6 +1,7 @@
 -- Stimuli by number, one after another.
 use Rattle.fb_check.proofs.lemmas.Common.{◌≡◌, ℕ, ◌<◌, ◌≤◌, ◌+◌, Bool, true, false, not, ◌&&◌, List, [], ◌∷◌, ◌++◌, length, get_or, map, take, Contains, Option, Some, None, Result, refl, sym, ◌∙◌, ap, subst, arith, All, is_some, option_and_then, option_map, position, slice_get, unwrap_or, list_all, map-append, All-append, Contains-append_left, Contains-append_right, slice_get-map, slice_get_read, same_Some, Name, same_name, fits, event_names, variable_names, kind_of_instance, Twice, event_ins, data_ins, Setting, Stimulus, EventPort, Instance, Library, Ports, Variable, InputValue, each_or_none, index_of, index_in, IsFound, slot_of, TypeInputs, IsBadAt, StimulusLocation}
-use Rattle.fb_types.proofs.Common.{Ok, Err, ⊎_elim, length-append, if◌then◌else◌, cases_lt, All-cons, All-nil, slice_get_within, instance_in, IsGood, Value}
+use Rattle.fb_types.proofs.Common.{Ok, Err, ⊎_elim, length-append, if◌then◌else◌, cases_lt, All-cons, All-nil, slice_get_within, instance_in, IsGood}
+use Rattle.fb_types.specs.declared.value.Value.{Value}
 use Rattle.fb_types.specs.Accepted.{kind_of_stimulus, set_names}
 use Rattle.fb_check_names.proofs.lemmas.Each.{each_parts, is_some-each}
 use Rattle.fb_types.proofs.lemmas.lists.Positions.{named-position, position_is}

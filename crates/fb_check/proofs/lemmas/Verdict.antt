@@ -1,5 +1,8 @@
 -- The numbers of the refusals, one after another.
-use Rattle.fb_types.proofs.Common.{◌≡◌, ◌≢◌, ℕ, ◌+◌, ◌<◌, ◌≤◌, Bool, true, false, nat_eq, List, [], ◌∷◌, Result, Ok, Err, map, refl, sym, ap, ◌∙◌, subst, inl, inr, ⊎_elim, arith, ◌↔◌, IfErr, IfOk, IsTrue, cases_lt, true≢false, BadStimulus, NameTwice, NameUnknown, KindWrong, OutOfRange, TooHigh, NoLink, Inputs, Library, Plan, Stimulus}
+use Rattle.fb_types.proofs.Common.{◌≡◌, ◌≢◌, ℕ, ◌+◌, ◌<◌, ◌≤◌, Bool, true, false, nat_eq, List, [], ◌∷◌, Result, Ok, Err, map, refl, sym, ap, ◌∙◌, subst, inl, inr, ⊎_elim, arith, ◌↔◌, IfErr, IfOk, IsTrue, cases_lt, true≢false, BadStimulus, NameTwice, NameUnknown, KindWrong, OutOfRange, TooHigh, NoLink, Inputs}
+use Rattle.fb_types.specs.declared.library.Library.{Library}
+use Rattle.fb_types.specs.declared.deploy.Plan.{Plan}
+use Rattle.fb_types.specs.declared.deploy.Stimulus.{Stimulus}
 use Rattle.std.proofs.Common.{Vec, Global}
 use Rattle.fb_types.specs.Accepted.{Applies, IsLeastFault, IsAccepted, OverLimit}
 use Rattle.fb_types.specs.Joined.{TwoSources}

@@ -1,5 +1,6 @@
 -- What is said of instances that are no basic blocks.
-use Rattle.fb_types.proofs.Common.{◌≡◌, List, [], true, false, Bor, Option, Some, None, is_some, option_map, sym, ap, true≢false, BasicType}
+use Rattle.fb_types.proofs.Common.{◌≡◌, List, [], true, false, Bor, Option, Some, None, is_some, option_map, sym, ap, true≢false}
+use Rattle.fb_types.specs.declared.library.BasicType.{BasicType}
 use Rattle.fb_coverage.specs.Openings.{unless_basic}
 
 -- a basic block has none of it

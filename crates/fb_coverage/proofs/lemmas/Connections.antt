@@ -1,5 +1,7 @@
 -- Where the event connections of an instance are.
-use Rattle.fb_types.proofs.Common.{◌≡◌, ◌<◌, [], ◌∷◌, length, Option, Some, None, refl, arith, option_and_then, first_of, inside, instance_at, kind_at, kind_of_instance, network_at, network_of, Path, Instance, Library}
+use Rattle.fb_types.proofs.Common.{◌≡◌, ◌<◌, [], ◌∷◌, length, Option, Some, None, refl, arith, option_and_then, first_of, inside, instance_at, kind_at, kind_of_instance, network_at, network_of, Path}
+use Rattle.fb_types.specs.declared.library.Instance.{Instance}
+use Rattle.fb_types.specs.declared.library.Library.{Library}
 use Rattle.fb_wave.specs.Scopes.{own_name}
 
 -- the network inside an instance is that of its type

@@ -1,5 +1,7 @@
 -- What the names of types represent.
-use Rattle.fb_types.proofs.Common.{◌≡◌, Option, Some, None, refl, ap, option_map, Name, Kind, Event, named, event_blocks, event_block_named, kind_of, type_name, EventKind, Library}
+use Rattle.fb_types.proofs.Common.{◌≡◌, Option, Some, None, refl, ap, option_map, Name, Kind, Event, named, event_blocks, event_block_named, kind_of, type_name}
+use Rattle.fb_types.specs.declared.event_kind.EventKind.{EventKind}
+use Rattle.fb_types.specs.declared.library.Library.{Library}
 use Rattle.fb_types.specs.Flat as flat
 
 abbrev pub type_from : Library → Name → Option (Name × EventKind) → Option Kind

@@ -1,5 +1,14 @@
 -- A basic type of an accepted declaration is sound.
-use Rattle.fb_types.proofs.Common.{◌≡◌, Bool, true, false, ◌&&◌, ◌||◌, List, [], ◌∷◌, ◌++◌, map, Option, Some, None, Contains, refl, sym, ◌∙◌, ap, subst, inl, inr, append_assoc, flat_map, true≢false, map-append, Contains-append_left, Contains-append_right, Name, same_name, Stmt, Empty, Exit, Return, Assign, If, Case, For, While, Repeat, Stmts, no_stmt, then_stmts, Choices, no_choice, then_choices, Branches, no_branch, then_branches, body_of, among, event_names, variable_names, variables_of, resource_names_of, Twice, OwnedNetwork, NameTwice, networks, basics, basics_in, interfaces, port_names, name_spaces, block_type_names, algorithm_names, state_names, instance_names, with_lists, parameter_lists, Required, required, all_of, required_types, required_withs, required_chart, required_parameters, required_deployment, Mention, mentions, mentions_body, mentioned, is_known, NameUnknown, Action, Algorithm, BasicType, BlockType, EventPort, Library, Transition, Variable, Plan}
+use Rattle.fb_types.proofs.Common.{◌≡◌, Bool, true, false, ◌&&◌, ◌||◌, List, [], ◌∷◌, ◌++◌, map, Option, Some, None, Contains, refl, sym, ◌∙◌, ap, subst, inl, inr, append_assoc, flat_map, true≢false, map-append, Contains-append_left, Contains-append_right, Name, same_name, Stmt, Empty, Exit, Return, Assign, If, Case, For, While, Repeat, Stmts, no_stmt, then_stmts, Choices, no_choice, then_choices, Branches, no_branch, then_branches, body_of, among, event_names, variable_names, variables_of, resource_names_of, Twice, OwnedNetwork, NameTwice, networks, basics, basics_in, interfaces, port_names, name_spaces, block_type_names, algorithm_names, state_names, instance_names, with_lists, parameter_lists, Required, required, all_of, required_types, required_withs, required_chart, required_parameters, required_deployment, Mention, mentions, mentions_body, mentioned, is_known, NameUnknown}
+use Rattle.fb_types.specs.declared.library.Action.{Action}
+use Rattle.fb_types.specs.declared.library.Algorithm.{Algorithm}
+use Rattle.fb_types.specs.declared.library.BasicType.{BasicType}
+use Rattle.fb_types.specs.declared.library.BlockType.{BlockType}
+use Rattle.fb_types.specs.declared.library.EventPort.{EventPort}
+use Rattle.fb_types.specs.declared.library.Library.{Library}
+use Rattle.fb_types.specs.declared.library.Transition.{Transition}
+use Rattle.fb_types.specs.declared.library.Variable.{Variable}
+use Rattle.fb_types.specs.declared.deploy.Plan.{Plan}
 use Rattle.fb_types.specs.Unknown.{optional, required_transition, required_actions, OfVariable, OfFunction, mentions_in, mentions_choices, mentions_branches, guards_of}
 use Rattle.fb_types.specs.declared.library.BlockType.TheVariants as block
 use Rattle.fb_types.specs.declared.library.State.{State}

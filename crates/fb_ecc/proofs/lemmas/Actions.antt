@@ -1,5 +1,13 @@
 -- Actions, put together from their parts.
-use Rattle.fb_types.proofs.Common.{◌≡◌, ℕ, zero, suc, ◌+◌, ◌<◌, ◌≤◌, true, false, cond, List, [], ◌∷◌, ◌++◌, length, get_or, drop, map, Option, Some, None, Result, Ok, Err, OnOk, OnErr, refl, sym, ◌∙◌, ap, subst, arith, add-one, append-nil, append_assoc, fun_ext, option_map, option_and_then, slice_get, unwrap_or, map-append, length-map, All-push, slice_get-map, slice_get_within, slice_get-get_or, same_Some, Name, same_name, named, bound, outputs_with, types_of, variables_of, Bound, Emission, Point, End, Went, Left, Returned, Stopped, RunsAll, RunsBody, ended, Position, Moving, Halts, Performs, Acts, emitting, at_point, algorithm_of, event_at, emission_of, pair_up, Stmts, no_stmt, body_of, Values, Types, Action, Algorithm, BasicType, EventPort, Variable, Halt, Reason, Ty}
+use Rattle.fb_types.proofs.Common.{◌≡◌, ℕ, zero, suc, ◌+◌, ◌<◌, ◌≤◌, true, false, cond, List, [], ◌∷◌, ◌++◌, length, get_or, drop, map, Option, Some, None, Result, Ok, Err, OnOk, OnErr, refl, sym, ◌∙◌, ap, subst, arith, add-one, append-nil, append_assoc, fun_ext, option_map, option_and_then, slice_get, unwrap_or, map-append, length-map, All-push, slice_get-map, slice_get_within, slice_get-get_or, same_Some, Name, same_name, named, bound, outputs_with, types_of, variables_of, Bound, Emission, Point, End, Went, Left, Returned, Stopped, RunsAll, RunsBody, ended, Position, Moving, Halts, Performs, Acts, emitting, at_point, algorithm_of, event_at, emission_of, pair_up, Stmts, no_stmt, body_of, Values, Types}
+use Rattle.fb_types.specs.declared.library.Action.{Action}
+use Rattle.fb_types.specs.declared.library.Algorithm.{Algorithm}
+use Rattle.fb_types.specs.declared.library.BasicType.{BasicType}
+use Rattle.fb_types.specs.declared.library.EventPort.{EventPort}
+use Rattle.fb_types.specs.declared.library.Variable.{Variable}
+use Rattle.fb_types.specs.declared.run.Halt.{Halt}
+use Rattle.fb_types.specs.declared.value.Reason.{Reason}
+use Rattle.fb_types.specs.declared.value.Ty.{Ty}
 use Rattle.std.specs.List.{All}
 use Rattle.fb_types.specs.declared.run.Emission as run
 use Rattle.fb_types.specs.declared.run.Halt.TheVariants as halt

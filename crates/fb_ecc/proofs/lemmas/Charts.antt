@@ -1,5 +1,7 @@
 -- The rows of a chart, made while the transitions are visited.
-use Rattle.fb_types.proofs.Common.{◌≡◌, ℕ, suc, ◌+◌, ◌<◌, Bool, true, false, ◌&&◌, cond, List, [], ◌∷◌, ◌++◌, length, map, set, Some, None, Contains, get_or, take, refl, sym, ◌∙◌, ap, subst, arith, inl, inr, position, option_map, slice_get, is_some, true≢false, false_from_ne_true, length-take-le, take_more, list_all-append, get_or_from_slice_get, slice_get-map, Name, same_name, Twice, state_names, BasicType, Transition}
+use Rattle.fb_types.proofs.Common.{◌≡◌, ℕ, suc, ◌+◌, ◌<◌, Bool, true, false, ◌&&◌, cond, List, [], ◌∷◌, ◌++◌, length, map, set, Some, None, Contains, get_or, take, refl, sym, ◌∙◌, ap, subst, arith, inl, inr, position, option_map, slice_get, is_some, true≢false, false_from_ne_true, length-take-le, take_more, list_all-append, get_or_from_slice_get, slice_get-map, Name, same_name, Twice, state_names}
+use Rattle.fb_types.specs.declared.library.BasicType.{BasicType}
+use Rattle.fb_types.specs.declared.library.Transition.{Transition}
 use Rattle.fb_types.specs.declared.library.State.{State}
 use Rattle.fb_types.proofs.lemmas.names.NameLaws.{any_from_contains, same_from_same_name, same_name-itself}
 use Rattle.fb_types.proofs.lemmas.lists.Elements.{Contains-cons_cases, Contains-here, Contains-there}

@@ -1,5 +1,6 @@
 -- Numbers from maps, and names that are picked out in their order.
-use Rattle.fb_types.proofs.Common.{◌≡◌, ℕ, suc, ◌+◌, ◌<◌, Bool, true, false, cond, ◌&&◌, ◌||◌, List, [], ◌∷◌, ◌++◌, length, map, Option, Some, None, Bor, Contains, refl, sym, ◌∙◌, ap, subst, arith, inl, inr, position, option_map, unwrap_or, is_some, BTreeMap, insert_entry, list_any, nat_cmp, Less, Equal, Greater, true≢false, false_from_ne_true, nat_tests, list_any-append, Name, same_name, among, event_names, Twice, EventPort}
+use Rattle.fb_types.proofs.Common.{◌≡◌, ℕ, suc, ◌+◌, ◌<◌, Bool, true, false, cond, ◌&&◌, ◌||◌, List, [], ◌∷◌, ◌++◌, length, map, Option, Some, None, Bor, Contains, refl, sym, ◌∙◌, ap, subst, arith, inl, inr, position, option_map, unwrap_or, is_some, BTreeMap, insert_entry, list_any, nat_cmp, Less, Equal, Greater, true≢false, false_from_ne_true, nat_tests, list_any-append, Name, same_name, among, event_names, Twice}
+use Rattle.fb_types.specs.declared.library.EventPort.{EventPort}
 use Rattle.std.specs.Ordering.{match_ordering}
 use Rattle.fb_types.proofs.lemmas.names.NameLaws.{any_from_contains, same_from_same_name, same_name-flip, same_name-itself}
 use Rattle.fb_check_names.specs.Indexes.{IsIndex, index_in}

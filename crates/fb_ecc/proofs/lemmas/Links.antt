@@ -1,5 +1,13 @@
 -- Chains of states, put together from their links, and what the rows of a chart say.
-use Rattle.fb_types.proofs.Common.{◌≡◌, ℕ, zero, suc, ◌+◌, ◌<◌, ◌≤◌, Bool, true, false, cond, List, [], ◌∷◌, length, get_or, drop, map, Option, Some, None, Result, Ok, Err, Bor, ◌⊎◌, inl, inr, refl, sym, ◌∙◌, ap, subst, arith, option_map, option_and_then, slice_get, IfSome, MatchOption, filter, list_all, true≢false, length-map, slice_get-map, slice_get_within, slice_get-get_or, slice_get_read, slice_get_past, get_or_from_slice_get, same_Some, Name, same_name, with_value, named, among, variable_names, inputs_with, Bound, event_at, pair_up, with_values, Variable, Halt, Value, Values, Position, Moving, Acts, Links, Trial, Clears, NoneClears, Fails, Rests, Enters, trial_at, trial_of, is_true, leaving, actions_of, Action, BasicType, EventPort, Transition, Reason}
+use Rattle.fb_types.proofs.Common.{◌≡◌, ℕ, zero, suc, ◌+◌, ◌<◌, ◌≤◌, Bool, true, false, cond, List, [], ◌∷◌, length, get_or, drop, map, Option, Some, None, Result, Ok, Err, Bor, ◌⊎◌, inl, inr, refl, sym, ◌∙◌, ap, subst, arith, option_map, option_and_then, slice_get, IfSome, MatchOption, filter, list_all, true≢false, length-map, slice_get-map, slice_get_within, slice_get-get_or, slice_get_read, slice_get_past, get_or_from_slice_get, same_Some, Name, same_name, with_value, named, among, variable_names, inputs_with, Bound, event_at, pair_up, with_values, Values, Position, Moving, Acts, Links, Trial, Clears, NoneClears, Fails, Rests, Enters, trial_at, trial_of, is_true, leaving, actions_of}
+use Rattle.fb_types.specs.declared.library.Variable.{Variable}
+use Rattle.fb_types.specs.declared.run.Halt.{Halt}
+use Rattle.fb_types.specs.declared.value.Value.{Value}
+use Rattle.fb_types.specs.declared.library.Action.{Action}
+use Rattle.fb_types.specs.declared.library.BasicType.{BasicType}
+use Rattle.fb_types.specs.declared.library.EventPort.{EventPort}
+use Rattle.fb_types.specs.declared.library.Transition.{Transition}
+use Rattle.fb_types.specs.declared.value.Reason.{Reason}
 use Rattle.std.specs.List.{HoldsAt}
 use Rattle.fb_types.specs.declared.run.Halt.TheVariants as halt
 use Rattle.fb_types.specs.declared.library.State.{State}

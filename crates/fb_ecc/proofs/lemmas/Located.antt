@@ -1,5 +1,8 @@
 -- The slots of the variables WITH an event: how they are made, and what is at them.
-use Rattle.fb_types.proofs.Common.{◌≡◌, ℕ, zero, suc, ◌+◌, ◌<◌, ◌≤◌, ◌^◌, ◌-◌, min, Bool, true, false, cond, List, [], ◌∷◌, ◌++◌, length, get_or, take, map, Option, Some, None, Bor, refl, sym, ◌∙◌, ap, subst, arith, option_map, slice_get, MatchOption, filter, list_any, length-map, map-append, slice_get-get_or, slice_get-map, Name, with_value, variable_names, inputs_with, outputs_with, zero_value, Values, BasicType, Variable, Value}
+use Rattle.fb_types.proofs.Common.{◌≡◌, ℕ, zero, suc, ◌+◌, ◌<◌, ◌≤◌, ◌^◌, ◌-◌, min, Bool, true, false, cond, List, [], ◌∷◌, ◌++◌, length, get_or, take, map, Option, Some, None, Bor, refl, sym, ◌∙◌, ap, subst, arith, option_map, slice_get, MatchOption, filter, list_any, length-map, map-append, slice_get-get_or, slice_get-map, Name, with_value, variable_names, inputs_with, outputs_with, zero_value, Values}
+use Rattle.fb_types.specs.declared.library.BasicType.{BasicType}
+use Rattle.fb_types.specs.declared.library.Variable.{Variable}
+use Rattle.fb_types.specs.declared.value.Value.{Value}
 use Rattle.fb_types.specs.Blocks.{goes_with}
 use Rattle.fb_st.specs.Frames.{Declared}
 use Rattle.fb_ecc.specs.Indexed.{entry_of, picked}

@@ -1,5 +1,10 @@
 -- Algorithms and guards by their compiled forms.
-use Rattle.fb_types.proofs.Common.{◌≡◌, ℕ, zero, suc, ◌<◌, length, get_or, List, [], ◌∷◌, ◌++◌, ◌⊎◌, inl, inr, map, Option, Some, None, refl, sym, ◌∙◌, ap, subst, IfSome, slice_get, map-append, slice_get_read, variable_names, expr_of, stmt_of, Algorithm, BasicType, Transition, Variable, Expr}
+use Rattle.fb_types.proofs.Common.{◌≡◌, ℕ, zero, suc, ◌<◌, length, get_or, List, [], ◌∷◌, ◌++◌, ◌⊎◌, inl, inr, map, Option, Some, None, refl, sym, ◌∙◌, ap, subst, IfSome, slice_get, map-append, slice_get_read, variable_names, expr_of, stmt_of}
+use Rattle.fb_types.specs.declared.library.Algorithm.{Algorithm}
+use Rattle.fb_types.specs.declared.library.BasicType.{BasicType}
+use Rattle.fb_types.specs.declared.library.Transition.{Transition}
+use Rattle.fb_types.specs.declared.library.Variable.{Variable}
+use Rattle.fb_types.specs.declared.text.Expr.{Expr}
 use Rattle.std.specs.Borrow.{Bor}
 use Rattle.fb_st.specs.Frames.{Declared}
 use Rattle.fb_st.specs.Made.{SaysAll, SaysTruth}

@@ -1,5 +1,7 @@
 -- Elements of lists, and the variables of a type as a block has them.
-use Rattle.fb_types.proofs.Common.{◌≡◌, List, [], ◌∷◌, ◌++◌, map, refl, sym, ◌∙◌, ap, map-append, variable_names, variables_of, BasicType, Variable}
+use Rattle.fb_types.proofs.Common.{◌≡◌, List, [], ◌∷◌, ◌++◌, map, refl, sym, ◌∙◌, ap, map-append, variable_names, variables_of}
+use Rattle.fb_types.specs.declared.library.BasicType.{BasicType}
+use Rattle.fb_types.specs.declared.library.Variable.{Variable}
 use Rattle.fb_st.specs.Frames.{declared_in, names_of}
 use Rattle.fb_st.specs.declared.frame.Slot.{Slot}
 use Rattle.fb_ecc.specs.Opened.{slot_of}

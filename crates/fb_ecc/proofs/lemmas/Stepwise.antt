@@ -1,5 +1,8 @@
 -- Transitions that are tried one after another, and the actions of a state one by one.
-use Rattle.fb_types.proofs.Common.{◌≡◌, ℕ, zero, suc, ◌+◌, ◌<◌, Bool, true, List, [], ◌∷◌, length, get_or, drop, map, Option, Some, None, Result, refl, sym, ◌∙◌, ap, subst, arith, inl, inr, slice_get, length-map, slice_get_within, slice_get-get_or, get_or_from_slice_get, Name, actions_of, is_true, Values, Action, BasicType, Reason}
+use Rattle.fb_types.proofs.Common.{◌≡◌, ℕ, zero, suc, ◌+◌, ◌<◌, Bool, true, List, [], ◌∷◌, length, get_or, drop, map, Option, Some, None, Result, refl, sym, ◌∙◌, ap, subst, arith, inl, inr, slice_get, length-map, slice_get_within, slice_get-get_or, get_or_from_slice_get, Name, actions_of, is_true, Values}
+use Rattle.fb_types.specs.declared.library.Action.{Action}
+use Rattle.fb_types.specs.declared.library.BasicType.{BasicType}
+use Rattle.fb_types.specs.declared.value.Reason.{Reason}
 use Rattle.fb_types.specs.declared.library.State.{State}
 use Rattle.fb_types.proofs.lemmas.lists.ByIndex.{element_at}
 use Rattle.fb_ecc.specs.Actions.{AreActions, IsAction}

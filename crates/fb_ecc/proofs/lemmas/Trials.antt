@@ -1,5 +1,11 @@
 -- Transitions that are tried by their indexes.
-use Rattle.fb_types.proofs.Common.{◌≡◌, ℕ, zero, suc, ◌+◌, ◌<◌, Bool, true, false, cond, ◌&&◌, ◌||◌, List, [], ◌∷◌, length, get_or, drop, map, Option, Some, None, Result, Ok, refl, sym, ◌∙◌, ap, subst, arith, add-one, nat_eq, position, option_map, unwrap_or, slice_get, is_some, if◌then◌else◌, IfSome, list_all, drop-cons, nat_tests, false_from_ne_true, true≢false, slice_get-get_or, slice_get-map, slice_get_within, slice_get_read, get_or_from_slice_get, Name, same_name, among, state_names, Expr, Steps, Values, Fails, NoneClears, is_true, trial_of, by_condition, event_at, BasicType, EventPort, Transition, Reason}
+use Rattle.fb_types.proofs.Common.{◌≡◌, ℕ, zero, suc, ◌+◌, ◌<◌, Bool, true, false, cond, ◌&&◌, ◌||◌, List, [], ◌∷◌, length, get_or, drop, map, Option, Some, None, Result, Ok, refl, sym, ◌∙◌, ap, subst, arith, add-one, nat_eq, position, option_map, unwrap_or, slice_get, is_some, if◌then◌else◌, IfSome, list_all, drop-cons, nat_tests, false_from_ne_true, true≢false, slice_get-get_or, slice_get-map, slice_get_within, slice_get_read, get_or_from_slice_get, Name, same_name, among, state_names, Values, Fails, NoneClears, is_true, trial_of, by_condition, event_at}
+use Rattle.fb_types.specs.declared.text.Expr.{Expr}
+use Rattle.fb_types.specs.declared.value.Reason.TheVariants.{Steps}
+use Rattle.fb_types.specs.declared.library.BasicType.{BasicType}
+use Rattle.fb_types.specs.declared.library.EventPort.{EventPort}
+use Rattle.fb_types.specs.declared.library.Transition.{Transition}
+use Rattle.fb_types.specs.declared.value.Reason.{Reason}
 use Rattle.std.proofs.lemmas.List.Quantifiers.{position-Some}
 use Rattle.fb_types.specs.declared.library.State.{State}
 use Rattle.fb_types.proofs.lemmas.lists.Positions.{position-first}

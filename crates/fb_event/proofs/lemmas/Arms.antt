@@ -1,5 +1,9 @@
 -- What a block of each kind does at an event, by what the calls of its arm return.
-use Rattle.fb_types.proofs.Common.{◌≡◌, ℕ, Bool, true, false, List, [], ◌∷◌, map, All, refl, sym, ap, ◌∙◌, subst, arith, if◌then◌else◌, codes, All-cons, All-nil, ports_of_event_block, Reaction, Name, event_at, truth, EventKind, TimerAsk, Keep, Value}
+use Rattle.fb_types.proofs.Common.{◌≡◌, ℕ, Bool, true, false, List, [], ◌∷◌, map, All, refl, sym, ap, ◌∙◌, subst, arith, if◌then◌else◌, codes, All-cons, All-nil, ports_of_event_block, Reaction, Name, event_at, truth}
+use Rattle.fb_types.specs.declared.event_kind.EventKind.{EventKind}
+use Rattle.fb_types.specs.declared.run.TimerAsk.{TimerAsk}
+use Rattle.fb_types.specs.declared.run.TimerAsk.TheVariants.{Keep}
+use Rattle.fb_types.specs.declared.value.Value.{Value}
 use Rattle.fb_types.specs.EventBlocks.{emits, emits_if, stays}
 use Rattle.fb_types.specs.declared.event_kind.EventKind.TheVariants as kind
 use Rattle.fb_event.specs.Block.{as_time, input_of, state_of, IsInRange}

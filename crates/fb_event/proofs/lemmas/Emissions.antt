@@ -1,5 +1,9 @@
 -- What emissions by number represent.
-use Rattle.fb_types.proofs.Common.{Bool, true, false, not, Option, IsTrue, ◌≡◌, ℕ, zero, suc, List, [], ◌∷◌, ◌++◌, All, map, length, refl, arith, sym, ap, ◌∙◌, length-map, map-append, All-head, All-map, All-push, All-tail, All-weaker, Name, Values, is_some, ports_of_event_block, variable_names, outputs_with, bound, type_at, Memory, Reaction, event_at, emission_of, pair_up, emissions, Variable, Ty, EventKind, SetReset, DataLatch, CountUp}
+use Rattle.fb_types.proofs.Common.{Bool, true, false, not, Option, IsTrue, ◌≡◌, ℕ, zero, suc, List, [], ◌∷◌, ◌++◌, All, map, length, refl, arith, sym, ap, ◌∙◌, length-map, map-append, All-head, All-map, All-push, All-tail, All-weaker, Name, Values, is_some, ports_of_event_block, variable_names, outputs_with, bound, type_at, Memory, Reaction, event_at, emission_of, pair_up, emissions}
+use Rattle.fb_types.specs.declared.library.Variable.{Variable}
+use Rattle.fb_types.specs.declared.value.Ty.{Ty}
+use Rattle.fb_types.specs.declared.event_kind.EventKind.{EventKind}
+use Rattle.fb_types.specs.declared.event_kind.EventKind.TheVariants.{SetReset, DataLatch, CountUp}
 use Rattle.fb_types.specs.EventBlocks.{output_of}
 use Rattle.fb_types.specs.declared.run.Emission as run
 use Rattle.fb_event.specs.Block.{state_of, values_of, values_in, values_if_any, IsInRange}

@@ -1,5 +1,6 @@
 -- Which index the event has whose name a reaction asks for.
-use Rattle.fb_types.proofs.Common.{◌≡◌, ℕ, zero, suc, nat_eq, refl, sym, arith, ne_eqb, codes, ports_of_event_block, is, event_at, Rendezvous, Select, Delay, SetReset, CountUp}
+use Rattle.fb_types.proofs.Common.{◌≡◌, ℕ, zero, suc, nat_eq, refl, sym, arith, ne_eqb, codes, ports_of_event_block, is, event_at}
+use Rattle.fb_types.specs.declared.event_kind.EventKind.TheVariants.{Rendezvous, Select, Delay, SetReset, CountUp}
 
 pub rendezvous-first : (event : ℕ) → is (event_at (ports_of_event_block Rendezvous).event_inputs event) (codes "EI1") ≡ nat_eq event 0
 rendezvous-first zero = refl

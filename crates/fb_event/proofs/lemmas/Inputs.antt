@@ -1,5 +1,8 @@
 -- What a reaction reads of the data inputs.
-use Rattle.fb_types.proofs.Common.{◌≡◌, ℕ, true, false, cond, List, [], ◌∷◌, refl, arith, IsTrue, ◌^◌, ◌-◌, pos, ℤ, ap, sym, ◌∙◌, subst, ints, codes, Name, whole, Clear, ports_of_event_block, Memory, Idle, Marks, Flag, Count, Reaction, is, started, event_at, EventKind, Value}
+use Rattle.fb_types.proofs.Common.{◌≡◌, ℕ, true, false, cond, List, [], ◌∷◌, refl, arith, IsTrue, ◌^◌, ◌-◌, pos, ℤ, ap, sym, ◌∙◌, subst, ints, codes, Name, whole, ports_of_event_block, Memory, Idle, Marks, Flag, Count, Reaction, is, started, event_at}
+use Rattle.fb_types.specs.declared.run.TimerAsk.TheVariants.{Clear}
+use Rattle.fb_types.specs.declared.event_kind.EventKind.{EventKind}
+use Rattle.fb_types.specs.declared.value.Value.{Value}
 use Rattle.std.specs.Int.{int_min}
 use Rattle.fb_types.specs.Values.{in_range}
 use Rattle.fb_types.specs.declared.value.Ty.TheVariants.{Time}

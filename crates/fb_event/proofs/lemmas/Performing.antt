@@ -1,5 +1,7 @@
 -- What single functions of the table return, and what the reaction is there.
-use Rattle.fb_types.proofs.Common.{◌≡◌, ◌≢◌, ◌+◌, ◌≤◌, ℕ, zero, suc, ℤ, pos, negsuc, Bool, true, false, true≢false, List, [], ◌∷◌, length, get_or, refl, sym, ap, ◌∙◌, subst, arith, nat_eq, codes, ◌||◌, if◌then◌else◌, le-ltb, ne_eqb, All-cons, All-nil, Memory, Idle, Reaction, counted, started, whole, At, Clear, Keep, Value}
+use Rattle.fb_types.proofs.Common.{◌≡◌, ◌≢◌, ◌+◌, ◌≤◌, ℕ, zero, suc, ℤ, pos, negsuc, Bool, true, false, true≢false, List, [], ◌∷◌, length, get_or, refl, sym, ap, ◌∙◌, subst, arith, nat_eq, codes, ◌||◌, if◌then◌else◌, le-ltb, ne_eqb, All-cons, All-nil, Memory, Idle, Reaction, counted, started, whole}
+use Rattle.fb_types.specs.declared.run.TimerAsk.TheVariants.{At, Clear, Keep}
+use Rattle.fb_types.specs.declared.value.Value.{Value}
 use Rattle.std.specs.Int.Signed.{lt_z}
 use Rattle.fb_types.specs.EventBlocks.{again, emits, met, natural, stays, ticks}
 use Rattle.fb_types.specs.EventBlocks as blocks

@@ -45,7 +45,27 @@ pub use Rattle.fb_system.specs.Lines.{BelongsTo, IsEmission, line_variables}
 pub use Rattle.fb_trace.specs.End.{ending_of}
 pub use Rattle.fb_trace.specs.declared.last.Outcome.{Outcome}
 pub use Rattle.fb_trace.specs.declared.last.Outcome.TheVariants.{Stop}
-pub use Rattle.fb_types.proofs.Common.{Action, Acts, All, All-append, All-cons, All-head, All-nil, All-tail, Appends, Appends-nil, Appends-trans, AreAccepted, Arrived, AtHorizon, AtStop, Basic, BasicType, BlockType, Bool, Bound, Clears, Composite, CompositeType, Consumes, Consumes-trans, Contains, Contains-append_right, Divide, Each, Emission, End, Ending, Err, Event, EventKind, EventPort, Expired, Fails, Form, IfErr, IfNone, IfOk, IfSome, Inputs, Key, Kind, Library, Line, List, Name, None, NoneClears, Ok, OnErr, OnOk, One, Option, Path, Ports, Position, Raised, Range, Reacts, Reason, Restart, Rests, Result, Returned, Some, Steps, Stimulated, StopMark, Stopped, System, TimerAsk, Transition, Trial, Twice, Two, Value, Values, Variable, Vec, Went, [], actions_of, algorithm_names, algorithm_of, among, and_parts, ap, append-nil, append_assoc, append_cancel_left, arith, at_point, basics, both_ways, bound, cases_eq, codes, cond, decimal, drop, emission_of, emissions, emitting, eq-eqb, err_from_is_err_and, event_at, false, false_from_ne_true, false≢true, fits, flat_map, found, get_or, if◌then◌else◌, inl, inputs_with, inr, interfaces, is_event_input, is_true, last_line, leaving, length, length-append, length-map, line_of, line_text, lines_text, list_any, map, map-append, memory_of, min, nat_tests, ne_eqb, networks, not, option_map, outputs_with, pair_up, path_at, path_of, ports_at, ports_of, ports_of_event_block, position, refl, rules, same_Some, same_name, same_path, slice_get, slice_get_within, slice_set, state_of, stimuli_of, subst, suc, sym, system_of, take, take_through, trial_at, true, true≢false, types_of, unwrap_or, variable_names, with_values, zero, ℕ, ◌&&◌, ◌++◌, ◌+◌, ◌-◌, ◌<◌, ◌==◌, ◌^◌, ◌||◌, ◌∙◌, ◌∷◌, ◌≡◌, ◌≤◌, ◌⊎◌}
+pub use Rattle.fb_types.proofs.Common.{Acts, All, All-append, All-cons, All-head, All-nil, All-tail, Appends, Appends-nil, Appends-trans, AreAccepted, Arrived, AtHorizon, AtStop, Basic, Bool, Bound, Clears, Composite, Consumes, Consumes-trans, Contains, Contains-append_right, Each, Emission, End, Ending, Err, Event, Expired, Fails, IfErr, IfNone, IfOk, IfSome, Inputs, Kind, List, Name, None, NoneClears, Ok, OnErr, OnOk, Option, Path, Position, Raised, Reacts, Rests, Result, Returned, Some, Stimulated, Stopped, System, Trial, Twice, Values, Vec, Went, [], actions_of, algorithm_names, algorithm_of, among, and_parts, ap, append-nil, append_assoc, append_cancel_left, arith, at_point, basics, both_ways, bound, cases_eq, codes, cond, decimal, drop, emission_of, emissions, emitting, eq-eqb, err_from_is_err_and, event_at, false, false_from_ne_true, false≢true, fits, flat_map, found, get_or, if◌then◌else◌, inl, inputs_with, inr, interfaces, is_event_input, is_true, last_line, leaving, length, length-append, length-map, line_of, line_text, lines_text, list_any, map, map-append, memory_of, min, nat_tests, ne_eqb, networks, not, option_map, outputs_with, pair_up, path_at, path_of, ports_at, ports_of, ports_of_event_block, position, refl, rules, same_Some, same_name, same_path, slice_get, slice_get_within, slice_set, state_of, stimuli_of, subst, suc, sym, system_of, take, take_through, trial_at, true, true≢false, types_of, unwrap_or, variable_names, with_values, zero, ℕ, ◌&&◌, ◌++◌, ◌+◌, ◌-◌, ◌<◌, ◌==◌, ◌^◌, ◌||◌, ◌∙◌, ◌∷◌, ◌≡◌, ◌≤◌, ◌⊎◌}
+pub use Rattle.fb_types.specs.declared.library.Action.{Action}
+pub use Rattle.fb_types.specs.declared.library.BasicType.{BasicType}
+pub use Rattle.fb_types.specs.declared.library.BlockType.{BlockType}
+pub use Rattle.fb_types.specs.declared.library.CompositeType.{CompositeType}
+pub use Rattle.fb_types.specs.declared.value.Reason.TheVariants.{Divide, Range, Steps}
+pub use Rattle.fb_types.specs.declared.event_kind.EventKind.{EventKind}
+pub use Rattle.fb_types.specs.declared.library.EventPort.{EventPort}
+pub use Rattle.fb_types.specs.declared.run.Form.{Form}
+pub use Rattle.fb_types.specs.declared.key.Key.{Key}
+pub use Rattle.fb_types.specs.declared.library.Library.{Library}
+pub use Rattle.fb_types.specs.declared.run.Line.{Line}
+pub use Rattle.fb_types.specs.declared.run.Form.TheVariants.{One, Two}
+pub use Rattle.fb_types.specs.declared.library.Ports.{Ports}
+pub use Rattle.fb_types.specs.declared.value.Reason.{Reason}
+pub use Rattle.fb_types.specs.declared.event_kind.EventKind.TheVariants.{Restart}
+pub use Rattle.fb_types.specs.declared.run.StopMark.{StopMark}
+pub use Rattle.fb_types.specs.declared.run.TimerAsk.{TimerAsk}
+pub use Rattle.fb_types.specs.declared.library.Transition.{Transition}
+pub use Rattle.fb_types.specs.declared.value.Value.{Value}
+pub use Rattle.fb_types.specs.declared.library.Variable.{Variable}
 pub use Rattle.fb_wave.specs.Changes.{line}
 pub use Rattle.fb_wave.specs.Copying.{IsFirstLine}
 pub use Rattle.fb_wave.specs.CutOff.{is_unended}

@@ -1,5 +1,6 @@
 -- One more message is dealt, and one more list is sorted.
-use Rattle.fb_types.proofs.Common.{◌≡◌, ◌≢◌, ℕ, ◌+◌, ◌<◌, ◌≤◌, ◌++◌, List, [], ◌∷◌, length, Some, sym, ap, subst, ◌∙◌, append-nil, arith, slice_get, slice_set, Global, cond-true, cond-false, eq-eqb, ne_eqb, flat_map-append, slice_get_within, System, Message}
+use Rattle.fb_types.proofs.Common.{◌≡◌, ◌≢◌, ℕ, ◌+◌, ◌<◌, ◌≤◌, ◌++◌, List, [], ◌∷◌, length, Some, sym, ap, subst, ◌∙◌, append-nil, arith, slice_get, slice_set, Global, cond-true, cond-false, eq-eqb, ne_eqb, flat_map-append, slice_get_within, System}
+use Rattle.fb_types.specs.declared.run.Message.{Message}
 use Rattle.std.proofs.Common.{filter, Vec}
 use Rattle.std.proofs.lemmas.List.Elements.{filter-append}
 use Rattle.fb_link.specs.Messages.{receiver_of}

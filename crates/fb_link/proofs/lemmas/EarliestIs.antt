@@ -1,5 +1,6 @@
 -- The least arrival over the entries so far of a table of latencies.
-use Rattle.fb_types.proofs.Common.{◌≡◌, ℕ, ◌+◌, ◌^◌, ◌<◌, ◌≤◌, min, List, [], length, take, get_or, sym, ◌∙◌, subst, inl, inr, arith, cases_lt, take_all, All-nil, All-weaker, Entry, latency_at}
+use Rattle.fb_types.proofs.Common.{◌≡◌, ℕ, ◌+◌, ◌^◌, ◌<◌, ◌≤◌, min, List, [], length, take, get_or, sym, ◌∙◌, subst, inl, inr, arith, cases_lt, take_all, All-nil, All-weaker, latency_at}
+use Rattle.fb_types.specs.declared.latency.Entry.{Entry}
 use Rattle.std.specs.List.{All}
 use Rattle.std.proofs.lemmas.List.Elements.{All-more}
 use Rattle.fb_types.specs.Latencies.{IsLatencyTable}

@@ -1,5 +1,7 @@
 -- Messages that were dealt to their receivers and sorted there.
-use Rattle.fb_types.proofs.Common.{◌≡◌, ℕ, Bool, true, false, List, [], ◌∷◌, refl, sym, ap, ◌∙◌, subst, ⊎_elim, IsPermutation, Ordering, is_lt, nat_cmp, ordering_then, Less, Equal, Greater, eqb-true, eqb-false, All-permutation, key_cmp, same_key, found, Each, System, Key, Message}
+use Rattle.fb_types.proofs.Common.{◌≡◌, ℕ, Bool, true, false, List, [], ◌∷◌, refl, sym, ap, ◌∙◌, subst, ⊎_elim, IsPermutation, Ordering, is_lt, nat_cmp, ordering_then, Less, Equal, Greater, eqb-true, eqb-false, All-permutation, key_cmp, same_key, found, Each, System}
+use Rattle.fb_types.specs.declared.key.Key.{Key}
+use Rattle.fb_types.specs.declared.run.Message.{Message}
 use Rattle.std.proofs.Common.{filter}
 use Rattle.std.specs.Cmp.{IsTotalOrder, nat_cmp_total, on_total}
 use Rattle.std.specs.List.Sorted.{IsSortedByKey, IsStableByKey}

@@ -1,5 +1,6 @@
 -- What lists put under keys, and what stable sorting by keys leaves of that.
-use Rattle.fb_types.proofs.Common.{◌≡◌, ℕ, suc, ◌<◌, ◌≤◌, ◌⊎◌, Bool, true, false, not, ◌&&◌, Option, Some, None, List, [], ◌∷◌, length, map, get_or, refl, sym, ap, ◌∙◌, inl, inr, ⊎_elim, arith, if◌then◌else◌, is_lt, cond-true, cond-false, tied_itself, key_cmp, Precedes, same_key, or_else, found, Each, Key}
+use Rattle.fb_types.proofs.Common.{◌≡◌, ℕ, suc, ◌<◌, ◌≤◌, ◌⊎◌, Bool, true, false, not, ◌&&◌, Option, Some, None, List, [], ◌∷◌, length, map, get_or, refl, sym, ap, ◌∙◌, inl, inr, ⊎_elim, arith, if◌then◌else◌, is_lt, cond-true, cond-false, tied_itself, key_cmp, Precedes, same_key, or_else, found, Each}
+use Rattle.fb_types.specs.declared.key.Key.{Key}
 use Rattle.std.proofs.Common.{filter}
 use Rattle.std.specs.Cmp.{IsStrictWeakOrder}
 use Rattle.std.specs.List.Sorted.{ties, IsSortedBy, IsStableBy}

@@ -1,5 +1,6 @@
 -- Tables of latencies, one entry after another.
-use Rattle.fb_types.proofs.Common.{◌≡◌, ◌⊎◌, ℕ, zero, suc, ◌+◌, ◌^◌, ◌<◌, ◌≤◌, nat_le, true, false, cond, List, [], ◌∷◌, ◌++◌, length, map, take, get_or, Option, Some, None, refl, sym, ◌∙◌, ap, inl, inr, arith, filter, le-leb, lt-leb, cases_lt, get_or-map, length-map, take_more, take_all, All-head, All-tail, Entry, last_of, latency_at}
+use Rattle.fb_types.proofs.Common.{◌≡◌, ◌⊎◌, ℕ, zero, suc, ◌+◌, ◌^◌, ◌<◌, ◌≤◌, nat_le, true, false, cond, List, [], ◌∷◌, ◌++◌, length, map, take, get_or, Option, Some, None, refl, sym, ◌∙◌, ap, inl, inr, arith, filter, le-leb, lt-leb, cases_lt, get_or-map, length-map, take_more, take_all, All-head, All-tail, last_of, latency_at}
+use Rattle.fb_types.specs.declared.latency.Entry.{Entry}
 use Rattle.std.specs.List.{All, AllPairs}
 use Rattle.std.proofs.lemmas.List.Kept.{AllPairs-from_increasing}
 use Rattle.fb_types.specs.Latencies.{IsLatencyTable}

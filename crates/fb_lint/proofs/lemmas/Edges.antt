@@ -1,5 +1,6 @@
 -- Edges that lead from state to state.
-use Rattle.fb_types.proofs.Common.{◌≡◌, Bool, true, false, ◌&&◌, ◌||◌, List, [], ◌∷◌, map, Contains, refl, sym, ap, subst, inl, inr, ◌⊎◌, ◌↔◌, true≢false, Name, same_name, Transition}
+use Rattle.fb_types.proofs.Common.{◌≡◌, Bool, true, false, ◌&&◌, ◌||◌, List, [], ◌∷◌, map, Contains, refl, sym, ap, subst, inl, inr, ◌⊎◌, ◌↔◌, true≢false, Name, same_name}
+use Rattle.fb_types.specs.declared.library.Transition.{Transition}
 use Rattle.fb_types.proofs.lemmas.lists.Elements.{Contains-nil, Contains-cons_cases, Contains-here, Contains-there, Contains-map, map-Contains}
 use Rattle.fb_types.proofs.lemmas.names.NameLaws.{same_name-itself, same_from_same_name}
 use Rattle.fb_lint.specs.Reached.{Edge, edge_of, leads, Reached, at_first, by_transition}

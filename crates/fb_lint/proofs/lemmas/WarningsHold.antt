@@ -1,6 +1,17 @@
 -- Each warning of the list holds at its position.
 use Rattle.fb_lint.proofs.lemmas.Common.{◌≡◌, ℕ, ◌+◌, ◌<◌, Bool, true, false, not, List, [], ◌∷◌, ◌++◌, map, take, Contains, refl, sym, ◌∙◌, ap, subst, inl, inr, arith, filter, list_any, true≢false, Name, Algorithm, guard_mentions, when, each_from, Warning}
-use Rattle.fb_types.proofs.Common.{zero, suc, ◌&&◌, if◌then◌else◌, Option, Some, None, slice_get, option_map, option_and_then, Contains-append_cases, ports_of, Plan, Stimulus, BasicType, BlockType, Library, first_of, kind_of, type_name, type_named, CompositeType, Connection, EventPort, Instance, Ports, Variable, OwnedNetwork, body_of, mentions_body}
+use Rattle.fb_types.proofs.Common.{zero, suc, ◌&&◌, if◌then◌else◌, Option, Some, None, slice_get, option_map, option_and_then, Contains-append_cases, ports_of, first_of, kind_of, type_name, type_named, OwnedNetwork, body_of, mentions_body}
+use Rattle.fb_types.specs.declared.deploy.Plan.{Plan}
+use Rattle.fb_types.specs.declared.deploy.Stimulus.{Stimulus}
+use Rattle.fb_types.specs.declared.library.BasicType.{BasicType}
+use Rattle.fb_types.specs.declared.library.BlockType.{BlockType}
+use Rattle.fb_types.specs.declared.library.Library.{Library}
+use Rattle.fb_types.specs.declared.library.CompositeType.{CompositeType}
+use Rattle.fb_types.specs.declared.library.Connection.{Connection}
+use Rattle.fb_types.specs.declared.library.EventPort.{EventPort}
+use Rattle.fb_types.specs.declared.library.Instance.{Instance}
+use Rattle.fb_types.specs.declared.library.Ports.{Ports}
+use Rattle.fb_types.specs.declared.library.Variable.{Variable}
 use Rattle.fb_types.proofs.lemmas.lists.Elements.{Contains-nil, Contains-cons_cases}
 use Rattle.fb_types.proofs.lemmas.lists.ByIndex.{index_of_element}
 use Rattle.fb_types.proofs.lemmas.lists.ListTests.{passes_somewhere}

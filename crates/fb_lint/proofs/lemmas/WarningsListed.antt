@@ -1,6 +1,17 @@
 -- Each warning that holds at its position is in the list.
 use Rattle.fb_lint.proofs.lemmas.Common.{◌≡◌, ℕ, ◌+◌, ◌<◌, Bool, true, false, not, List, [], ◌∷◌, ◌++◌, map, take, Contains, refl, sym, ◌∙◌, ap, subst, inl, inr, arith, filter, list_any, true≢false, Name, guard_mentions, when, each_from, Warning, UnusedPort}
-use Rattle.fb_types.proofs.Common.{zero, suc, ◌&&◌, ◌||◌, if◌then◌else◌, Option, Some, None, slice_get, option_map, option_and_then, Contains-append_left, Contains-append_right, ports_of, first_of, kind_of, type_name, type_named, OwnedNetwork, body_of, Stmt, mentions_body, Plan, Stimulus, BasicType, BlockType, CompositeType, Library, EventPort, Instance, Ports, Transition, Variable}
+use Rattle.fb_types.proofs.Common.{zero, suc, ◌&&◌, ◌||◌, if◌then◌else◌, Option, Some, None, slice_get, option_map, option_and_then, Contains-append_left, Contains-append_right, ports_of, first_of, kind_of, type_name, type_named, OwnedNetwork, body_of, Stmt, mentions_body}
+use Rattle.fb_types.specs.declared.deploy.Plan.{Plan}
+use Rattle.fb_types.specs.declared.deploy.Stimulus.{Stimulus}
+use Rattle.fb_types.specs.declared.library.BasicType.{BasicType}
+use Rattle.fb_types.specs.declared.library.BlockType.{BlockType}
+use Rattle.fb_types.specs.declared.library.CompositeType.{CompositeType}
+use Rattle.fb_types.specs.declared.library.Library.{Library}
+use Rattle.fb_types.specs.declared.library.EventPort.{EventPort}
+use Rattle.fb_types.specs.declared.library.Instance.{Instance}
+use Rattle.fb_types.specs.declared.library.Ports.{Ports}
+use Rattle.fb_types.specs.declared.library.Transition.{Transition}
+use Rattle.fb_types.specs.declared.library.Variable.{Variable}
 use Rattle.fb_types.specs.declared.library.BlockType.TheVariants as block
 use Rattle.fb_types.specs.declared.library.State.{State}
 use Rattle.fb_types.proofs.lemmas.lists.Elements.{Contains-nil, Contains-cons_cases, Contains-here}

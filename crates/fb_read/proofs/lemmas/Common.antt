@@ -36,6 +36,14 @@ pub use Rattle.fb_read.specs.declared.fault.ParseFault.{ParseFault}
 pub use Rattle.fb_read.specs.declared.token.Located.{Located}
 pub use Rattle.fb_read.specs.declared.token.Mark.{Mark}
 pub use Rattle.fb_read.specs.declared.token.Token.{Token}
-pub use Rattle.fb_types.proofs.Common.{Action, BinaryOperator, Bool, Branch, Choice, Err, Expr, Label, Library, List, Name, None, Ok, Option, Ports, Result, Some, [], and_parts, ap, append-nil, append_assoc, arith, bytes_eq, cases_Bool, cases_lt, codes, common_steps, cond, drop, drop_all, eq-eqb, eqb, eqb-true, err_from_is_err_and, false, false_from_ne_true, get_or, if◌then◌else◌, inl, inr, is_ascii_digit, le-leb, leb, leb-true, length, length-append, length-drop, length-take, lt-leb, map, max, pos, refl, rules, subst, suc, sym, take, take-append-drop, take_all, true, true≢false, zero, ℕ, ℤ, ◌&&◌, ◌++◌, ◌+◌, ◌-◌, ◌<◌, ◌∙◌, ◌∷◌, ◌≡◌, ◌≤◌}
+pub use Rattle.fb_types.proofs.Common.{Bool, Err, List, Name, None, Ok, Option, Result, Some, [], and_parts, ap, append-nil, append_assoc, arith, bytes_eq, cases_Bool, cases_lt, codes, common_steps, cond, drop, drop_all, eq-eqb, eqb, eqb-true, err_from_is_err_and, false, false_from_ne_true, get_or, if◌then◌else◌, inl, inr, is_ascii_digit, le-leb, leb, leb-true, length, length-append, length-drop, length-take, lt-leb, map, max, pos, refl, rules, subst, suc, sym, take, take-append-drop, take_all, true, true≢false, zero, ℕ, ℤ, ◌&&◌, ◌++◌, ◌+◌, ◌-◌, ◌<◌, ◌∙◌, ◌∷◌, ◌≡◌, ◌≤◌}
+pub use Rattle.fb_types.specs.declared.library.Action.{Action}
+pub use Rattle.fb_types.specs.declared.text.BinaryOperator.{BinaryOperator}
+pub use Rattle.fb_types.specs.declared.text.Branch.{Branch}
+pub use Rattle.fb_types.specs.declared.text.Choice.{Choice}
+pub use Rattle.fb_types.specs.declared.text.Expr.{Expr}
+pub use Rattle.fb_types.specs.declared.text.Label.{Label}
+pub use Rattle.fb_types.specs.declared.library.Library.{Library}
+pub use Rattle.fb_types.specs.declared.library.Ports.{Ports}
 pub use Rattle.fb_types.specs.declared.text.Stmt.{Stmt}
 pub use Rattle.std.specs.List.{flat_map}

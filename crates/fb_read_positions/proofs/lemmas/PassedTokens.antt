@@ -1,5 +1,6 @@
 -- What is passed without being kept.
-use Rattle.fb_types.proofs.Common.{◌≡◌, ℕ, suc, Bool, true, false, cond, [], ◌∷◌, Ok, Err, refl, sym, ap, subst, ◌∙◌, false≢true, Some, None, Result, if◌then◌else◌, Name, Action}
+use Rattle.fb_types.proofs.Common.{◌≡◌, ℕ, suc, Bool, true, false, cond, [], ◌∷◌, Ok, Err, refl, sym, ap, subst, ◌∙◌, false≢true, Some, None, Result, if◌then◌else◌, Name}
+use Rattle.fb_types.specs.declared.library.Action.{Action}
 use Rattle.fb_read.specs.Charts.{action}
 use Rattle.fb_read.specs.Network.{application}
 use Rattle.fb_read.specs.Nodes.{action_of}

@@ -1,5 +1,6 @@
 -- The place at which a position is shown.
-use Rattle.fb_types.proofs.Common.{◌≡◌, ◌++◌, ◌∷◌, [], ◌+◌, ◌<◌, ℕ, List, Option, Some, None, get_or, length, sym, subst, take, AllZip, take_more, IfSome, Library}
+use Rattle.fb_types.proofs.Common.{◌≡◌, ◌++◌, ◌∷◌, [], ◌+◌, ◌<◌, ℕ, List, Option, Some, None, get_or, length, sym, subst, take, AllZip, take_more, IfSome}
+use Rattle.fb_types.specs.declared.library.Library.{Library}
 use Rattle.std.proofs.lemmas.Slice.Zip.{all_zipped_more}
 use Rattle.fb_read.specs.Blank.{Text}
 use Rattle.fb_read.specs.declared.token.Span.{Span}

@@ -1,5 +1,9 @@
 -- The ports of the type that a name represents.
-use Rattle.fb_types.proofs.Common.{◌≡◌, List, Some, None, Option, refl, sym, ◌∙◌, ap, slice_get, option_map, find, same_Some, Name, same_name, Event, Kind, named, event_blocks, event_block_named, ports_of, ports_of_event_block, ArePortsOfKinds, kind_index, kind_of, type_name, type_named, EventKind, BlockType, Library, Ports}
+use Rattle.fb_types.proofs.Common.{◌≡◌, List, Some, None, Option, refl, sym, ◌∙◌, ap, slice_get, option_map, find, same_Some, Name, same_name, Event, Kind, named, event_blocks, event_block_named, ports_of, ports_of_event_block, ArePortsOfKinds, kind_index, kind_of, type_name, type_named}
+use Rattle.fb_types.specs.declared.event_kind.EventKind.{EventKind}
+use Rattle.fb_types.specs.declared.library.BlockType.{BlockType}
+use Rattle.fb_types.specs.declared.library.Library.{Library}
+use Rattle.fb_types.specs.declared.library.Ports.{Ports}
 use Rattle.fb_types.proofs.lemmas.names.NameLaws.{find-named}
 use Rattle.fb_check_names.specs.Types.{ports_of_block}
 

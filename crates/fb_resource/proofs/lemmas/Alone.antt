@@ -1,6 +1,7 @@
 -- The result of a taking after the effects from which nothing goes out.
 use Rattle.fb_resource.proofs.lemmas.Common.{◌≡◌, ℕ, [], All, map, Option, Some, None, sym, subst, Inputs, system_of, Key, Keep, Reason, Event, BelongsTo, out_of, Effects, Forest}
-use Rattle.fb_types.proofs.Common.{Result, All-nil, line_of, Halt}
+use Rattle.fb_types.proofs.Common.{Result, All-nil, line_of}
+use Rattle.fb_types.specs.declared.run.Halt.{Halt}
 use Rattle.fb_net.specs.Events.{Came, CameAlone, CameTo, HasTaken, Remembered}
 use Rattle.fb_net.specs.Outs.{Gathered, IsOut, StillAreOuts, gathered, only_lines}
 use Rattle.fb_net.specs.OfSystem.{AreOuts}

@@ -1,5 +1,6 @@
 -- A run of one resource, taking by taking.
-use Rattle.fb_types.proofs.Common.{◌≡◌, ℕ, ◌<◌, Some, None, List, [], ◌∷◌, ◌++◌, sym, ap, ◌∙◌, subst, append-nil, clock_after, Machine, Item, Local, Each, TakesAlone, end, sent_by, Key}
+use Rattle.fb_types.proofs.Common.{◌≡◌, ℕ, ◌<◌, Some, None, List, [], ◌∷◌, ◌++◌, sym, ap, ◌∙◌, subst, append-nil, clock_after, Machine, Item, Local, Each, TakesAlone, end, sent_by}
+use Rattle.fb_types.specs.declared.key.Key.{Key}
 use Rattle.fb_types.specs.Cores.{stop_or}
 use Rattle.fb_types.specs.Machines.{after, Chain, Rests, lines_of}
 use Rattle.fb_types.proofs.lemmas.lists.EachLaws.{each_append}

@@ -1,6 +1,7 @@
 -- Nothing was put out, or one event, where nothing is asked of a timer.
 use Rattle.fb_resource.proofs.lemmas.Common.{◌≡◌, ◌+◌, ◌<◌, ◌≤◌, ◌++◌, ℕ, Bool, true, false, cond, List, [], ◌∷◌, All, length, map, Option, Some, refl, sym, ap, subst, ◌∙◌, append-nil, arith, option_map, slice_index, Vec, length-set, Inputs, system_of, changed_to, local_key, or_else, same_key, Path, State, path_of, Posts, post_all, Key, Message, TimerAsk, Keep, Reason, Event, Contents, waiting, event_of, out_of, Out, Effects, Forest, BelongsTo, CountsAre, IsMessage, IsPostable, IsPut, IsSendable, arriving, AreReady, IsTakenHere, with_event, IsInOrder, meaning, Traffic, TickCounts}
-use Rattle.fb_types.proofs.Common.{get_or, lookup, slice_set, All-push, timer_change, Target}
+use Rattle.fb_types.proofs.Common.{get_or, lookup, slice_set, All-push, timer_change}
+use Rattle.fb_types.specs.declared.run.Target.{Target}
 use Rattle.fb_types.specs.States as model
 use Rattle.fb_types.proofs.lemmas.events.KeyLaws.{same_key_from, same_key_is}
 use Rattle.fb_types.specs.declared.run.Event.TheVariants.{Local}

@@ -1,6 +1,8 @@
 -- What waits at the beginning, one stimulus or instance after another.
 use Rattle.fb_resource.proofs.lemmas.Common.{◌≡◌, ◌≢◌, ℕ, suc, ◌+◌, ◌^◌, ◌<◌, Bool, true, false, cond, List, [], ◌∷◌, ◌++◌, length, refl, sym, ap, subst, ◌∙◌, append-nil, Option, Some, None, arith, option_map, slice_get, Inputs, AreAccepted, system_of, stimuli_of, Path, or_else, found, changed_to, same_key, timer_key, path_at, path_of, System, is_timer_of, Key, Contents, waiting, event_of, HasRestarts, HasStimuli, IsOpened, IsPut, IsInOrder, MayWait, meaning}
-use Rattle.fb_types.proofs.Common.{take, get_or, inl, inr, flat_map, cases_lt, flat_map-append, length-map, length-take-le, slice_get_within, get_or_from_slice_get, unwrap_or-slice_get, Kind, Event, IsWithinLimits, Port, stimulus_key, restart_of, stimuli_from, stimulus_of, Stimulated, Expired, EventKind, Restart}
+use Rattle.fb_types.proofs.Common.{take, get_or, inl, inr, flat_map, cases_lt, flat_map-append, length-map, length-take-le, slice_get_within, get_or_from_slice_get, unwrap_or-slice_get, Kind, Event, IsWithinLimits, Port, stimulus_key, restart_of, stimuli_from, stimulus_of, Stimulated, Expired}
+use Rattle.fb_types.specs.declared.event_kind.EventKind.{EventKind}
+use Rattle.fb_types.specs.declared.event_kind.EventKind.TheVariants.{Restart}
 use Rattle.std.proofs.Math.Seq.{take-suc, take-length}
 use Rattle.fb_types.specs.Simulation.{Stimulus}
 use Rattle.fb_types.specs.States.{Event as AnEvent}

@@ -1,6 +1,8 @@
 -- Local events that are put on the agenda, and messages after the mail.
 use Rattle.fb_resource.proofs.lemmas.Common.{◌≡◌, ◌≢◌, ℕ, ◌+◌, ◌<◌, Bool, true, false, cond, eqb, List, [], ◌∷◌, ◌++◌, length, map, refl, sym, ap, subst, ◌∙◌, Option, Some, ⊎_elim, arith, option_map, slice_get, slice_index, eq-eqb, length-set, Inputs, system_of, or_else, found, same_key, local_key, path_at, Path, System, Posts, post_all, is_timer_of, Key, Message, Contents, waiting, Event, out_of, Out, event_of, CountsAre, IsMessage, IsPut, IsSendable, arriving, meaning, MayWait, IsInOrder}
-use Rattle.fb_types.proofs.Common.{◌&&◌, append_assoc, get_or, get_or-set_same, get_or-set_other, if◌then◌else◌, slice_set, cases_eq, eqb-true, ne_eqb, slice_get_within, slice_get-get_or, get_or_from_slice_get, message_key, port_of, carried_of, event_output, post, with_at, Target, Arrival}
+use Rattle.fb_types.proofs.Common.{◌&&◌, append_assoc, get_or, get_or-set_same, get_or-set_other, if◌then◌else◌, slice_set, cases_eq, eqb-true, ne_eqb, slice_get_within, slice_get-get_or, get_or_from_slice_get, message_key, port_of, carried_of, event_output, post, with_at}
+use Rattle.fb_types.specs.declared.run.Target.{Target}
+use Rattle.fb_types.specs.declared.run.Event.TheVariants.{Arrival}
 use Rattle.std.specs.Cmp.{first_so, second_so}
 use Rattle.fb_types.specs.Numbers.{event_input}
 use Rattle.fb_types.specs.Reactions as reactions

@@ -1,6 +1,8 @@
 -- What waits stays in order, and what a reaction puts out may be posted.
 use Rattle.fb_resource.proofs.lemmas.Common.{◌≡◌, ℕ, suc, ◌+◌, ◌^◌, ◌<◌, ◌≤◌, Bool, true, false, cond, List, [], ◌∷◌, length, map, refl, sym, ap, subst, ◌∙◌, Some, None, All, arith, eq-eqb, Inputs, AreAccepted, system_of, changed_to, same_key, timer_key, path_at, path_of, System, is_timer_of, Key, TimerAsk, Keep, Contents, waiting, Event, out_of, Out, Effects, event_of, Forest, IsMetered, IsPostable, IsInOrder, MayWait, TickCounts}
-use Rattle.fb_types.proofs.Common.{◌-◌, Result, Ok, Err, OnOk, All-nil, All-cons, All-head, All-tail, IsWithinLimits, Each, port_of, World, Clear, At, Timer}
+use Rattle.fb_types.proofs.Common.{◌-◌, Result, Ok, Err, OnOk, All-nil, All-cons, All-head, All-tail, IsWithinLimits, Each, port_of, World}
+use Rattle.fb_types.specs.declared.run.TimerAsk.TheVariants.{Clear, At}
+use Rattle.fb_types.specs.declared.run.Event.TheVariants.{Timer}
 use Rattle.fb_types.specs.Reactions as reactions
 use Rattle.fb_types.proofs.lemmas.events.KeyLaws.{same_key_is}
 use Rattle.fb_laws.specs.Sound.{IsSound}

@@ -1,6 +1,7 @@
 -- A resource to which messages have come.
 use Rattle.fb_resource.proofs.lemmas.Common.{◌≡◌, ℕ, Bool, true, false, cond, eqb, List, [], ◌∷◌, map, refl, sym, ap, subst, ◌∙◌, Option, Some, None, All, ⊎_elim, arith, option_map, slice_index, length, eq-eqb, Inputs, system_of, found, or_else, same_key, timer_key, Local, machine, Key, Message, Contents, waiting, Event, event_of, arriving, IsInOrder, MayWait, meaning, IsOf, Represents}
-use Rattle.fb_types.proofs.Common.{◌⊎◌, is_some, All-head, All-tail, All-weaker, cases_Bool, Arrival}
+use Rattle.fb_types.proofs.Common.{◌⊎◌, is_some, All-head, All-tail, All-weaker, cases_Bool}
+use Rattle.fb_types.specs.declared.run.Event.TheVariants.{Arrival}
 use Rattle.fb_types.proofs.lemmas.events.KeyLaws.{same_key_is}
 use Rattle.fb_types.proofs.lemmas.lists.Lookups.{none_since, or_else_some}
 use Rattle.fb_agenda.specs.Arrivals.{arrival_at, arrivals_at}

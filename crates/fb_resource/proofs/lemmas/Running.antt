@@ -1,6 +1,8 @@
 -- A run of a resource in code has the result of a run of what represents it.
 use Rattle.fb_resource.proofs.lemmas.Common.{◌≡◌, ◌<◌, ◌≤◌, ℕ, List, [], map, Option, Some, None, refl, sym, ap, subst, ◌∙◌, arith, Vec, option_map, unwrap_or, Inputs, system_of, Local, machine, State, Key, Message, Reason, Contents, waiting, Event, event_of, IsMetered, meter_of, arriving, AreReady, IsHere, IsTakenHere, Traffic, IsOf, Represents, TickCounts}
-use Rattle.fb_types.proofs.Common.{Item, Run, TakesAlone, end, line_of, count_of, IsAtResource, Line, StopMark}
+use Rattle.fb_types.proofs.Common.{Item, Run, TakesAlone, end, line_of, count_of, IsAtResource}
+use Rattle.fb_types.specs.declared.run.Line.{Line}
+use Rattle.fb_types.specs.declared.run.StopMark.{StopMark}
 use Rattle.fb_types.specs.Machines.{after}
 use Rattle.fb_types.specs.States as model
 use Rattle.fb_types.proofs.lemmas.lists.Lookups.{none_some}

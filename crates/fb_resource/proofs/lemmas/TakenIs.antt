@@ -1,6 +1,8 @@
 -- An event is taken in its resource as the model takes it.
 use Rattle.fb_resource.proofs.lemmas.Common.{◌≡◌, ℕ, suc, Bool, true, false, cond, List, [], map, refl, sym, ap, subst, ◌∙◌, ◌++◌, append-nil, Option, Some, None, option_map, eq-eqb, Inputs, system_of, or_else, found, changed_to, same_key, timer_key, Path, path_at, State, path_of, System, Posts, begun, is_timer_of, post_all, world_of, Key, TimerAsk, Keep, Reason, Contents, Event, out_of, Effects, event_of, Forest, meter_of, CountsAre, arriving, IsHere, IsTakenHere, Traffic, meaning}
-use Rattle.fb_types.proofs.Common.{line_of, Out, Outcome, Reacts, Meter, Expired, Effect, Takes, TakesWith, agenda_after, effect_of, out_of_steps, posts_of, put_of, timer_change, with_at, Clear, At, Timer}
+use Rattle.fb_types.proofs.Common.{line_of, Out, Outcome, Reacts, Meter, Expired, Effect, Takes, TakesWith, agenda_after, effect_of, out_of_steps, posts_of, put_of, timer_change, with_at}
+use Rattle.fb_types.specs.declared.run.TimerAsk.TheVariants.{Clear, At}
+use Rattle.fb_types.specs.declared.run.Event.TheVariants.{Timer}
 use Rattle.fb_types.specs.Keys.{no_keys}
 use Rattle.fb_types.specs.States.{Event as AnEvent}
 use Rattle.fb_types.specs.declared.value.Reason.TheVariants as reason

@@ -1,5 +1,6 @@
 -- Changes of the breaks alone, and the lines that breaks are for.
-use Rattle.fb_types.proofs.Common.{◌≡◌, ◌⊎◌, ℕ, List, Option, Some, None, Contains, IfSome, inl, inr, sym, subst, Line}
+use Rattle.fb_types.proofs.Common.{◌≡◌, ◌⊎◌, ℕ, List, Option, Some, None, Contains, IfSome, inl, inr, sym, subst}
+use Rattle.fb_types.specs.declared.run.Line.{Line}
 use Rattle.fb_session.specs.Breaking.{OnlyBreaks}
 use Rattle.fb_session.specs.Pasts.{Talk}
 

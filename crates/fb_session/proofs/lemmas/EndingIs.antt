@@ -1,5 +1,8 @@
 -- What a session tells is the trace, or a beginning of it.
-use Rattle.fb_types.proofs.Common.{◌≡◌, ℕ, ◌<◌, ◌≤◌, List, [], ◌∷◌, ◌++◌, All, None, Option, refl, sym, ap, ◌∙◌, subst, arith, append_assoc, append-nil, Inputs, IsTrace, system_of, stimuli_of, Each, AtHorizon, AtStop, Chain, Ending, RestsAt, Taken, ending_by, ending_of, last, last_line, Form, StopMark, Reason}
+use Rattle.fb_types.proofs.Common.{◌≡◌, ℕ, ◌<◌, ◌≤◌, List, [], ◌∷◌, ◌++◌, All, None, Option, refl, sym, ap, ◌∙◌, subst, arith, append_assoc, append-nil, Inputs, IsTrace, system_of, stimuli_of, Each, AtHorizon, AtStop, Chain, Ending, RestsAt, Taken, ending_by, ending_of, last, last_line}
+use Rattle.fb_types.specs.declared.run.Form.{Form}
+use Rattle.fb_types.specs.declared.run.StopMark.{StopMark}
+use Rattle.fb_types.specs.declared.value.Reason.{Reason}
 use Rattle.fb_laws.specs.Sound.{AreGood}
 use Rattle.fb_laws.proofs.lemmas.soundness.Accepting.{sound_of}
 use Rattle.fb_laws.proofs.lemmas.machine.Bridge.{all_each}

@@ -1,5 +1,8 @@
 -- A row more, while the session goes on.
-use Rattle.fb_types.proofs.Common.{◌≡◌, ℕ, ◌+◌, ◌≤◌, List, [], ◌∷◌, ◌++◌, length, map, refl, sym, ap, ◌∙◌, subst, arith, append_assoc, length-append, get_or, inl, inr, Result, Ok, Err, length-map, map-append, All-push, IsGood, AreAccepted, Inputs, system_of, stimuli_of, Precedes, stimulus_key, Each, Port, path_at, Chain, Taken, last, opening, stimulus_of, Agenda, State, Stimulated, Stimulus, Key, Given}
+use Rattle.fb_types.proofs.Common.{◌≡◌, ℕ, ◌+◌, ◌≤◌, List, [], ◌∷◌, ◌++◌, length, map, refl, sym, ap, ◌∙◌, subst, arith, append_assoc, length-append, get_or, inl, inr, Result, Ok, Err, length-map, map-append, All-push, IsGood, AreAccepted, Inputs, system_of, stimuli_of, Precedes, stimulus_key, Each, Port, path_at, Chain, Taken, last, opening, stimulus_of, Agenda, State, Stimulated}
+use Rattle.fb_types.specs.declared.deploy.Stimulus.{Stimulus}
+use Rattle.fb_types.specs.declared.key.Key.{Key}
+use Rattle.fb_types.specs.declared.run.Event.TheVariants.{Given}
 use Rattle.fb_types.specs.Keys.{with_all}
 use Rattle.fb_types.specs.Simulation as model
 use Rattle.fb_types.specs.States.{Event}

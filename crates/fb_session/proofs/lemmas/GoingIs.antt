@@ -1,5 +1,7 @@
 -- Where a session stands after it has taken events.
-use Rattle.fb_types.proofs.Common.{◌≡◌, ℕ, ◌+◌, ◌^◌, ◌<◌, ◌≤◌, List, [], ◌∷◌, ◌++◌, length, All, Option, Some, None, refl, sym, ap, ◌∙◌, subst, arith, append-nil, Appends, All-append, Inputs, system_of, Each, AtStop, Chain, Taken, ending_by, ending_of, last, lines_of, Config, lines_text, StopMark, Reason}
+use Rattle.fb_types.proofs.Common.{◌≡◌, ℕ, ◌+◌, ◌^◌, ◌<◌, ◌≤◌, List, [], ◌∷◌, ◌++◌, length, All, Option, Some, None, refl, sym, ap, ◌∙◌, subst, arith, append-nil, Appends, All-append, Inputs, system_of, Each, AtStop, Chain, Taken, ending_by, ending_of, last, lines_of, Config, lines_text}
+use Rattle.fb_types.specs.declared.run.StopMark.{StopMark}
+use Rattle.fb_types.specs.declared.value.Reason.{Reason}
 use Rattle.fb_sim_machine.specs.Machines.{IsAt, IsReady}
 use Rattle.fb_sim_machine.specs.Pauses.{IsLater}
 use Rattle.fb_sim_machine.specs.declared.machine.Machine.{Machine}

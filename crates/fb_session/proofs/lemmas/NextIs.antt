@@ -1,5 +1,7 @@
 -- What comes of taking one event.
-use Rattle.fb_types.proofs.Common.{◌≡◌, ℕ, ◌+◌, ◌^◌, ◌<◌, ◌≤◌, List, [], ◌∷◌, ◌++◌, length, map, All, Option, Some, None, refl, sym, ap, ◌∙◌, subst, arith, append-nil, Appends, Appends-trans, All-append, All-nil, All-push, Inputs, system_of, NoneBelow, line_of, AtHorizon, AtStop, Taken, ending_by, ending_of, last, lines_of, Agenda, State, last_line, lines_text, StopMark, Reason}
+use Rattle.fb_types.proofs.Common.{◌≡◌, ℕ, ◌+◌, ◌^◌, ◌<◌, ◌≤◌, List, [], ◌∷◌, ◌++◌, length, map, All, Option, Some, None, refl, sym, ap, ◌∙◌, subst, arith, append-nil, Appends, Appends-trans, All-append, All-nil, All-push, Inputs, system_of, NoneBelow, line_of, AtHorizon, AtStop, Taken, ending_by, ending_of, last, lines_of, Agenda, State, last_line, lines_text}
+use Rattle.fb_types.specs.declared.run.StopMark.{StopMark}
+use Rattle.fb_types.specs.declared.value.Reason.{Reason}
 use Rattle.fb_system.specs.Lines.{BelongsTo}
 use Rattle.fb_sim_machine.specs.Machines.{IsAt, IsReady}
 use Rattle.fb_sim_machine.specs.Pauses.{HasGone, IsLater, Steps}

@@ -1,5 +1,6 @@
 -- The least event that waits, as a session tells it.
-use Rattle.fb_types.proofs.Common.{◌≡◌, ℕ, ◌^◌, ◌<◌, Option, Some, None, refl, sym, ap, ◌∙◌, subst, IfNone, IfSome, IsSome, option_map, Key}
+use Rattle.fb_types.proofs.Common.{◌≡◌, ℕ, ◌^◌, ◌<◌, Option, Some, None, refl, sym, ap, ◌∙◌, subst, IfNone, IfSome, IsSome, option_map}
+use Rattle.fb_types.specs.declared.key.Key.{Key}
 use Rattle.fb_types.specs.States.{Event}
 use Rattle.fb_agenda.specs.Agendas.{IsLeast, waiting}
 use Rattle.fb_net.specs.Events.{event_of}

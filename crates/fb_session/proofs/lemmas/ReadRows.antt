@@ -1,5 +1,6 @@
 -- What is known of a row that was read.
-use Rattle.fb_types.proofs.Common.{◌≡◌, ◌^◌, ◌≤◌, Bool, true, false, cond, refl, Result, Ok, Err, subst, leb-true, Stimulus, nat_le, nat_lt}
+use Rattle.fb_types.proofs.Common.{◌≡◌, ◌^◌, ◌≤◌, Bool, true, false, cond, refl, Result, Ok, Err, subst, leb-true, nat_le, nat_lt}
+use Rattle.fb_types.specs.declared.deploy.Stimulus.{Stimulus}
 use Rattle.fb_inputs.specs.declared.location.RowFault as fault
 use Rattle.fb_inputs.specs.declared.location.RowFault.TheVariants.{Crowded, Fields, Late, Tick}
 use Rattle.fb_inputs.specs.Lists.{each_at}

@@ -1,5 +1,7 @@
 -- A run piece by piece, from where a machine is.
-use Rattle.fb_types.proofs.Common.{◌≡◌, ℕ, ◌+◌, ◌<◌, ◌≤◌, List, [], ◌∷◌, ◌++◌, length, map, All, Contains, Option, None, sym, ap, ◌∙◌, subst, arith, append_assoc, append-nil, inl, inr, IsTrue, Appends, Appends-nil, Appends-trans, All-append, All-head, All-nil, All-tail, Inputs, system_of, NoneBelow, Each, line_of, Taken, AtStop, ending_of, last, lines_of, Agenda, Config, State, lines_text, Key, StopMark}
+use Rattle.fb_types.proofs.Common.{◌≡◌, ℕ, ◌+◌, ◌<◌, ◌≤◌, List, [], ◌∷◌, ◌++◌, length, map, All, Contains, Option, None, sym, ap, ◌∙◌, subst, arith, append_assoc, append-nil, inl, inr, IsTrue, Appends, Appends-nil, Appends-trans, All-append, All-head, All-nil, All-tail, Inputs, system_of, NoneBelow, Each, line_of, Taken, AtStop, ending_of, last, lines_of, Agenda, Config, State, lines_text}
+use Rattle.fb_types.specs.declared.key.Key.{Key}
+use Rattle.fb_types.specs.declared.run.StopMark.{StopMark}
 use Rattle.fb_types.specs.States.{Line}
 use Rattle.fb_types.specs.declared.run.Line as run
 use Rattle.fb_types.proofs.lemmas.lists.Elements.{Contains-cons_cases, Contains-map, Contains-nil}

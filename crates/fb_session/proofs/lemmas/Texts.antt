@@ -1,5 +1,6 @@
 -- Texts that are written piece by piece, with the counts of their bytes.
-use Rattle.fb_types.proofs.Common.{◌≡◌, ℕ, ◌+◌, List, [], ◌∷◌, ◌++◌, length, take, Option, refl, sym, ap, ◌∙◌, subst, arith, append_assoc, length-append, suc, Appends, Appends-trans, Inputs, system_of, Taken, lines_of, System, line_text, lines_text, Form}
+use Rattle.fb_types.proofs.Common.{◌≡◌, ℕ, ◌+◌, List, [], ◌∷◌, ◌++◌, length, take, Option, refl, sym, ap, ◌∙◌, subst, arith, append_assoc, length-append, suc, Appends, Appends-trans, Inputs, system_of, Taken, lines_of, System, line_text, lines_text}
+use Rattle.fb_types.specs.declared.run.Form.{Form}
 use Rattle.fb_types.specs.States.{Line}
 use Rattle.fb_sim_machine.proofs.lemmas.JoinedRuns.{lines_of-append}
 use Rattle.fb_trace.specs.Progress.{IsPartWritten, bounded}

@@ -1,5 +1,6 @@
 -- What comes of taking events up to a tick, a break or a stop.
-use Rattle.fb_types.proofs.Common.{◌≡◌, ℕ, ◌+◌, ◌^◌, ◌<◌, ◌≤◌, Bool, List, ◌++◌, Option, Ok, refl, sym, subst, arith, append-nil, Appends, Appends-trans, All-append, Inputs, IsTrace, system_of, NoneBelow, AtHorizon, AtStop, Taken, Config, last_line, StopMark}
+use Rattle.fb_types.proofs.Common.{◌≡◌, ℕ, ◌+◌, ◌^◌, ◌<◌, ◌≤◌, Bool, List, ◌++◌, Option, Ok, refl, sym, subst, arith, append-nil, Appends, Appends-trans, All-append, Inputs, IsTrace, system_of, NoneBelow, AtHorizon, AtStop, Taken, Config, last_line}
+use Rattle.fb_types.specs.declared.run.StopMark.{StopMark}
 use Rattle.fb_sim_machine.specs.Machines.{IsReady}
 use Rattle.fb_sim_machine.specs.declared.machine.Machine.{Machine}
 use Rattle.fb_session.specs.Going.{HasTaken, IsBeginning, Reaches}

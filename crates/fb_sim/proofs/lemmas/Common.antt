@@ -21,7 +21,11 @@ pub use Rattle.fb_trace.specs.Merging.{Lists, Rises, flat, tick_of}
 pub use Rattle.fb_trace.specs.Progress.{IsPartWritten, bounded}
 pub use Rattle.fb_trace.specs.declared.last.Outcome.{Outcome}
 pub use Rattle.fb_trace.specs.declared.last.Outcome.TheVariants.{End, Stop}
-pub use Rattle.fb_types.proofs.Common.{All, AllZip, Appends, Appends-nil, Appends-trans, AtHorizon, AtStop, Bool, Bor, CoreStep, Each, Ending, Err, Form, IfOk, IfSome, Inputs, IsAtHorizon, IsErrAnd, IsPermutation, IsSchedule, Line, List, Machine, None, Ok, Option, Reason, Result, Some, StopMark, Vec, [], ap, append-nil, append_assoc, ap₂, arith, cases_lt, cond-false, count_of, drop, false, get_or, inl, inr, into_iter_items, last_line, le-ltb, length, length-append, length-map, line_of, lines_text, lt-ltb, machine, map, map_push, nat_lt, opening, opening_core, refl, rules, stimuli_of, subst, suc, sym, system_of, take, take-append-drop, take_all, take_more, true, vec_capacity, vec_len, zero, ℕ, ⊎_elim, ◌++◌, ◌+◌, ◌-◌, ◌<◌, ◌^◌, ◌∙◌, ◌∷◌, ◌≡◌, ◌≤◌}
+pub use Rattle.fb_types.proofs.Common.{All, AllZip, Appends, Appends-nil, Appends-trans, AtHorizon, AtStop, Bool, Bor, CoreStep, Each, Ending, Err, IfOk, IfSome, Inputs, IsAtHorizon, IsErrAnd, IsPermutation, IsSchedule, List, Machine, None, Ok, Option, Result, Some, Vec, [], ap, append-nil, append_assoc, ap₂, arith, cases_lt, cond-false, count_of, drop, false, get_or, inl, inr, into_iter_items, last_line, le-ltb, length, length-append, length-map, line_of, lines_text, lt-ltb, machine, map, map_push, nat_lt, opening, opening_core, refl, rules, stimuli_of, subst, suc, sym, system_of, take, take-append-drop, take_all, take_more, true, vec_capacity, vec_len, zero, ℕ, ⊎_elim, ◌++◌, ◌+◌, ◌-◌, ◌<◌, ◌^◌, ◌∙◌, ◌∷◌, ◌≡◌, ◌≤◌}
+pub use Rattle.fb_types.specs.declared.run.Form.{Form}
+pub use Rattle.fb_types.specs.declared.run.Line.{Line}
+pub use Rattle.fb_types.specs.declared.value.Reason.{Reason}
+pub use Rattle.fb_types.specs.declared.run.StopMark.{StopMark}
 pub use Rattle.fb_window.specs.Jobs.{Does, JobModel, jobs_of}
 pub use Rattle.fb_window.specs.Leaving.{AreLegal}
 pub use Rattle.fb_window.specs.Reached.{KeepHorizon}

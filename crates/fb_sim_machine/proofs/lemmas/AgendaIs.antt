@@ -1,5 +1,8 @@
 -- A run takes what the model takes, and ends.
-use Rattle.fb_types.proofs.Common.{◌≡◌, ℕ, zero, suc, ◌<◌, ◌≤◌, List, [], ◌∷◌, ◌++◌, map, refl, sym, ap, subst, ◌∙◌, append-nil, Option, Some, None, arith, option_map, slice_get, slice_set, unwrap_or, All-nil, All-cons, Inputs, system_of, Precedes, without, line_of, Config, Taken, TakesLeast, NothingAfter, AtHorizon, RestsAt, after, ending_by, Key, Line, Reason}
+use Rattle.fb_types.proofs.Common.{◌≡◌, ℕ, zero, suc, ◌<◌, ◌≤◌, List, [], ◌∷◌, ◌++◌, map, refl, sym, ap, subst, ◌∙◌, append-nil, Option, Some, None, arith, option_map, slice_get, slice_set, unwrap_or, All-nil, All-cons, Inputs, system_of, Precedes, without, line_of, Config, Taken, TakesLeast, NothingAfter, AtHorizon, RestsAt, after, ending_by}
+use Rattle.fb_types.specs.declared.key.Key.{Key}
+use Rattle.fb_types.specs.declared.run.Line.{Line}
+use Rattle.fb_types.specs.declared.value.Reason.{Reason}
 use Rattle.fb_agenda.specs.Agendas.{Contents, waiting}
 use Rattle.fb_types.specs.declared.run.Event.{Event}
 use Rattle.fb_net.specs.Events.{event_of}

@@ -1,5 +1,8 @@
 -- Messages that go to the one agenda.
-use Rattle.fb_types.proofs.Common.{◌≡◌, ◌∷◌, ◌++◌, ℕ, ◌<◌, ◌≤◌, ◌^◌, Bool, true, false, cond, List, [], length, map, refl, sym, ap, ◌∙◌, Option, Some, arith, length-map, Inputs, AreAccepted, system_of, or_else, found, same_key, IsWithinLimits, path_at, Key, Message, Arrival}
+use Rattle.fb_types.proofs.Common.{◌≡◌, ◌∷◌, ◌++◌, ℕ, ◌<◌, ◌≤◌, ◌^◌, Bool, true, false, cond, List, [], length, map, refl, sym, ap, ◌∙◌, Option, Some, arith, length-map, Inputs, AreAccepted, system_of, or_else, found, same_key, IsWithinLimits, path_at}
+use Rattle.fb_types.specs.declared.key.Key.{Key}
+use Rattle.fb_types.specs.declared.run.Message.{Message}
+use Rattle.fb_types.specs.declared.run.Event.TheVariants.{Arrival}
 use Rattle.fb_types.specs.States as model
 use Rattle.fb_types.proofs.lemmas.lists.TakeLaws.{found-put}
 use Rattle.fb_agenda.specs.Agendas.{Contents}

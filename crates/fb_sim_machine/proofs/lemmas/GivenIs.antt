@@ -1,5 +1,9 @@
 -- A row that was given waits on the agenda of the machine.
-use Rattle.fb_types.proofs.Common.{◌≡◌, ◌≢◌, ℕ, ◌<◌, ◌≤◌, Bool, true, false, cond, [], ◌∷◌, List, length, refl, sym, ap, subst, ◌∙◌, Option, Some, None, inl, inr, All-head, BadStimulus, IsGood, Bound, Inputs, system_of, or_else, same_key, stimulus_key, Port, path_at, stimulus_of, Agenda, State, Stimulated, Stimulus, Key, Library, Given}
+use Rattle.fb_types.proofs.Common.{◌≡◌, ◌≢◌, ℕ, ◌<◌, ◌≤◌, Bool, true, false, cond, [], ◌∷◌, List, length, refl, sym, ap, subst, ◌∙◌, Option, Some, None, inl, inr, All-head, BadStimulus, IsGood, Bound, Inputs, system_of, or_else, same_key, stimulus_key, Port, path_at, stimulus_of, Agenda, State, Stimulated}
+use Rattle.fb_types.specs.declared.deploy.Stimulus.{Stimulus}
+use Rattle.fb_types.specs.declared.key.Key.{Key}
+use Rattle.fb_types.specs.declared.library.Library.{Library}
+use Rattle.fb_types.specs.declared.run.Event.TheVariants.{Given}
 use Rattle.fb_types.specs.Keys.{with_all}
 use Rattle.fb_types.specs.States as model
 use Rattle.fb_types.specs.declared.run.Event.{Event}

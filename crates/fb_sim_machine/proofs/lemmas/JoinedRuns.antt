@@ -1,5 +1,8 @@
 -- A run that goes on, and what comes after.
-use Rattle.fb_types.proofs.Common.{◌≡◌, ℕ, ◌<◌, All, List, [], ◌∷◌, ◌++◌, map, refl, sym, ap, subst, ◌∙◌, append_assoc, append-nil, length, Option, Some, None, arith, All-nil, All-append, All-push, Inputs, system_of, line_of, Each, Config, System, Taken, TakesLeast, NothingAfter, Chain, RestsAt, Ending, AtHorizon, AtStop, after, last, lines_of, ending_by, ending_of, Line, StopMark, Reason}
+use Rattle.fb_types.proofs.Common.{◌≡◌, ℕ, ◌<◌, All, List, [], ◌∷◌, ◌++◌, map, refl, sym, ap, subst, ◌∙◌, append_assoc, append-nil, length, Option, Some, None, arith, All-nil, All-append, All-push, Inputs, system_of, line_of, Each, Config, System, Taken, TakesLeast, NothingAfter, Chain, RestsAt, Ending, AtHorizon, AtStop, after, last, lines_of, ending_by, ending_of}
+use Rattle.fb_types.specs.declared.run.Line.{Line}
+use Rattle.fb_types.specs.declared.run.StopMark.{StopMark}
+use Rattle.fb_types.specs.declared.value.Reason.{Reason}
 use Rattle.fb_types.specs.States as model
 use Rattle.fb_sim_machine.specs.Completions.{Completes, Reaches, ending_at}
 

@@ -1,5 +1,7 @@
 -- The local event that a taking put out alone, which is in `Least` and on no agenda.
-use Rattle.fb_types.proofs.Common.{◌≡◌, ℕ, Bool, true, [], map, sym, ap, subst, ◌∙◌, Vec, OnTrue, option_map, Inputs, found, or_else, Agenda, State, Key, Message}
+use Rattle.fb_types.proofs.Common.{◌≡◌, ℕ, Bool, true, [], map, sym, ap, subst, ◌∙◌, Vec, OnTrue, option_map, Inputs, found, or_else, Agenda, State}
+use Rattle.fb_types.specs.declared.key.Key.{Key}
+use Rattle.fb_types.specs.declared.run.Message.{Message}
 use Rattle.fb_agenda.specs.Agendas.{Contents, waiting}
 use Rattle.fb_net.specs.Events.{event_of}
 use Rattle.fb_resource.specs.Posts.{arriving}

@@ -1,5 +1,6 @@
 -- The machine stays one of the system.
-use Rattle.fb_types.proofs.Common.{◌≡◌, ℕ, ◌<◌, ◌≤◌, max, List, [], length, ap, subst, ◌∙◌, Some, arith, slice_get, slice_set, unwrap_or, length-set, Inputs, Key}
+use Rattle.fb_types.proofs.Common.{◌≡◌, ℕ, ◌<◌, ◌≤◌, max, List, [], length, ap, subst, ◌∙◌, Some, arith, slice_get, slice_set, unwrap_or, length-set, Inputs}
+use Rattle.fb_types.specs.declared.key.Key.{Key}
 use Rattle.fb_net.specs.declared.resource.Forest.{Forest}
 use Rattle.fb_resource.specs.Counts.{IsMetered}
 use Rattle.fb_resource.specs.Takings.{AreReady}

@@ -1,5 +1,7 @@
 -- A simulation to one tick, and that to a later one.
-use Rattle.fb_types.proofs.Common.{◌≡◌, ℕ, ◌<◌, ◌≤◌, refl, sym, ap, ◌∙◌, subst, arith, ⊎_elim, List, [], ◌∷◌, ◌++◌, Option, Some, None, System, Config, Effect, Takes, Taken, TakesLeast, after, NothingAfter, Chain, last, Ending, AtHorizon, AtStop, ending_by, ending_of, RestsAt, IsSimulation, opening, Each, Key, Reason}
+use Rattle.fb_types.proofs.Common.{◌≡◌, ℕ, ◌<◌, ◌≤◌, refl, sym, ap, ◌∙◌, subst, arith, ⊎_elim, List, [], ◌∷◌, ◌++◌, Option, Some, None, System, Config, Effect, Takes, Taken, TakesLeast, after, NothingAfter, Chain, last, Ending, AtHorizon, AtStop, ending_by, ending_of, RestsAt, IsSimulation, opening, Each}
+use Rattle.fb_types.specs.declared.key.Key.{Key}
+use Rattle.fb_types.specs.declared.value.Reason.{Reason}
 use Rattle.fb_types.specs.States.{Event}
 use Rattle.fb_types.specs.Simulation.{Stimulus}
 use Rattle.fb_types.proofs.lemmas.lists.Lookups.{key_cases, none_some, option_cases}

@@ -1,5 +1,7 @@
 -- The machine takes an event as the model does.
-use Rattle.fb_types.proofs.Common.{◌≡◌, ◌≢◌, ℕ, zero, suc, ◌<◌, ⊎_elim, Bool, true, false, cond, [], ◌++◌, length, map, refl, sym, ap, subst, ◌∙◌, Option, Some, slice_get, slice_set, cases_eq, ne_eqb, Path, same_path, Inputs, system_of, or_else, found, without, changed_to, path_at, line_of, World, State, Meter, Agenda, path_of, System, Effect, Takes, TakesWith, begun, with_at, world_of, Key, Reason}
+use Rattle.fb_types.proofs.Common.{◌≡◌, ◌≢◌, ℕ, zero, suc, ◌<◌, ⊎_elim, Bool, true, false, cond, [], ◌++◌, length, map, refl, sym, ap, subst, ◌∙◌, Option, Some, slice_get, slice_set, cases_eq, ne_eqb, Path, same_path, Inputs, system_of, or_else, found, without, changed_to, path_at, line_of, World, State, Meter, Agenda, path_of, System, Effect, Takes, TakesWith, begun, with_at, world_of}
+use Rattle.fb_types.specs.declared.key.Key.{Key}
+use Rattle.fb_types.specs.declared.value.Reason.{Reason}
 use Rattle.fb_types.specs.States.{Event as AnEvent}
 use Rattle.fb_types.proofs.lemmas.names.PathLaws.{same_path_is}
 use Rattle.fb_laws.proofs.lemmas.takings.OneBlockChanges.{reacts_stays}

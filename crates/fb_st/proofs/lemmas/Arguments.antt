@@ -1,5 +1,8 @@
 -- The values of arguments, one after the other.
-use Rattle.fb_types.proofs.Common.{◌≡◌, ℕ, ◌+◌, ◌<◌, ◌≤◌, List, [], ◌∷◌, ◌++◌, map, drop, length, get_or, Result, Ok, Err, refl, sym, ◌∙◌, ap, append_assoc, add-one, arith, drop-cons, expr_of, exprs, Values, value_of, values_of as values_of_all, and_then, Expr, Value, Reason}
+use Rattle.fb_types.proofs.Common.{◌≡◌, ℕ, ◌+◌, ◌<◌, ◌≤◌, List, [], ◌∷◌, ◌++◌, map, drop, length, get_or, Result, Ok, Err, refl, sym, ◌∙◌, ap, append_assoc, add-one, arith, drop-cons, expr_of, exprs, Values, value_of, values_of as values_of_all, and_then}
+use Rattle.fb_types.specs.declared.text.Expr.{Expr}
+use Rattle.fb_types.specs.declared.value.Value.{Value}
+use Rattle.fb_types.specs.declared.value.Reason.{Reason}
 use Rattle.fb_st.specs.Required.{both}
 
 abbrev pub rest_of : Values → List Expr → Result (List Value) Reason

@@ -1,5 +1,9 @@
 -- A compiled expression has the value of its text.
-use Rattle.fb_types.proofs.Common.{◌≡◌, ℕ, ℤ, ◌&&◌, Bool, true, false, length, List, [], ◌∷◌, map, Option, Some, None, Result, Ok, Err, refl, sym, ◌∙◌, ap, slice_get, if◌then◌else◌, codes, pos, neg_ℤ, ◌+ℤ◌, ◌-ℤ◌, not, false≢true, Values, value_of, and_then, binary_value, unary_value, value_if_known, function_named, truth, whole, truth_of, BinaryOperator, Ty, Value, Reason, Twice}
+use Rattle.fb_types.proofs.Common.{◌≡◌, ℕ, ℤ, ◌&&◌, Bool, true, false, length, List, [], ◌∷◌, map, Option, Some, None, Result, Ok, Err, refl, sym, ◌∙◌, ap, slice_get, if◌then◌else◌, codes, pos, neg_ℤ, ◌+ℤ◌, ◌-ℤ◌, not, false≢true, Values, value_of, and_then, binary_value, unary_value, value_if_known, function_named, truth, whole, truth_of, Twice}
+use Rattle.fb_types.specs.declared.text.BinaryOperator.{BinaryOperator}
+use Rattle.fb_types.specs.declared.value.Ty.{Ty}
+use Rattle.fb_types.specs.declared.value.Value.{Value}
+use Rattle.fb_types.specs.declared.value.Reason.{Reason}
 use Rattle.std.specs.Prelude.{int_div, ◌*ℤ◌}
 use Rattle.std.specs.Int.{int_min, int_max}
 use Rattle.fb_types.specs.Values.{judged, absolute, within_signed, same_whole}

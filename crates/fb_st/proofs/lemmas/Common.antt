@@ -12,5 +12,11 @@ pub use Rattle.fb_st.specs.declared.compiled.CountExpr.{CountExpr}
 pub use Rattle.fb_st.specs.declared.compiled.TruthExpr.{TruthExpr}
 pub use Rattle.fb_st.specs.declared.frame.Slot.{Slot}
 pub use Rattle.fb_st.specs.declared.slot_list.Kept.{Kept}
-pub use Rattle.fb_types.proofs.Common.{Advances, Assign, Bool, Branch, Case, Choice, End, Err, For, If, IfSome, Label, Left, List, Name, None, Ok, Option, Point, Reason, Repeat, Result, Running, Runs, RunsAll, RunsBranch, RunsChoice, Some, Step, Stmt, Stmts, Stopped, Twice, Ty, Types, Value, Values, Went, While, [], and_then, ap, arith, binary_value, cond, drop, err_from_is_err_and, expr_of, false, false≢true, fits, get_or, int_le, ints, length, list_any, map, max, neg_ℤ, not, passed, pos, refl, rules, same_name, set, slice_get, slice_get_read, slice_set, step_of, stmt_of, subst, suc, sym, take, to_z-of_z, true, true≢false, truth_of, value_of, whole, with_value, zero, ℕ, ℤ, ◌&&◌, ◌*◌, ◌++◌, ◌+ℤ◌, ◌+◌, ◌<◌, ◌||◌, ◌∙◌, ◌∷◌, ◌≡◌, ◌≤◌}
+pub use Rattle.fb_types.proofs.Common.{Advances, Assign, Bool, Case, End, Err, For, If, IfSome, Left, List, Name, None, Ok, Option, Point, Repeat, Result, Running, Runs, RunsAll, RunsBranch, RunsChoice, Some, Step, Stmt, Stmts, Stopped, Twice, Types, Values, Went, While, [], and_then, ap, arith, binary_value, cond, drop, err_from_is_err_and, expr_of, false, false≢true, fits, get_or, int_le, ints, length, list_any, map, max, neg_ℤ, not, passed, pos, refl, rules, same_name, set, slice_get, slice_get_read, slice_set, step_of, stmt_of, subst, suc, sym, take, to_z-of_z, true, true≢false, truth_of, value_of, whole, with_value, zero, ℕ, ℤ, ◌&&◌, ◌*◌, ◌++◌, ◌+ℤ◌, ◌+◌, ◌<◌, ◌||◌, ◌∙◌, ◌∷◌, ◌≡◌, ◌≤◌}
+pub use Rattle.fb_types.specs.declared.text.Branch.{Branch}
+pub use Rattle.fb_types.specs.declared.text.Choice.{Choice}
+pub use Rattle.fb_types.specs.declared.text.Label.{Label}
+pub use Rattle.fb_types.specs.declared.value.Reason.{Reason}
+pub use Rattle.fb_types.specs.declared.value.Ty.{Ty}
+pub use Rattle.fb_types.specs.declared.value.Value.{Value}
 pub use Rattle.fb_types.specs.Syntax.{Expr}

@@ -1,5 +1,8 @@
 -- Whether all that statements assign is known, one part after the other.
-use Rattle.fb_types.proofs.Common.{◌≡◌, ◌↔◌, ℕ, ◌+◌, ◌<◌, ◌≤◌, Bool, true, false, List, [], ◌∷◌, drop, length, get_or, refl, sym, ◌∙◌, ap, subst, false≢true, Stmts, Branch, out-Branch, Choice, out-Choice, Label}
+use Rattle.fb_types.proofs.Common.{◌≡◌, ◌↔◌, ℕ, ◌+◌, ◌<◌, ◌≤◌, Bool, true, false, List, [], ◌∷◌, drop, length, get_or, refl, sym, ◌∙◌, ap, subst, false≢true, Stmts}
+use Rattle.fb_types.specs.declared.text.Branch.{Branch, out-Branch}
+use Rattle.fb_types.specs.declared.text.Choice.{Choice, out-Choice}
+use Rattle.fb_types.specs.declared.text.Label.{Label}
 use Rattle.fb_types.specs.Syntax as syntax
 use Rattle.fb_st.specs.Flows.{all_of, branch_of, choice_of}
 use Rattle.fb_st.proofs.lemmas.Runs.{branch_says, choice_says, cut_at, nothing_left}

@@ -1,5 +1,7 @@
 -- What is put together from compiled parts says what their texts say, put together.
-use Rattle.fb_types.proofs.Common.{◌≡◌, ℕ, ℤ, ◌<◌, ◌&&◌, Bool, true, false, length, List, Option, Some, None, refl, sym, ◌∙◌, ap, arith, slice_get, nat_lt, codes, if◌then◌else◌, nat_tests, Name, same_name, function_named, Function, BinaryOperator}
+use Rattle.fb_types.proofs.Common.{◌≡◌, ℕ, ℤ, ◌<◌, ◌&&◌, Bool, true, false, length, List, Option, Some, None, refl, sym, ◌∙◌, ap, arith, slice_get, nat_lt, codes, if◌then◌else◌, nat_tests, Name, same_name, function_named}
+use Rattle.fb_types.specs.declared.function.Function.{Function}
+use Rattle.fb_types.specs.declared.text.BinaryOperator.{BinaryOperator}
 use Rattle.fb_types.specs.Syntax as syntax
 use Rattle.fb_types.specs.declared.function.Function.TheVariants as function
 use Rattle.fb_types.proofs.lemmas.names.NameLaws.{same_from_same_name}

@@ -1,5 +1,6 @@
 -- The numbers between the least and the greatest of 64 bits that a type holds are of the type.
-use Rattle.fb_types.proofs.Common.{◌≡◌, ◌^◌, Bool, true, false, ◌&&◌, sym, ◌∙◌, ap, arith, ℤ, pos, int_le, int_lt, ◌-ℤ◌, true≢false, ints, fits, Ty}
+use Rattle.fb_types.proofs.Common.{◌≡◌, ◌^◌, Bool, true, false, ◌&&◌, sym, ◌∙◌, ap, arith, ℤ, pos, int_le, int_lt, ◌-ℤ◌, true≢false, ints, fits}
+use Rattle.fb_types.specs.declared.value.Ty.{Ty}
 use Rattle.fb_types.specs.declared.value.Ty.TheVariants.{Sint, Int, Dint, Lint, Usint, Uint, Udint, Ulint, Time, Bool as Boolean}
 use Rattle.fb_types.specs.declared.value.Value.TheVariants as value
 use Rattle.fb_st.specs.Variables.{least_of, most_of}

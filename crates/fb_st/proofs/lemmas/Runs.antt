@@ -1,6 +1,8 @@
 -- Runs of statements and iterations, put together from their parts.
 use Rattle.fb_st.proofs.lemmas.Common.{◌≡◌, ℕ, ℤ, zero, suc, ◌+◌, ◌<◌, ◌≤◌, arith, Bool, true, false, cond, not, ◌&&◌, ◌||◌, List, [], ◌∷◌, Option, drop, length, get_or, Result, Ok, Err, refl, sym, ◌∙◌, ap, subst, rules, int_le, list_any, Name, with_value, Stmt, Assign, If, Case, For, While, Repeat, Stmts, expr_of, step_of, stmt_of, Values, Types, truth_of, and_then, value_of, whole, fits, Point, End, Went, Left, Stopped, Running, Step, Runs, RunsAll, RunsChoice, RunsBranch, Advances, Label, Choice, Branch, Value, Reason, Expr, Declared, declared_in, types_in, values_of, end_of, point, all_of, choices_of, branches_of, choice_of, branch_of, Slot, AllKnown, ChoicesKnown, BranchesKnown}
-use Rattle.fb_types.proofs.Common.{add-one, drop-cons, Branches, Returned, After, Then, TurnThen, Loop, Assigns, label_fits, out-Choice, out-Branch}
+use Rattle.fb_types.proofs.Common.{add-one, drop-cons, Branches, Returned, After, Then, TurnThen, Loop, Assigns, label_fits}
+use Rattle.fb_types.specs.declared.text.Choice.{out-Choice}
+use Rattle.fb_types.specs.declared.text.Branch.{out-Branch}
 use Rattle.fb_types.specs.Bodies.{Counts}
 use Rattle.fb_types.specs.declared.text.Expr as expr
 use Rattle.fb_types.specs.declared.text.Stmt as read

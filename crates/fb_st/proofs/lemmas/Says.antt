@@ -1,5 +1,7 @@
 -- What the expressions that were read say, each by its parts, and their results (IEC 61131-3, 7.3.2).
-use Rattle.fb_types.proofs.Common.{◌≡◌, ℤ, Bool, List, map, Ok, refl, sym, ap, Name, Binary, expr_of, exprs, Values, value_of, values_of, value_if_known, function_named, and_then, unary_value, binary_value, UnaryOperator, BinaryOperator}
+use Rattle.fb_types.proofs.Common.{◌≡◌, ℤ, Bool, List, map, Ok, refl, sym, ap, Name, Binary, expr_of, exprs, Values, value_of, values_of, value_if_known, function_named, and_then, unary_value, binary_value}
+use Rattle.fb_types.specs.declared.text.UnaryOperator.{UnaryOperator}
+use Rattle.fb_types.specs.declared.text.BinaryOperator.{BinaryOperator}
 use Rattle.fb_types.specs.Syntax.{Whole, Truth, Variable, Unary, Call}
 use Rattle.fb_types.specs.declared.text.Expr as read
 use Rattle.fb_types.specs.declared.text.Expr.{fold-roll-Expr}

@@ -1,5 +1,7 @@
 -- What the variables hold, by the index of a name, and after a write there.
-use Rattle.fb_types.proofs.Common.{◌≡◌, ℕ, zero, suc, ◌<◌, ◌≤◌, length, ◌||◌, Bool, true, false, cond, List, [], ◌∷◌, set, map, Option, Some, None, refl, sym, ◌∙◌, ap, subst, arith, fun_ext, slice_get, option_map, option_and_then, MatchOption, true≢false, slice_get-map, slice_get_past, Name, same_name, with_value, named, Twice, zero_value, Value, Ty}
+use Rattle.fb_types.proofs.Common.{◌≡◌, ℕ, zero, suc, ◌<◌, ◌≤◌, length, ◌||◌, Bool, true, false, cond, List, [], ◌∷◌, set, map, Option, Some, None, refl, sym, ◌∙◌, ap, subst, arith, fun_ext, slice_get, option_map, option_and_then, MatchOption, true≢false, slice_get-map, slice_get_past, Name, same_name, with_value, named, Twice, zero_value}
+use Rattle.fb_types.specs.declared.value.Value.{Value}
+use Rattle.fb_types.specs.declared.value.Ty.{Ty}
 use Rattle.std.proofs.lemmas.List.Quantifiers.{position-Some}
 use Rattle.fb_types.specs.declared.value.Ty.TheVariants.{Bool as Boolean}
 use Rattle.fb_types.proofs.lemmas.names.NameLaws.{same_from_same_name, same_name-flip, same_name-itself}

@@ -1,5 +1,6 @@
 -- A resource to which memory was refused is as it was, and what was for it still is.
-use Rattle.fb_types.proofs.Common.{List, [], sym, subst, All, All-nil, All-weaker, Inputs, Message}
+use Rattle.fb_types.proofs.Common.{List, [], sym, subst, All, All-nil, All-weaker, Inputs}
+use Rattle.fb_types.specs.declared.run.Message.{Message}
 use Rattle.fb_resource.specs.Resources.{IsFor, IsOf, IsSame}
 use Rattle.fb_resource.specs.declared.resource.Resource.{Resource}
 use Rattle.fb_resource.proofs.lemmas.Received.{received}

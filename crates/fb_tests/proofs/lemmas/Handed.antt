@@ -1,5 +1,6 @@
 -- What holds of each message that one resource sent holds of each that another gets.
-use Rattle.fb_types.proofs.Common.{◌≡◌, ℕ, List, [], ◌∷◌, sym, subst, All, append-nil, Global, All-permutation, System, Message}
+use Rattle.fb_types.proofs.Common.{◌≡◌, ℕ, List, [], ◌∷◌, sym, subst, All, append-nil, Global, All-permutation, System}
+use Rattle.fb_types.specs.declared.run.Message.{Message}
 use Rattle.std.proofs.Common.{filter, Vec}
 use Rattle.std.proofs.lemmas.List.Elements.{All-filter}
 use Rattle.fb_link.specs.Exchanges.{AreFor, all_of, goes_to}

@@ -1,5 +1,7 @@
 -- No message waits at a resource as it is before the first event.
-use Rattle.fb_types.proofs.Common.{◌≡◌, ℕ, Bool, true, false, cond, refl, sym, ◌∙◌, Option, Some, None, ◌==◌, option_map, slice_index_or, List, eq-eqb, Inputs, stimuli_of, system_of, or_else, opening, Key, Message}
+use Rattle.fb_types.proofs.Common.{◌≡◌, ℕ, Bool, true, false, cond, refl, sym, ◌∙◌, Option, Some, None, ◌==◌, option_map, slice_index_or, List, eq-eqb, Inputs, stimuli_of, system_of, or_else, opening}
+use Rattle.fb_types.specs.declared.key.Key.{Key}
+use Rattle.fb_types.specs.declared.run.Message.{Message}
 use Rattle.fb_types.specs.Parts.{local_of}
 use Rattle.fb_types.specs.Simulation.{opening_agenda}
 use Rattle.fb_agenda.specs.Agendas.{Contents, waiting}

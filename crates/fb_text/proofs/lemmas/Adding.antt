@@ -1,5 +1,6 @@
 -- Texts that grow by one element of a list after another.
-use Rattle.fb_types.proofs.Common.{◌≡◌, Bool, false, Result, Ok, Err, map, ℕ, ◌+◌, ◌<◌, ◌≤◌, List, [], ◌∷◌, ◌++◌, drop, get_or, length, append_assoc, append-nil, refl, sym, ◌∙◌, ap, OnOk, if◌then◌else◌, is_ok, at_drop_all, at_drop_more, Expr}
+use Rattle.fb_types.proofs.Common.{◌≡◌, Bool, false, Result, Ok, Err, map, ℕ, ◌+◌, ◌<◌, ◌≤◌, List, [], ◌∷◌, ◌++◌, drop, get_or, length, append_assoc, append-nil, refl, sym, ◌∙◌, ap, OnOk, if◌then◌else◌, is_ok, at_drop_all, at_drop_more}
+use Rattle.fb_types.specs.declared.text.Expr.{Expr}
 use Rattle.std.specs.List.{flat_map}
 use Rattle.fb_text.specs.Expressions.{arguments_text, expression_text, separator}
 

@@ -1,6 +1,7 @@
 -- Where the copy of a trace refuses a line, it is the first with which the text is no trace.
 use Rattle.fb_wave.proofs.lemmas.Common.{◌≡◌, ℕ, suc, ◌+◌, ◌<◌, ◌^◌, List, [], ◌∷◌, ◌++◌, length, map, refl, sym, ap, subst, ◌∙◌, inl, inr, arith, append_assoc, All, IfSome, Option, None, Some, Consumes, length-map, All-head, All-tail, Inputs, system_of, line_of, System, last_line, lines_text, Form, Line, ending_of, Outcome, IsAfter, IsCopied, RefusesLine, last_tick, IsLast, IsLineOf, HasNames, Progress, WaveError, Refused, Names, Memory, Read, Write}
-use Rattle.fb_types.proofs.Common.{IsWithinLimits, ResourceEntry}
+use Rattle.fb_types.proofs.Common.{IsWithinLimits}
+use Rattle.fb_types.specs.declared.deploy.ResourceEntry.{ResourceEntry}
 use Rattle.fb_wave.specs.Copying.{IsNoLineFrom, RefusesEnd}
 use Rattle.fb_wave.specs.Lines.{IsNoLast}
 use Rattle.fb_wave.specs.Refusals.{Blames, IsFirstBad}

@@ -1,5 +1,7 @@
 -- The resource that holds an instance is one of the deployment.
-use Rattle.fb_types.proofs.Common.{◌≡◌, ℕ, ◌<◌, Bool, true, false, cond, List, [], ◌∷◌, length, Some, None, refl, sym, subst, arith, nat_lt, position, unwrap_or, position_or_len, ltb-true, length-map, among, holder, resource_of, Inputs, system_of, IsWithinLimits, Name, Path, Plan, ResourceEntry}
+use Rattle.fb_types.proofs.Common.{◌≡◌, ℕ, ◌<◌, Bool, true, false, cond, List, [], ◌∷◌, length, Some, None, refl, sym, subst, arith, nat_lt, position, unwrap_or, position_or_len, ltb-true, length-map, among, holder, resource_of, Inputs, system_of, IsWithinLimits, Name, Path}
+use Rattle.fb_types.specs.declared.deploy.Plan.{Plan}
+use Rattle.fb_types.specs.declared.deploy.ResourceEntry.{ResourceEntry}
 
 one_below : (a b : ℕ) → 0 < b → unwrap_or (cond (nat_lt a b) (Some a) None) 0 < b
 one_below a b some = go (nat_lt a b) refl

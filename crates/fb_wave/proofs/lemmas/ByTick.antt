@@ -1,5 +1,6 @@
 -- The changes of lines whose ticks do not fall are those of each tick, one tick after another.
-use Rattle.fb_types.proofs.Common.{◌≡◌, ℕ, ◌<◌, ◌≤◌, Bool, decimal, true, false, cond, List, [], ◌∷◌, ◌++◌, map, refl, sym, ap, subst, ◌∙◌, inl, inr, arith, append_assoc, append-nil, ◌==◌, nat_lt, cases_lt, eq-eqb, eqb-false, eqb-true, false_from_ne_true, lt-ltb, ltb-true, ne_eqb, or_from, or_left, or_right, list_any-append, System, Line}
+use Rattle.fb_types.proofs.Common.{◌≡◌, ℕ, ◌<◌, ◌≤◌, Bool, decimal, true, false, cond, List, [], ◌∷◌, ◌++◌, map, refl, sym, ap, subst, ◌∙◌, inl, inr, arith, append_assoc, append-nil, ◌==◌, nat_lt, cases_lt, eq-eqb, eqb-false, eqb-true, false_from_ne_true, lt-ltb, ltb-true, ne_eqb, or_from, or_left, or_right, list_any-append, System}
+use Rattle.fb_types.specs.declared.run.Line.{Line}
 use Rattle.std.specs.Prelude.{filter}
 use Rattle.std.specs.List.{flat_map}
 use Rattle.fb_wave.specs.ByTick.{AreTickByTick, before_tick, of_tick, tick_text}

@@ -1,5 +1,7 @@
 -- The texts of signals, one after another.
-use Rattle.fb_types.proofs.Common.{◌≡◌, ℕ, zero, suc, ◌-◌, ◌<◌, List, ◌++◌, codes, refl, arith, EventPort, Name, Ty}
+use Rattle.fb_types.proofs.Common.{◌≡◌, ℕ, zero, suc, ◌-◌, ◌<◌, List, ◌++◌, codes, refl, arith, Name}
+use Rattle.fb_types.specs.declared.library.EventPort.{EventPort}
+use Rattle.fb_types.specs.declared.value.Ty.{Ty}
 use Rattle.fb_wave.specs.Scopes.{closed, event_declarations, carried_declarations, variable_declarations}
 use Rattle.fb_wave.proofs.lemmas.Listing.{Goes}
 

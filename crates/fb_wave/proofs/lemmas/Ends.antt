@@ -1,6 +1,7 @@
 -- What keeps a text from being the end of a last line, and which ends have one text.
 use Rattle.fb_wave.proofs.lemmas.Common.{◌≡◌, ℕ, ◌<◌, ◌^◌, true, List, [], ◌∷◌, ◌++◌, length, get_or, codes, decimal, refl, sym, ap, ◌∙◌, arith, append_assoc, slice_get, unwrap_or, unwrap_or-slice_get, Name, Ending, System, last_line, ending_of, Outcome, IsAfter, HasNames, number_text, IsCut, is_word}
-use Rattle.fb_types.proofs.Common.{append_cancel_left, AtHorizon, AtStop, tick_and_resource_text, reason_text, Reason}
+use Rattle.fb_types.proofs.Common.{append_cancel_left, AtHorizon, AtStop, tick_and_resource_text, reason_text}
+use Rattle.fb_types.specs.declared.value.Reason.{Reason}
 use Rattle.fb_trace.specs.declared.last.Outcome.TheVariants.{End, Stop}
 use Rattle.fb_wave.specs.Lines.{IsEndOf, IsNoStop, stop_text}
 use Rattle.fb_wave.specs.Waves.{EndsAfter}

@@ -1,6 +1,8 @@
 -- The text of a line, put together from what was read of it.
 use Rattle.fb_wave.proofs.lemmas.Common.{◌≡◌, ℕ, ◌<◌, Bool, true, false, List, [], ◌∷◌, ◌++◌, length, map, get_or, codes, sym, ap, ◌∙◌, append_assoc, IfSome, MatchOption, Option, Some, None, option_map, slice_get, unwrap_or, length-map, slice_get-map, unwrap_or-slice_get, inputs_with, outputs_with, Name, event_at, pair_up, path_at, ports_at, System, path_text, values_text, Variable, Form, One, Two, Line, Value, AreIndexes, AreRead, number_text, AreValuesOf, IsTextOf, IsPortOf, holder_name, port_text, Port}
-use Rattle.fb_types.proofs.Common.{IfNone, IfOk, Ok, Err, Result, tick_and_resource_text, reason_text, Key, Reason}
+use Rattle.fb_types.proofs.Common.{IfNone, IfOk, Ok, Err, Result, tick_and_resource_text, reason_text}
+use Rattle.fb_types.specs.declared.key.Key.{Key}
+use Rattle.fb_types.specs.declared.value.Reason.{Reason}
 use Rattle.fb_types.specs.Text.{key_text}
 use Rattle.fb_wave.specs.Reading.{name_at}
 use Rattle.fb_wave.specs.Lines.{IsHead, IsInRange}

@@ -1,5 +1,6 @@
 -- The head of a dump, instance by instance and resource by resource.
-use Rattle.fb_types.proofs.Common.{◌≡◌, ℕ, ◌+◌, ◌-◌, ◌<◌, ◌≤◌, Bool, cond, List, [], ◌∷◌, ◌++◌, length, drop, get_or, codes, refl, sym, ap, ◌∙◌, arith, append_assoc, eq-eqb, ne_eqb, drop_more, length-append, parent, Name, Path, System, path_at, ports_at, path_text, Library}
+use Rattle.fb_types.proofs.Common.{◌≡◌, ℕ, ◌+◌, ◌-◌, ◌<◌, ◌≤◌, Bool, cond, List, [], ◌∷◌, ◌++◌, length, drop, get_or, codes, refl, sym, ap, ◌∙◌, arith, append_assoc, eq-eqb, ne_eqb, drop_more, length-append, parent, Name, Path, System, path_at, ports_at, path_text}
+use Rattle.fb_types.specs.declared.library.Library.{Library}
 use Rattle.std.proofs.lemmas.List.{drop_at}
 use Rattle.fb_system.specs.Layouts.{route_to, index_at}
 use Rattle.fb_wave.specs.Scopes.{closed, opened, own_name, ports_declared, ports_begun, initial_in, instances_declared, instances_begun, resources_declared}

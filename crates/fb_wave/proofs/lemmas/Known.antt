@@ -1,5 +1,11 @@
 -- What acceptance says of the instances and the variables of a system.
-use Rattle.fb_types.proofs.Common.{◌≡◌, ℕ, zero, suc, ◌<◌, Bool, true, false, List, [], ◌∷◌, ◌++◌, length, Option, Some, None, Contains, refl, subst, inl, inr, arith, if◌then◌else◌, option_map, slice_get, unwrap_or, same_Some, Event, Kind, event_blocks, event_names, named, ports, ports_of, ports_of_event_block, variable_names, inside, instance_at, kind_at, kind_of, kind_of_instance, paths_inside, paths_of, type_name, type_named, AreAccepted, Inputs, system_of, Name, Path, path_at, ports_at, NameTwice, Twice, internals_of, port_names as type_names, Plan, EventKind, BlockType, Library, Network, Ports}
+use Rattle.fb_types.proofs.Common.{◌≡◌, ℕ, zero, suc, ◌<◌, Bool, true, false, List, [], ◌∷◌, ◌++◌, length, Option, Some, None, Contains, refl, subst, inl, inr, arith, if◌then◌else◌, option_map, slice_get, unwrap_or, same_Some, Event, Kind, event_blocks, event_names, named, ports, ports_of, ports_of_event_block, variable_names, inside, instance_at, kind_at, kind_of, kind_of_instance, paths_inside, paths_of, type_name, type_named, AreAccepted, Inputs, system_of, Name, Path, path_at, ports_at, NameTwice, Twice, internals_of, port_names as type_names}
+use Rattle.fb_types.specs.declared.deploy.Plan.{Plan}
+use Rattle.fb_types.specs.declared.event_kind.EventKind.{EventKind}
+use Rattle.fb_types.specs.declared.library.BlockType.{BlockType}
+use Rattle.fb_types.specs.declared.library.Library.{Library}
+use Rattle.fb_types.specs.declared.library.Network.{Network}
+use Rattle.fb_types.specs.declared.library.Ports.{Ports}
 use Rattle.fb_types.specs.declared.library.BlockType.TheVariants as block
 use Rattle.fb_types.proofs.lemmas.lists.Elements.{Contains-cons_cases, Contains-here, Contains-nil, Contains-there, flat_map-Contains}
 use Rattle.fb_types.proofs.lemmas.names.NameLaws.{named-Contains}

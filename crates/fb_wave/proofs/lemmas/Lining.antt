@@ -1,6 +1,9 @@
 -- What the text of a line begins with, and what it has after that.
 use Rattle.fb_wave.proofs.lemmas.Common.{◌≡◌, ℕ, ◌<◌, ◌≤◌, ◌^◌, Bool, true, false, List, [], ◌∷◌, ◌++◌, length, map, get_or, codes, decimal, Contains, refl, sym, ap, subst, ◌∙◌, arith, append_assoc, if◌then◌else◌, slice_get, unwrap_or, get_or_append_left, length-map, Contains-append_left, unwrap_or-slice_get, event_names, inputs_with, outputs_with, variable_names, Name, event_at, line_of, pair_up, path_at, ports_at, Ending, System, last_line, path_text, values_text, EventPort, Variable, Form, One, Two, Line, Value, AreIndexes, IsLineOf, AreNames, HasNames, is_name, IsPortOf, holder_name, port_text, side, number_text, is_ended, Port}
-use Rattle.fb_types.proofs.Common.{Contains-append_right, AtHorizon, AtStop, line_text, reason_text, Key, Reason, Steps, Divide, Range}
+use Rattle.fb_types.proofs.Common.{Contains-append_right, AtHorizon, AtStop, line_text, reason_text}
+use Rattle.fb_types.specs.declared.key.Key.{Key}
+use Rattle.fb_types.specs.declared.value.Reason.{Reason}
+use Rattle.fb_types.specs.declared.value.Reason.TheVariants.{Steps, Divide, Range}
 use Rattle.fb_types.specs.Text.{key_text}
 use Rattle.fb_types.proofs.lemmas.lists.Elements.{map-Contains}
 use Rattle.fb_system.specs.Lines.{line_variables}

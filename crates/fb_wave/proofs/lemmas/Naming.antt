@@ -1,5 +1,10 @@
 -- From what the code asks of each name to what it says of a system.
-use Rattle.fb_types.proofs.Common.{◌≡◌, ℕ, zero, suc, ◌<◌, Bool, true, false, ◌&&◌, List, [], ◌∷◌, ◌++◌, map, length, Option, Some, None, Contains, slice_index_or, refl, sym, ap, subst, ◌∙◌, inl, inr, arith, list_all, and_from, and_parts, true≢false, Contains-append_cases, Contains-append_left, Contains-append_right, unwrap_or-slice_get, event_names, variable_names, inside, paths_inside, Inputs, system_of, Name, Path, path_at, ports_at, System, EventPort, Library, Network, Ports, Variable}
+use Rattle.fb_types.proofs.Common.{◌≡◌, ℕ, zero, suc, ◌<◌, Bool, true, false, ◌&&◌, List, [], ◌∷◌, ◌++◌, map, length, Option, Some, None, Contains, slice_index_or, refl, sym, ap, subst, ◌∙◌, inl, inr, arith, list_all, and_from, and_parts, true≢false, Contains-append_cases, Contains-append_left, Contains-append_right, unwrap_or-slice_get, event_names, variable_names, inside, paths_inside, Inputs, system_of, Name, Path, path_at, ports_at, System}
+use Rattle.fb_types.specs.declared.library.EventPort.{EventPort}
+use Rattle.fb_types.specs.declared.library.Library.{Library}
+use Rattle.fb_types.specs.declared.library.Network.{Network}
+use Rattle.fb_types.specs.declared.library.Ports.{Ports}
+use Rattle.fb_types.specs.declared.library.Variable.{Variable}
 use Rattle.fb_types.proofs.lemmas.lists.Elements.{Contains-cons_cases, Contains-flat_map, Contains-here, Contains-nil, Contains-there, flat_map-Contains}
 use Rattle.fb_system.proofs.lemmas.networks.Distinct.{below, paths_from}
 use Rattle.fb_wave.specs.Named.{AreNames, HasNames, are_ports_named, is_name, is_named_at, port_names}

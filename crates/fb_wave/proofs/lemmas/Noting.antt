@@ -1,5 +1,6 @@
 -- What signals show after one more event or value, and which are marked.
-use Rattle.fb_types.proofs.Common.{◌≡◌, ◌≢◌, ℕ, ◌+◌, ◌%◌, ◌^◌, ◌<◌, Bool, true, false, cond, ◌||◌, List, [], ◌∷◌, ◌++◌, length, Option, Some, None, get_or, set, refl, sym, ap, subst, ◌∙◌, arith, inl, inr, ◌==◌, All, count_by, cases_lt, get_or-set_other, get_or-set_same, get_or_append_left, length-set, length_push, list_any-append, Value}
+use Rattle.fb_types.proofs.Common.{◌≡◌, ◌≢◌, ℕ, ◌+◌, ◌%◌, ◌^◌, ◌<◌, Bool, true, false, cond, ◌||◌, List, [], ◌∷◌, ◌++◌, length, Option, Some, None, get_or, set, refl, sym, ap, subst, ◌∙◌, arith, inl, inr, ◌==◌, All, count_by, cases_lt, get_or-set_other, get_or-set_same, get_or_append_left, length-set, length_push, list_any-append}
+use Rattle.fb_types.specs.declared.value.Value.{Value}
 use Rattle.std.proofs.lemmas.List.{get_or_push}
 use Rattle.std.proofs.lemmas.List.Sums.{sum_by-append}
 use borrow.Author.Tests.{eq-eqb, ne_eqb}

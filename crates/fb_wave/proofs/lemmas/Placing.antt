@@ -1,5 +1,6 @@
 -- The indexes of the variables of a line, by their names.
-use Rattle.fb_types.proofs.Common.{◌≡◌, ℕ, zero, suc, ◌+◌, ◌<◌, List, [], ◌∷◌, length, map, refl, sym, ap, ◌∙◌, arith, All, Option, Some, option_map, slice_get, unwrap_or, All-head, All-tail, slice_get-map, variable_names, Name, Twice, Variable}
+use Rattle.fb_types.proofs.Common.{◌≡◌, ℕ, zero, suc, ◌+◌, ◌<◌, List, [], ◌∷◌, length, map, refl, sym, ap, ◌∙◌, arith, All, Option, Some, option_map, slice_get, unwrap_or, All-head, All-tail, slice_get-map, variable_names, Name, Twice}
+use Rattle.fb_types.specs.declared.library.Variable.{Variable}
 use Rattle.fb_types.proofs.lemmas.lists.Positions.{position_of_once}
 use Rattle.fb_system.specs.IndexLists.{AreIndexes, variable_at}
 use Rattle.fb_wave.specs.LineSignals.{index_of}

@@ -1,5 +1,7 @@
 -- Which texts are words, and which have no line feed.
-use Rattle.fb_types.proofs.Common.{◌≡◌, ℕ, ◌<◌, ◌≤◌, ◌^◌, Bool, true, false, List, [], ◌∷◌, ◌++◌, length, get_or, codes, decimal, refl, ◌∙◌, inl, inr, arith, not, ◌||◌, ◌==◌, list_all, and_parts, and_from, or_cases, or_from, or_parts, ne_eqb, eqb-true, leb-true, not-true, not_from_false, false≢true, list_all-append, Name, Path, pair_up, path_text, value_text, values_text, Ty, Value, fits}
+use Rattle.fb_types.proofs.Common.{◌≡◌, ℕ, ◌<◌, ◌≤◌, ◌^◌, Bool, true, false, List, [], ◌∷◌, ◌++◌, length, get_or, codes, decimal, refl, ◌∙◌, inl, inr, arith, not, ◌||◌, ◌==◌, list_all, and_parts, and_from, or_cases, or_from, or_parts, ne_eqb, eqb-true, leb-true, not-true, not_from_false, false≢true, list_all-append, Name, Path, pair_up, path_text, value_text, values_text, fits}
+use Rattle.fb_types.specs.declared.value.Ty.{Ty}
+use Rattle.fb_types.specs.declared.value.Value.{Value}
 use Rattle.fb_types.proofs.lemmas.lists.Elements.{Contains-here, Contains-there}
 use Rattle.fb_wave.specs.Named.{AreNames, is_digit, is_letter, is_name}
 use Rattle.fb_wave.specs.Reading.{fit_each}

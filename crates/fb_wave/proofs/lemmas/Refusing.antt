@@ -1,6 +1,7 @@
 -- The line at which a text is refused is the first with which it can be no trace.
 use Rattle.fb_wave.proofs.lemmas.Common.{◌≡◌, ◌⊎◌, ℕ, suc, ◌<◌, ◌≤◌, ◌^◌, Bool, true, false, cond, List, [], ◌∷◌, ◌++◌, length, map, take, refl, sym, ap, subst, ◌∙◌, inl, inr, arith, append_assoc, append-nil, All, not, ◌==◌, take_through, and_parts, not-true, length-map, All-head, All-tail, take-append_seam, line_of, Ending, System, last_line, lines_text, Form, Line, last_tick, IsLineOf, IsTextOf, HasNames}
-use Rattle.fb_types.proofs.Common.{AtStop, line_text, Steps}
+use Rattle.fb_types.proofs.Common.{AtStop, line_text}
+use Rattle.fb_types.specs.declared.value.Reason.TheVariants.{Steps}
 use Rattle.fb_wave.specs.Copying.{IsNoLineFrom}
 use Rattle.fb_wave.specs.Lines.{IsEndOf}
 use Rattle.fb_wave.specs.Refusals.{GoesOn, IsFirstBad, lines_in, longer}

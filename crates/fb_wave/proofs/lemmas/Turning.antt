@@ -1,5 +1,6 @@
 -- The changes of a tick are put one after another, and each signal's note goes.
-use Rattle.fb_types.proofs.Common.{◌≡◌, ◌≢◌, ℕ, ◌+◌, ◌<◌, ◌≤◌, Bool, true, false, ◌||◌, ◌&&◌, List, [], ◌∷◌, ◌++◌, length, take, drop, get_or, set, refl, sym, ap, subst, ◌∙◌, arith, append_assoc, append-nil, All, not, drop_more, take_more, take_all, drop_all, get_or_default, length-set, All-head, All-tail, Value}
+use Rattle.fb_types.proofs.Common.{◌≡◌, ◌≢◌, ℕ, ◌+◌, ◌<◌, ◌≤◌, Bool, true, false, ◌||◌, ◌&&◌, List, [], ◌∷◌, ◌++◌, length, take, drop, get_or, set, refl, sym, ap, subst, ◌∙◌, arith, append_assoc, append-nil, All, not, drop_more, take_more, take_all, drop_all, get_or_default, length-set, All-head, All-tail}
+use Rattle.fb_types.specs.declared.value.Value.{Value}
 use Rattle.std.specs.List.{flat_map}
 use borrow.Author.Tests.{eq-eqb, ne_eqb}
 use Rattle.fb_wave.proofs.lemmas.Noting.{at_set, is_in-more}

@@ -1,6 +1,6 @@
 -- What keeps a text from being that of a line.
 use Rattle.fb_wave.proofs.lemmas.Common.{◌≡◌, ℕ, ◌+◌, ◌<◌, ◌≤◌, ◌^◌, Bool, true, false, List, [], ◌∷◌, ◌++◌, length, map, decimal, refl, sym, ap, subst, ◌∙◌, arith, length-map, inputs_with, outputs_with, variable_names, system_of, Name, event_at, pair_up, path_at, ports_at, Twice, System, values_text, Variable, Form, One, Two, Line, Value, AreIndexes, AreValuesOf, IsLineOf, IsTextOf, HasNames, AreRead, number_text, Port}
-use Rattle.fb_types.proofs.Common.{Key}
+use Rattle.fb_types.specs.declared.key.Key.{Key}
 use Rattle.fb_system.specs.IndexLists.{variable_at}
 use Rattle.fb_wave.specs.Lines.{AreInRange, AreNoValuesOf, HasNoHead, IsHead, IsInRange, IsNoTextOf}
 use Rattle.fb_wave.specs.Ports.{BeginsWith, HasNoPort}

@@ -1,5 +1,8 @@
 -- Values, and variables with values, that are read from a text.
-use Rattle.fb_types.proofs.Common.{◌≡◌, ℕ, ℤ, suc, zero, pos, negsuc, neg_ℤ, ◌+◌, ◌^◌, ◌<◌, ◌≤◌, Bool, true, false, List, [], ◌∷◌, ◌++◌, length, map, take, drop, get_or, min, decimal, codes, refl, sym, ap, ◌∙◌, arith, append_assoc, append-nil, ◌&&◌, int_le, int_lt, MatchOption, Option, Some, None, and_parts, and_from, ltb-true, leb-true, false≢true, append_cancel_left, take_more, take_all, drop_all, get_or-map, length-map, map-append, length-take-le, length_push, slice_get-map, slice_get-get_or, Bound, Name, pair_up, value_text, values_text, fits, Variable, Ty, Value}
+use Rattle.fb_types.proofs.Common.{◌≡◌, ℕ, ℤ, suc, zero, pos, negsuc, neg_ℤ, ◌+◌, ◌^◌, ◌<◌, ◌≤◌, Bool, true, false, List, [], ◌∷◌, ◌++◌, length, map, take, drop, get_or, min, decimal, codes, refl, sym, ap, ◌∙◌, arith, append_assoc, append-nil, ◌&&◌, int_le, int_lt, MatchOption, Option, Some, None, and_parts, and_from, ltb-true, leb-true, false≢true, append_cancel_left, take_more, take_all, drop_all, get_or-map, length-map, map-append, length-take-le, length_push, slice_get-map, slice_get-get_or, Bound, Name, pair_up, value_text, values_text, fits}
+use Rattle.fb_types.specs.declared.library.Variable.{Variable}
+use Rattle.fb_types.specs.declared.value.Ty.{Ty}
+use Rattle.fb_types.specs.declared.value.Value.{Value}
 use Rattle.fb_types.specs.declared.value.Ty.TheVariants.{Sint, Int, Dint, Lint, Usint, Uint, Udint, Ulint, Time, Bool as Boolean}
 use Rattle.fb_types.specs.declared.value.Value.TheVariants as value
 use Rattle.fb_wave.proofs.lemmas.Cutting.{cut_once, uncut, word_once}

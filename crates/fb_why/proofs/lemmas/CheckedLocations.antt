@@ -1,5 +1,8 @@
 -- The locations that the check lists, as those of a refusal.
-use Rattle.fb_types.proofs.Common.{◌≡◌, ◌≢◌, ℕ, ◌<◌, ◌≤◌, List, [], ◌∷◌, ◌∙◌, ap, length, map, refl, sym, subst, ⊎_elim, arith, All, eqb, if◌then◌else◌, cases_lt, All-cons, All-nil, inputs, NameTwice, Plan, Stimulus, Library}
+use Rattle.fb_types.proofs.Common.{◌≡◌, ◌≢◌, ℕ, ◌<◌, ◌≤◌, List, [], ◌∷◌, ◌∙◌, ap, length, map, refl, sym, subst, ⊎_elim, arith, All, eqb, if◌then◌else◌, cases_lt, All-cons, All-nil, inputs, NameTwice}
+use Rattle.fb_types.specs.declared.deploy.Plan.{Plan}
+use Rattle.fb_types.specs.declared.deploy.Stimulus.{Stimulus}
+use Rattle.fb_types.specs.declared.library.Library.{Library}
 use Rattle.fb_types.specs.Accepted.{IsAccepted, IsLeastFault}
 use Rattle.fb_check_names.specs.declared.twice.GivenTwice.{GivenTwice}
 use Rattle.fb_check_names.proofs.lemmas.Listing.{none_said}

@@ -1,5 +1,8 @@
 -- The findings of a number, from the locations of a library and a plan to the bytes that were read.
-use Rattle.fb_types.proofs.Common.{◌≡◌, ℕ, suc, false, List, [], ◌∷◌, map, take, Option, Some, None, Result, Ok, Err, refl, sym, ◌∙◌, ap, subst, inl, inr, All, IfOk, IfSome, MatchOption, All-cons, All-map, All-nil, All-weaker, Plan, Stimulus, Library}
+use Rattle.fb_types.proofs.Common.{◌≡◌, ℕ, suc, false, List, [], ◌∷◌, map, take, Option, Some, None, Result, Ok, Err, refl, sym, ◌∙◌, ap, subst, inl, inr, All, IfOk, IfSome, MatchOption, All-cons, All-map, All-nil, All-weaker}
+use Rattle.fb_types.specs.declared.deploy.Plan.{Plan}
+use Rattle.fb_types.specs.declared.deploy.Stimulus.{Stimulus}
+use Rattle.fb_types.specs.declared.library.Library.{Library}
 use Rattle.std.specs.Option.{option_to_list}
 use Rattle.std.proofs.lemmas.List.Elements.{All-take}
 use Rattle.fb_why.specs.Causes.{IsCause}

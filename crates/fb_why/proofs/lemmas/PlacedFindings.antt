@@ -1,5 +1,6 @@
 -- The place at which a location of what was declared is shown.
-use Rattle.fb_types.proofs.Common.{◌≡◌, ◌∷◌, ◌++◌, ◌+◌, ◌<◌, [], ℕ, List, length, get_or, map, take, Option, Some, None, refl, sym, ◌∙◌, ap, subst, length-map, map-append, take_more, All-cons, All-nil, AllZip, All, IfSome, Library}
+use Rattle.fb_types.proofs.Common.{◌≡◌, ◌∷◌, ◌++◌, ◌+◌, ◌<◌, [], ℕ, List, length, get_or, map, take, Option, Some, None, refl, sym, ◌∙◌, ap, subst, length-map, map-append, take_more, All-cons, All-nil, AllZip, All, IfSome}
+use Rattle.fb_types.specs.declared.library.Library.{Library}
 use Rattle.std.proofs.lemmas.Slice.Zip.{AllZip-long}
 use Rattle.fb_read.specs.Blank.{Text}
 use Rattle.fb_read.specs.Whole.{IsLibraryText}

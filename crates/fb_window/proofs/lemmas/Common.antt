@@ -13,7 +13,12 @@ pub use Rattle.fb_resource.specs.declared.resource.Resource.{Resource}
 pub use Rattle.fb_resource.specs.declared.resource.WindowDone.{WindowDone}
 pub use Rattle.fb_resource.specs.declared.resource.WindowDone.TheVariants.{Ran}
 pub use Rattle.fb_system.specs.Lines.{BelongsTo}
-pub use Rattle.fb_types.proofs.Common.{All, All-head, All-nil, All-tail, AllZip, Bool, Core, CoreStep, Inputs, IsFloor, IsSchedule, Item, Key, Line, List, Machine, Member, Message, None, Option, Reason, Some, StopMark, System, Vec, [], ap, append-nil, append_assoc, arith, cases_eq, cases_lt, cond, core_after, count_of, drop, eqb-true, exchanged, false, filter, floor_of, found, inl, inr, into_iter_items, into_iter_len, is_some, length, length-set, line_of, machine, map, max, min, nat_lt, opening, opening_core, option_map, refl, set, slice_get, slice_get_read, slice_get_within, slice_index, slice_index_or, slice_set, stimuli_of, subst, suc, sym, system_of, true, zero, ℕ, ⊎_elim, ◌++◌, ◌+◌, ◌<◌, ◌==◌, ◌^◌, ◌∙◌, ◌∷◌, ◌≡◌, ◌≤◌, ◌⊎◌}
+pub use Rattle.fb_types.proofs.Common.{All, All-head, All-nil, All-tail, AllZip, Bool, Core, CoreStep, Inputs, IsFloor, IsSchedule, Item, List, Machine, Member, None, Option, Some, System, Vec, [], ap, append-nil, append_assoc, arith, cases_eq, cases_lt, cond, core_after, count_of, drop, eqb-true, exchanged, false, filter, floor_of, found, inl, inr, into_iter_items, into_iter_len, is_some, length, length-set, line_of, machine, map, max, min, nat_lt, opening, opening_core, option_map, refl, set, slice_get, slice_get_read, slice_get_within, slice_index, slice_index_or, slice_set, stimuli_of, subst, suc, sym, system_of, true, zero, ℕ, ⊎_elim, ◌++◌, ◌+◌, ◌<◌, ◌==◌, ◌^◌, ◌∙◌, ◌∷◌, ◌≡◌, ◌≤◌, ◌⊎◌}
+pub use Rattle.fb_types.specs.declared.key.Key.{Key}
+pub use Rattle.fb_types.specs.declared.run.Line.{Line}
+pub use Rattle.fb_types.specs.declared.run.Message.{Message}
+pub use Rattle.fb_types.specs.declared.value.Reason.{Reason}
+pub use Rattle.fb_types.specs.declared.run.StopMark.{StopMark}
 pub use Rattle.fb_window.specs.Frontiers.{AreCut, AreLive, IsFirstStop, edge_of}
 pub use Rattle.fb_window.specs.Homes.{AreAwaited, AreHome, IsHomeTo}
 pub use Rattle.fb_window.specs.Jobs.{Does, JobModel, job_of, jobs_of, resting_of}

@@ -6,7 +6,8 @@ pub use Rattle.fb_sim.specs.Given.{Given}
 pub use Rattle.fb_sim.specs.Reports.{Hears}
 pub use Rattle.fb_sim.specs.Serial.{Declares, IsRefusal, IsRightly}
 pub use Rattle.fb_sim.specs.declared.outcome.RunError.{RunError}
-pub use Rattle.fb_types.proofs.Common.{AllZip, Appends, Bool, Bor, Err, IfErr, IfOk, IfSome, Inputs, IsTrue, Library, List, None, Ok, OnErr, OnOk, Option, Result, Some, String, Vec, [], ap, append-nil, append_assoc, arith, codes, drop, drop_more, false, get_or, if◌then◌else◌, inl, inr, length, length-map, map, map-append, nat_lt, option_map, refl, rules, string_bytes, subst, suc, sym, system_of, take, take-append-drop, take_all, take_more, true, zero, ℕ, ◌&&◌, ◌++◌, ◌+◌, ◌<◌, ◌||◌, ◌∙◌, ◌∷◌, ◌≡◌, ◌≤◌, ◌⊎◌}
+pub use Rattle.fb_types.proofs.Common.{AllZip, Appends, Bool, Bor, Err, IfErr, IfOk, IfSome, Inputs, IsTrue, List, None, Ok, OnErr, OnOk, Option, Result, Some, String, Vec, [], ap, append-nil, append_assoc, arith, codes, drop, drop_more, false, get_or, if◌then◌else◌, inl, inr, length, length-map, map, map-append, nat_lt, option_map, refl, rules, string_bytes, subst, suc, sym, system_of, take, take-append-drop, take_all, take_more, true, zero, ℕ, ◌&&◌, ◌++◌, ◌+◌, ◌<◌, ◌||◌, ◌∙◌, ◌∷◌, ◌≡◌, ◌≤◌, ◌⊎◌}
+pub use Rattle.fb_types.specs.declared.library.Library.{Library}
 pub use Rattle.fb_wave.specs.declared.truncation.Cut.{Cut}
 pub use Rattle.fbsim_command.specs.Expecting.{AreUnheld, Holds, IsUnheld, types_of}
 pub use Rattle.fbsim_command.specs.Failures.{WritesPart, failure_of, failure_of_source, numbered_input}

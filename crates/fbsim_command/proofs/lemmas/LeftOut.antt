@@ -1,6 +1,7 @@
 -- The warnings that are left out, and the lines of the others, one after another.
 use Rattle.fbsim_command.proofs.lemmas.Common.{◌≡◌, ◌⊎◌, ℕ, zero, suc, ◌+◌, ◌<◌, ◌≤◌, ◌&&◌, ◌||◌, nat_lt, Bool, true, false, List, [], ◌∷◌, ◌++◌, append-nil, get_or, length, take, Option, if◌then◌else◌, inl, inr, refl, sym, ◌∙◌, ap, subst, arith, take_more, take_all, Library, Place, Given}
-use Rattle.fb_types.proofs.Common.{nat_le, ap₂, cases_lt, le-leb, le-ltb, lt-leb, lt-ltb, list_any-append, sum_by-cons, list_any, Stimulus}
+use Rattle.fb_types.proofs.Common.{nat_le, ap₂, cases_lt, le-leb, le-ltb, lt-leb, lt-ltb, list_any-append, sum_by-cons, list_any}
+use Rattle.fb_types.specs.declared.deploy.Stimulus.{Stimulus}
 use Rattle.std.proofs.Common.{sum}
 use Rattle.std.proofs.lemmas.List.Sums.{sum_by_more}
 use Rattle.fb_lint.specs.Positions.{position_of}

@@ -1,5 +1,7 @@
 -- The type of the first variable with a name.
-use Rattle.fb_types.proofs.Common.{◌≡◌, ℕ, ◌+◌, ◌<◌, ◌≤◌, Bool, true, false, cond, List, get_or, length, drop, Option, Some, None, option_map, sym, ◌∙◌, ap, find, drop_all, drop_more, Name, same_name, Variable, Ty}
+use Rattle.fb_types.proofs.Common.{◌≡◌, ℕ, ◌+◌, ◌<◌, ◌≤◌, Bool, true, false, cond, List, get_or, length, drop, Option, Some, None, option_map, sym, ◌∙◌, ap, find, drop_all, drop_more, Name, same_name}
+use Rattle.fb_types.specs.declared.library.Variable.{Variable}
+use Rattle.fb_types.specs.declared.value.Ty.{Ty}
 use Rattle.fbsim_command.specs.Possible.{type_of}
 
 module _ (vs : List Variable) (name : Name) (i : ℕ) (d : Variable) where

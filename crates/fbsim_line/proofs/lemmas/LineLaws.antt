@@ -1,5 +1,7 @@
 -- Where the words name no call.
-use Rattle.fb_types.proofs.Common.{◌≡◌, ℕ, Bool, Bor, Option, Some, None, Result, Ok, Err, List, false, true, map, option_map, refl, sym, ap, ◌∙◌, subst, inl, inr, codes, Vec, bytes_eq, bytes_eq-Decides, ◌≢◌, IfNone, IfOk, IfErr, IfSome, OnOk, [], Form, One, Two}
+use Rattle.fb_types.proofs.Common.{◌≡◌, ℕ, Bool, Bor, Option, Some, None, Result, Ok, Err, List, false, true, map, option_map, refl, sym, ap, ◌∙◌, subst, inl, inr, codes, Vec, bytes_eq, bytes_eq-Decides, ◌≢◌, IfNone, IfOk, IfErr, IfSome, OnOk, []}
+use Rattle.fb_types.specs.declared.run.Form.{Form}
+use Rattle.fb_types.specs.declared.run.Form.TheVariants.{One, Two}
 use Rattle.clap.specs.Words.{App, Row, Text, HasKind, IsAmong, all_of, first_of, fault_of, kind_of, is_simple, is_simple_and_free, takes, matches_of, subcommand_of}
 use Rattle.clap.specs.declared.error.Error.{Error}
 use Rattle.clap.specs.declared.error.kind.ErrorKind.{ErrorKind}

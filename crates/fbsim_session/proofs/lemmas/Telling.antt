@@ -1,5 +1,7 @@
 -- What a session has told after each call.
-use Rattle.fb_types.proofs.Common.{◌≡◌, ℕ, ◌+◌, ◌<◌, ◌≤◌, List, [], ◌∷◌, ◌++◌, length, All, Option, Result, Ok, Err, refl, sym, ap, ◌∙◌, subst, arith, append_assoc, append-nil, Appends, IsErrAnd, Appends-nil, All-nil, IsTrace, system_of, stimuli_of, Each, AtStop, Chain, Taken, ending_of, lines_of, last_line, lines_text, Stimulus, StopMark}
+use Rattle.fb_types.proofs.Common.{◌≡◌, ℕ, ◌+◌, ◌<◌, ◌≤◌, List, [], ◌∷◌, ◌++◌, length, All, Option, Result, Ok, Err, refl, sym, ap, ◌∙◌, subst, arith, append_assoc, append-nil, Appends, IsErrAnd, Appends-nil, All-nil, IsTrace, system_of, stimuli_of, Each, AtStop, Chain, Taken, ending_of, lines_of, last_line, lines_text}
+use Rattle.fb_types.specs.declared.deploy.Stimulus.{Stimulus}
+use Rattle.fb_types.specs.declared.run.StopMark.{StopMark}
 use Rattle.std.specs.Io.KnownBytes.{Keeps}
 use Rattle.std.proofs.KnownBytes.{Keeps-refl}
 use Rattle.fb_laws.specs.Sound.{AreGood}

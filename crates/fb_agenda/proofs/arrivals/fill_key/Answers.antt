@@ -1,4 +1,6 @@
-use Rattle.fb_types.proofs.Common.{◌≡◌, Some, ap, subst, sym, arith, lookup, IsSome, same_key, Key, Arrival}
+use Rattle.fb_types.proofs.Common.{◌≡◌, Some, ap, subst, sym, arith, lookup, IsSome, same_key}
+use Rattle.fb_types.specs.declared.key.Key.{Key}
+use Rattle.fb_types.specs.declared.run.Event.TheVariants.{Arrival}
 use Rattle.fb_agenda.specs.Lists.{Sets}
 use Rattle.fb_agenda.proofs.lemmas.MessagesPut.{surely}
 use Rattle.fb_agenda.proofs.arrivals.fill_key.Goals as goal

@@ -1,4 +1,5 @@
-use Rattle.fb_types.proofs.Common.{◌≡◌, ◌++◌, length, lookup, into_iter_items, into_iter_len, found, or_else, same_key, Key}
+use Rattle.fb_types.proofs.Common.{◌≡◌, ◌++◌, length, lookup, into_iter_items, into_iter_len, found, or_else, same_key}
+use Rattle.fb_types.specs.declared.key.Key.{Key}
 use Rattle.fb_agenda.specs.Arrivals.{arrivals_at}
 use Rattle.fb_agenda.proofs.arrivals.fill_keys.Given as goal
 

@@ -1,4 +1,5 @@
-use Rattle.fb_types.proofs.Common.{ℕ, refl, sym, ◌∙◌, Name, EventPort}
+use Rattle.fb_types.proofs.Common.{ℕ, refl, sym, ◌∙◌, Name}
+use Rattle.fb_types.specs.declared.library.EventPort.{EventPort}
 use Rattle.fb_check.proofs.lemmas.FilledByName.{at_name, first_none, first_kept, first_more}
 use Rattle.fb_check.proofs.directory_making.events_of.Goals as goal
 use Rattle.fb_check.proofs.directory_making.events_of.Goals.{then-not-contains_key+in_ok-insert, else-not-contains_key}

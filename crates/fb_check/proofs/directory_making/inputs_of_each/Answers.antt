@@ -1,4 +1,6 @@
-use Rattle.fb_types.proofs.Common.{List, subst, EventPort, Variable}
+use Rattle.fb_types.proofs.Common.{List, subst}
+use Rattle.fb_types.specs.declared.library.EventPort.{EventPort}
+use Rattle.fb_types.specs.declared.library.Variable.{Variable}
 use Rattle.fb_check.specs.Directory.{AreEvents, AreVariables, AreWiths}
 use Rattle.fb_check.proofs.lemmas.FilledByName.{inputs_more}
 use Rattle.fb_check.proofs.directory_making.inputs_of_each.Goals as goal

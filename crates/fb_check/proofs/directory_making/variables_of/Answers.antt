@@ -1,4 +1,5 @@
-use Rattle.fb_types.proofs.Common.{refl, sym, ◌∙◌, Name, Variable}
+use Rattle.fb_types.proofs.Common.{refl, sym, ◌∙◌, Name}
+use Rattle.fb_types.specs.declared.library.Variable.{Variable}
 use Rattle.fb_check.specs.Directory.{input_of}
 use Rattle.fb_check.proofs.lemmas.FilledByName.{at_name, first_none, first_kept, first_more}
 use Rattle.fb_check.proofs.directory_making.variables_of.Goals as goal

@@ -1,5 +1,9 @@
 -- What the event connections so far carry.
-use Rattle.fb_types.proofs.Common.{◌≡◌, ◌⊎◌, ℕ, ◌<◌, ◌≤◌, ◌+◌, Bool, true, false, not, cond, List, [], ◌∷◌, ◌++◌, length, take, get_or, Option, Some, None, Contains, Bor, refl, sym, ◌∙◌, ap, subst, inl, inr, arith, is_eq, take_more, take_all, Contains-append_left, Contains-push, Contains-push_cases, Name, Port, port_in, resource_of, Library, Connection, PortName, Plan}
+use Rattle.fb_types.proofs.Common.{◌≡◌, ◌⊎◌, ℕ, ◌<◌, ◌≤◌, ◌+◌, Bool, true, false, not, cond, List, [], ◌∷◌, ◌++◌, length, take, get_or, Option, Some, None, Contains, Bor, refl, sym, ◌∙◌, ap, subst, inl, inr, arith, is_eq, take_more, take_all, Contains-append_left, Contains-push, Contains-push_cases, Name, Port, port_in, resource_of}
+use Rattle.fb_types.specs.declared.library.Library.{Library}
+use Rattle.fb_types.specs.declared.library.Connection.{Connection}
+use Rattle.fb_types.specs.declared.library.PortName.{PortName}
+use Rattle.fb_types.specs.declared.deploy.Plan.{Plan}
 use Rattle.std.specs.BTreeSet as set
 use Rattle.fb_types.proofs.lemmas.lists.Elements.{Contains-nil, Contains-map, map-Contains}
 use Rattle.fb_check.specs.networks.Mapping.{IsHolding, resource_in}

@@ -1,6 +1,7 @@
 -- E30 by number: the instances that are counted after a number of rounds are those with paths at most that deep.
 use Rattle.fb_check.proofs.lemmas.Common.{◌≡◌, ℕ, zero, suc, ◌+◌, ◌<◌, List, [], ◌∷◌, map, length, Option, Some, None, refl, sym, ◌∙◌, ap, subst, arith, slice_get, option_map, option_and_then, unwrap_or, flat_map, ◌↔◌, IsTrue, nat_tests, slice_get-map, kind_of, Library, BlockType, CompositeType, Instance, Plan, TypeNumber, NetworkNumbers, Resolved, IsNetwork, IsResolved, each_or_none, type_number, kind_of_number}
-use Rattle.fb_types.proofs.Common.{min, nat_lt, length-append, sum_by-cons, Path, network_of, inside, paths_inside, paths_of, Network}
+use Rattle.fb_types.proofs.Common.{min, nat_lt, length-append, sum_by-cons, Path, network_of, inside, paths_inside, paths_of}
+use Rattle.fb_types.specs.declared.library.Network.{Network}
 use Rattle.std.specs.List.{sum_by}
 use Rattle.fb_types.specs.declared.library.BlockType.TheVariants as block
 use Rattle.fb_check_names.specs.declared.numbers.TypeNumber.TheVariants as number

@@ -1,5 +1,7 @@
 -- Networks among those of a declaration.
-use Rattle.fb_types.proofs.Common.{◌≡◌, ℕ, Some, None, Contains, slice_get, flat_map, networks, networks_in, Library, CompositeType}
+use Rattle.fb_types.proofs.Common.{◌≡◌, ℕ, Some, None, Contains, slice_get, flat_map, networks, networks_in}
+use Rattle.fb_types.specs.declared.library.Library.{Library}
+use Rattle.fb_types.specs.declared.library.CompositeType.{CompositeType}
 use Rattle.fb_types.specs.declared.library.BlockType.TheVariants as block
 use Rattle.fb_types.proofs.lemmas.lists.Elements.{Contains-here, Contains-there}
 use Rattle.fb_check.proofs.lemmas.networks.Naming.{composite_in}

@@ -1,5 +1,7 @@
 -- Which types contain all values of another, by their ranges.
-use Rattle.fb_types.proofs.Common.{◌≡◌, Bool, true, false, ◌&&◌, Option, Some, None, refl, sym, ◌∙◌, arith, ℤ, pos, int_le, int_lt, ◌-ℤ◌, Decides, true≢false, and_parts, and_from, ints, fits, Value, Ty}
+use Rattle.fb_types.proofs.Common.{◌≡◌, Bool, true, false, ◌&&◌, Option, Some, None, refl, sym, ◌∙◌, arith, ℤ, pos, int_le, int_lt, ◌-ℤ◌, Decides, true≢false, and_parts, and_from, ints, fits}
+use Rattle.fb_types.specs.declared.value.Value.{Value}
+use Rattle.fb_types.specs.declared.value.Ty.{Ty}
 use Rattle.fb_types.specs.Joined.{IsWithin}
 use Rattle.fb_types.specs.declared.value.Value.TheVariants as value
 use Rattle.fb_types.specs.declared.value.Ty.TheVariants as ty

@@ -1,5 +1,7 @@
 -- E24: ports to which two data connections lead.
-use Rattle.fb_types.proofs.Common.{◌≡◌, List, [], ◌∷◌, map, refl, sym, ◌∙◌, ap, subst, All, is_eq, ordering_then, All-map, All-weaker, Port, same_port, pairs_in, Twice, OwnedNetwork, Connection, Library}
+use Rattle.fb_types.proofs.Common.{◌≡◌, List, [], ◌∷◌, map, refl, sym, ◌∙◌, ap, subst, All, is_eq, ordering_then, All-map, All-weaker, Port, same_port, pairs_in, Twice, OwnedNetwork}
+use Rattle.fb_types.specs.declared.library.Connection.{Connection}
+use Rattle.fb_types.specs.declared.library.Library.{Library}
 use Rattle.std.proofs.Common.{Ordering}
 use Rattle.std.specs.declared.cmp.Ordering.TheVariants as order
 use Rattle.fb_types.specs.Joined.{TwoSources}

@@ -1,5 +1,11 @@
 -- The variables WITH an output event, if the names of a type differ.
-use Rattle.fb_types.proofs.Common.{◌≡◌, ◌||◌, ◌&&◌, true, false, cond, List, [], ◌∷◌, ◌++◌, map, Option, Some, None, Contains, refl, sym, ap, subst, inl, inr, option_map, flat_map, list_any, and_parts, Contains-append_left, Name, same_name, Kind, Event, named, among, event_names, variable_names, variables_with, event_blocks, ports_of, ports_of_event_block, kind_of, type_name, type_named, resource_names_of, Twice, NameTwice, networks, basics, interfaces, block_type_names, port_names, algorithm_names, state_names, instance_names, with_lists, parameter_lists, internals_of, EventKind, Library, BlockType, EventPort, Variable, Plan}
+use Rattle.fb_types.proofs.Common.{◌≡◌, ◌||◌, ◌&&◌, true, false, cond, List, [], ◌∷◌, ◌++◌, map, Option, Some, None, Contains, refl, sym, ap, subst, inl, inr, option_map, flat_map, list_any, and_parts, Contains-append_left, Name, same_name, Kind, Event, named, among, event_names, variable_names, variables_with, event_blocks, ports_of, ports_of_event_block, kind_of, type_name, type_named, resource_names_of, Twice, NameTwice, networks, basics, interfaces, block_type_names, port_names, algorithm_names, state_names, instance_names, with_lists, parameter_lists, internals_of}
+use Rattle.fb_types.specs.declared.event_kind.EventKind.{EventKind}
+use Rattle.fb_types.specs.declared.library.Library.{Library}
+use Rattle.fb_types.specs.declared.library.BlockType.{BlockType}
+use Rattle.fb_types.specs.declared.library.EventPort.{EventPort}
+use Rattle.fb_types.specs.declared.library.Variable.{Variable}
+use Rattle.fb_types.specs.declared.deploy.Plan.{Plan}
 use Rattle.fb_types.specs.Blocks.{goes_with}
 use Rattle.fb_types.proofs.lemmas.lists.TwiceLaws.{Twice-append_left, Twice-append_right}
 use Rattle.fb_types.proofs.lemmas.lists.Options.{map_parts}

@@ -1,5 +1,8 @@
 -- Declarations and deployments in which each name is known.
-use Rattle.fb_types.proofs.Common.{◌≡◌, ◌&&◌, true, List, [], ◌∷◌, Some, None, Contains, refl, sym, subst, inl, inr, flat_map, All, list_all, All-contains, OwnedNetwork, networks_in, NameUnknown, BlockType, Library, Plan}
+use Rattle.fb_types.proofs.Common.{◌≡◌, ◌&&◌, true, List, [], ◌∷◌, Some, None, Contains, refl, sym, subst, inl, inr, flat_map, All, list_all, All-contains, OwnedNetwork, networks_in, NameUnknown}
+use Rattle.fb_types.specs.declared.library.BlockType.{BlockType}
+use Rattle.fb_types.specs.declared.library.Library.{Library}
+use Rattle.fb_types.specs.declared.deploy.Plan.{Plan}
 use Rattle.fb_types.specs.declared.library.BlockType.TheVariants as block
 use Rattle.fb_types.proofs.lemmas.lists.Elements.{Contains-nil, Contains-cons_cases, Contains-here, Contains-there, flat_map-Contains}
 use Rattle.fb_check.specs.types.Checks.{is_known_block}

@@ -1,5 +1,7 @@
 -- Calls whose number of arguments no function has.
-use Rattle.fb_types.proofs.Common.{◌≡◌, List, [], ◌∷◌, ◌≤◌, length, Option, Some, None, refl, arith, option_map, option_and_then, expr_of, Types, Function, Expr}
+use Rattle.fb_types.proofs.Common.{◌≡◌, List, [], ◌∷◌, ◌≤◌, length, Option, Some, None, refl, arith, option_map, option_and_then, expr_of, Types}
+use Rattle.fb_types.specs.declared.function.Function.{Function}
+use Rattle.fb_types.specs.declared.text.Expr.{Expr}
 use Rattle.fb_types.specs.Kinds.{value_kind_of, value_kinds_of, function_value_kind}
 use Rattle.fb_types.specs.declared.function.Function.TheVariants.{Min, Max, Abs, Limit, Sel}
 use Rattle.fb_types.specs.declared.value_kind.ValueKind.{ValueKind}

@@ -1,5 +1,6 @@
 -- An algorithm is right if each of its statements is, by itself.
-use Rattle.fb_types.proofs.Common.{◌≡◌, Bool, true, false, ◌&&◌, List, ◌++◌, refl, ◌∙◌, ap, list_all, list_all-append, is_condition, Stmt, Empty, Exit, Return, Assign, If, Case, For, While, Repeat, Stmts, no_stmt, then_stmts, Choices, no_choice, then_choices, Branches, no_branch, then_branches, BasicType}
+use Rattle.fb_types.proofs.Common.{◌≡◌, Bool, true, false, ◌&&◌, List, ◌++◌, refl, ◌∙◌, ap, list_all, list_all-append, is_condition, Stmt, Empty, Exit, Return, Assign, If, Case, For, While, Repeat, Stmts, no_stmt, then_stmts, Choices, no_choice, then_choices, Branches, no_branch, then_branches}
+use Rattle.fb_types.specs.declared.library.BasicType.{BasicType}
 use Rattle.fb_types.specs.Kinds.{is_right, body_right, choices_right, branches_right, is_whole}
 use Rattle.fb_check.specs.types.Checks.{in_place}
 use Rattle.fb_check.specs.types.Statements.{Standing, conditions_right, each_in_body, each_in_branches, each_in_choices, each_inside, own_right, stands_right}

@@ -1,5 +1,11 @@
 -- What the tests of each block type say of the whole declaration.
-use Rattle.fb_types.proofs.Common.{◌≡◌, ◌⊎◌, ◌&&◌, Bool, true, false, not, List, [], ◌∷◌, map, Some, None, refl, sym, ◌∙◌, inl, inr, flat_map, ◌↔◌, IsTrue, list_all, true≢false, and_parts, list_all-append, Name, Stmts, expr_of, body_of, among, variable_names, ports_of, kind_of, variables_in, basics, basics_in, interfaces, all_of, required_withs, required_chart, Mention, mentions, mentions_body, mentioned, is_known, context_in, is_condition, declared_right, Library, BlockType, BasicType, EventPort, Ports, Transition}
+use Rattle.fb_types.proofs.Common.{◌≡◌, ◌⊎◌, ◌&&◌, Bool, true, false, not, List, [], ◌∷◌, map, Some, None, refl, sym, ◌∙◌, inl, inr, flat_map, ◌↔◌, IsTrue, list_all, true≢false, and_parts, list_all-append, Name, Stmts, expr_of, body_of, among, variable_names, ports_of, kind_of, variables_in, basics, basics_in, interfaces, all_of, required_withs, required_chart, Mention, mentions, mentions_body, mentioned, is_known, context_in, is_condition, declared_right}
+use Rattle.fb_types.specs.declared.library.Library.{Library}
+use Rattle.fb_types.specs.declared.library.BlockType.{BlockType}
+use Rattle.fb_types.specs.declared.library.BasicType.{BasicType}
+use Rattle.fb_types.specs.declared.library.EventPort.{EventPort}
+use Rattle.fb_types.specs.declared.library.Ports.{Ports}
+use Rattle.fb_types.specs.declared.library.Transition.{Transition}
 use Rattle.std.proofs.lemmas.List.Folds.{list_all-map}
 use Rattle.fb_types.specs.Syntax.{Expr}
 use Rattle.fb_types.specs.Unknown.{required_transition, required_actions, guards_of}

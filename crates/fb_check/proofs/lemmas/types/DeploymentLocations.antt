@@ -1,5 +1,10 @@
 -- Deployments in which a name is unknown, and those in which each is known.
-use Rattle.fb_types.proofs.Common.{◌≡◌, ◌&&◌, ℕ, true, false, List, [], ◌∷◌, map, Some, sym, ◌∙◌, ap, flat_map, slice_get, option_map, option_and_then, list_all, list_any, list_all-append, Name, same_name, resource_names_of, instance_names, all_of, required_deployment, Instance, Library, Link, Plan, ResourceEntry}
+use Rattle.fb_types.proofs.Common.{◌≡◌, ◌&&◌, ℕ, true, false, List, [], ◌∷◌, map, Some, sym, ◌∙◌, ap, flat_map, slice_get, option_map, option_and_then, list_all, list_any, list_all-append, Name, same_name, resource_names_of, instance_names, all_of, required_deployment}
+use Rattle.fb_types.specs.declared.library.Instance.{Instance}
+use Rattle.fb_types.specs.declared.library.Library.{Library}
+use Rattle.fb_types.specs.declared.deploy.Link.{Link}
+use Rattle.fb_types.specs.declared.deploy.Plan.{Plan}
+use Rattle.fb_types.specs.declared.deploy.ResourceEntry.{ResourceEntry}
 use Rattle.fb_check.proofs.lemmas.types.Checks.{and_true}
 use Rattle.fb_check_names.specs.Unknown.{DeploymentUnknown}
 use Rattle.fb_types.proofs.lemmas.lists.ListTests.{list_all-flat_map, list_all-agree}

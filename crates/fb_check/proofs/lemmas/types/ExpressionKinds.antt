@@ -1,5 +1,9 @@
 -- The kinds of expressions, each by its parts.
-use Rattle.fb_types.proofs.Common.{◌≡◌, ◌≤◌, ◌<◌, List, [], ◌∷◌, get_or, length, Option, Some, None, refl, sym, ◌∙◌, ap, arith, option_and_then, Name, expr_of, Types, function_named, Function, BinaryOperator, Expr, UnaryOperator}
+use Rattle.fb_types.proofs.Common.{◌≡◌, ◌≤◌, ◌<◌, List, [], ◌∷◌, get_or, length, Option, Some, None, refl, sym, ◌∙◌, ap, arith, option_and_then, Name, expr_of, Types, function_named}
+use Rattle.fb_types.specs.declared.function.Function.{Function}
+use Rattle.fb_types.specs.declared.text.BinaryOperator.{BinaryOperator}
+use Rattle.fb_types.specs.declared.text.Expr.{Expr}
+use Rattle.fb_types.specs.declared.text.UnaryOperator.{UnaryOperator}
 use Rattle.fb_types.specs.Kinds.{binary_value_kind, function_value_kind, value_kind_of, value_kind_of_type, value_kinds_of, unary_value_kind}
 use Rattle.fb_types.specs.declared.value_kind.ValueKind.{ValueKind}
 use Rattle.fb_types.specs.declared.text.Expr as expr

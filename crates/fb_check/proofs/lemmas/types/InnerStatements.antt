@@ -1,6 +1,7 @@
 -- The statements inside statements, each by its parts.
 use Rattle.fb_check.proofs.lemmas.Common.{◌≡◌, Bool, true, List, Option, ◌++◌, ◌∙◌, ap, inl, inr, ◌⊎◌, Name, stmt_of, Expr, Branch, Choice, Stmt, all_of, branch_of, branches_of, choice_of, choices_of, each_in_body, each_in_branches, each_in_choices}
-use Rattle.fb_types.proofs.Common.{out-Branch, out-Choice}
+use Rattle.fb_types.specs.declared.text.Branch.{out-Branch}
+use Rattle.fb_types.specs.declared.text.Choice.{out-Choice}
 use Rattle.fb_types.specs.declared.text.Stmt as read
 use Rattle.fb_check.specs.types.Statements.{Standing, each_inside}
 use Rattle.fb_check.proofs.lemmas.types.Meanings.{branch_says, case_says, choice_says, for_says, if_says, repeat_says, while_says}

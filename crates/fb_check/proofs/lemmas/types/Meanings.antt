@@ -1,5 +1,10 @@
 -- What the expressions and statements that were read mean, each by its parts (IEC 61131-3, 7.3).
-use Rattle.fb_types.proofs.Common.{◌≡◌, List, Option, refl, rules, Name, Binary, Assign, If, Case, For, While, Repeat, expr_of, step_of, stmt_of, BinaryOperator, Expr, UnaryOperator, Branch, out-Branch, Choice, out-Choice}
+use Rattle.fb_types.proofs.Common.{◌≡◌, List, Option, refl, rules, Name, Binary, Assign, If, Case, For, While, Repeat, expr_of, step_of, stmt_of}
+use Rattle.fb_types.specs.declared.text.BinaryOperator.{BinaryOperator}
+use Rattle.fb_types.specs.declared.text.Expr.{Expr}
+use Rattle.fb_types.specs.declared.text.UnaryOperator.{UnaryOperator}
+use Rattle.fb_types.specs.declared.text.Branch.{Branch, out-Branch}
+use Rattle.fb_types.specs.declared.text.Choice.{Choice, out-Choice}
 use Rattle.fb_types.specs.Syntax.{Variable, Unary, Call}
 use Rattle.fb_types.specs.declared.text.Expr as expr
 use Rattle.fb_types.specs.declared.text.Expr.{fold-roll-Expr}

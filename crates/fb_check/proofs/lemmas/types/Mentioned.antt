@@ -1,6 +1,9 @@
 -- What expressions and statements name, each by its parts.
 use Rattle.fb_check.proofs.lemmas.Common.{◌≡◌, List, [], ◌∷◌, ◌++◌, Option, None, Some, sym, ◌∙◌, ap, Name, expr_of, stmt_of, Mention, is_known, mentions, mentions_body, BasicType, Expr, Branch, Choice, Stmt, all_of, arguments_of, branch_of, branches_of, choice_of, choices_of, Naming, each_at, unless, meant, meant_all, mention_in, unknown_mentions}
-use Rattle.fb_types.proofs.Common.{BinaryOperator, UnaryOperator, out-Branch, out-Choice}
+use Rattle.fb_types.specs.declared.text.BinaryOperator.{BinaryOperator}
+use Rattle.fb_types.specs.declared.text.UnaryOperator.{UnaryOperator}
+use Rattle.fb_types.specs.declared.text.Branch.{out-Branch}
+use Rattle.fb_types.specs.declared.text.Choice.{out-Choice}
 use Rattle.fb_types.specs.Unknown.{OfFunction, OfVariable, mentions_all, mentions_branches, mentions_choices, mentions_in}
 use Rattle.fb_types.specs.declared.text.Expr as expr
 use Rattle.fb_types.specs.declared.text.Stmt as read

@@ -1,5 +1,7 @@
 -- Tests that all networks of a declaration pass.
-use Rattle.fb_types.proofs.Common.{◌≡◌, Bool, true, [], Some, None, Contains, sym, ◌∙◌, ap, inl, inr, flat_map, list_all, OwnedNetwork, networks, networks_in, BlockType, Library}
+use Rattle.fb_types.proofs.Common.{◌≡◌, Bool, true, [], Some, None, Contains, sym, ◌∙◌, ap, inl, inr, flat_map, list_all, OwnedNetwork, networks, networks_in}
+use Rattle.fb_types.specs.declared.library.BlockType.{BlockType}
+use Rattle.fb_types.specs.declared.library.Library.{Library}
 use Rattle.fb_types.specs.declared.library.BlockType.TheVariants as block
 use Rattle.fb_types.proofs.lemmas.lists.Elements.{flat_map-Contains, Contains-cons_cases, Contains-nil}
 use Rattle.fb_types.proofs.lemmas.lists.ListTests.{passes_at}

@@ -1,5 +1,6 @@
 -- Declarations in which each kind is right.
-use Rattle.fb_types.proofs.Common.{◌≡◌, true, sym, ◌∙◌, inl, inr, list_all, true≢false, and_parts, KindWrong, Library}
+use Rattle.fb_types.proofs.Common.{◌≡◌, true, sym, ◌∙◌, inl, inr, list_all, true≢false, and_parts, KindWrong}
+use Rattle.fb_types.specs.declared.library.Library.{Library}
 use Rattle.fb_types.specs.Kinds.{parameters_right}
 use Rattle.fb_check_names.specs.Parts.{PartWrong}
 use Rattle.fb_types.proofs.lemmas.lists.ListTests.{list_all-both, passes_at}

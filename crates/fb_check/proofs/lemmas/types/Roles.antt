@@ -1,5 +1,8 @@
 -- What a name of an interface represents: each name is in one of its lists.
-use Rattle.fb_types.proofs.Common.{◌≡◌, ℕ, zero, suc, ◌≤◌, ◌-◌, length, Bool, true, false, cond, ◌||◌, List, [], ◌∷◌, ◌++◌, append_assoc, map, Option, Some, None, refl, sym, ◌∙◌, ap, subst, arith, position, slice_get, option_map, option_and_then, is_some, true≢false, false_from_ne_true, slice_get-map, map-append, list_any-append, Name, same_name, named, among, event_names, variable_names, Twice, EventPort, Variable, Ty}
+use Rattle.fb_types.proofs.Common.{◌≡◌, ℕ, zero, suc, ◌≤◌, ◌-◌, length, Bool, true, false, cond, ◌||◌, List, [], ◌∷◌, ◌++◌, append_assoc, map, Option, Some, None, refl, sym, ◌∙◌, ap, subst, arith, position, slice_get, option_map, option_and_then, is_some, true≢false, false_from_ne_true, slice_get-map, map-append, list_any-append, Name, same_name, named, among, event_names, variable_names, Twice}
+use Rattle.fb_types.specs.declared.library.EventPort.{EventPort}
+use Rattle.fb_types.specs.declared.library.Variable.{Variable}
+use Rattle.fb_types.specs.declared.value.Ty.{Ty}
 use Rattle.fb_types.specs.Blocks.{type_named}
 use Rattle.fb_types.proofs.lemmas.lists.Positions.{named-position}
 use Rattle.fb_types.proofs.lemmas.names.NameLaws.{contains_from_any, same_name-flip}

@@ -1,5 +1,7 @@
 -- The types of variables by their names.
-use Rattle.fb_types.proofs.Common.{◌≡◌, ◌++◌, List, [], ◌∷◌, Some, None, cond, true, false, refl, option_map, unwrap_or, Name, same_name, named, Variable, Ty}
+use Rattle.fb_types.proofs.Common.{◌≡◌, ◌++◌, List, [], ◌∷◌, Some, None, cond, true, false, refl, option_map, unwrap_or, Name, same_name, named}
+use Rattle.fb_types.specs.declared.library.Variable.{Variable}
+use Rattle.fb_types.specs.declared.value.Ty.{Ty}
 use Rattle.fb_types.specs.Blocks.{type_named}
 use Rattle.fb_types.specs.declared.value.Ty.TheVariants.{Bool as Boolean}
 

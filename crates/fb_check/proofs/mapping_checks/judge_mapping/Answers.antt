@@ -1,4 +1,5 @@
-use Rattle.fb_types.proofs.Common.{map, ◌∙◌, Instance}
+use Rattle.fb_types.proofs.Common.{map, ◌∙◌}
+use Rattle.fb_types.specs.declared.library.Instance.{Instance}
 use Rattle.fb_check.proofs.mapping_checks.judge_mapping.Goals as goal
 
 pub judge_links-requires : goal.judge_links-requires

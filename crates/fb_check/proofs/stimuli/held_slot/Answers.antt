@@ -1,4 +1,5 @@
-use Rattle.fb_types.proofs.Common.{Bool, Option, None, Some, sym, ◌∙◌, ap, option_copied, if◌then◌else◌, InputValue}
+use Rattle.fb_types.proofs.Common.{Bool, Option, None, Some, sym, ◌∙◌, ap, option_copied, if◌then◌else◌}
+use Rattle.fb_types.specs.declared.run.InputValue.{InputValue}
 use Rattle.fb_check.specs.Directory.{held_slot}
 use Rattle.fb_check.specs.declared.directory_making.Input.{Input}
 use Rattle.fb_check.proofs.stimuli.held_slot.Goals as goal

@@ -1,4 +1,5 @@
-use Rattle.fb_types.proofs.Common.{◌≡◌, true, false, not, ◌&&◌, Option, None, sym, ◌∙◌, if◌then◌else◌, InputValue}
+use Rattle.fb_types.proofs.Common.{◌≡◌, true, false, not, ◌&&◌, Option, None, sym, ◌∙◌, if◌then◌else◌}
+use Rattle.fb_types.specs.declared.run.InputValue.{InputValue}
 use Rattle.fb_check.specs.Directory.{has_pair, held_slot, input_in}
 use Rattle.fb_check.proofs.stimuli.slot_of.Goals as goal
 use Rattle.fb_check.proofs.stimuli.slot_of.Goals.{else-contains-via-then-contains+else-not-contains, else-contains-via-else-contains}

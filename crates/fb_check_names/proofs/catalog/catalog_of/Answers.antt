@@ -1,4 +1,5 @@
-use Rattle.fb_types.proofs.Common.{List, ◌++◌, ◌∙◌, ap, map, type_name, BlockType}
+use Rattle.fb_types.proofs.Common.{List, ◌++◌, ◌∙◌, ap, map, type_name}
+use Rattle.fb_types.specs.declared.library.BlockType.{BlockType}
 use Rattle.fb_check_names.specs.Listed.{each_at}
 use Rattle.fb_check_names.specs.declared.location.Site.TheVariants as site
 use Rattle.fb_check_names.specs.declared.twice.GivenTwice.{GivenTwice}

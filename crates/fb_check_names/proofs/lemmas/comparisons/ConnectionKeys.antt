@@ -1,5 +1,6 @@
 -- The names at both ends of a connection, as the key of a table.
-use Rattle.fb_types.proofs.Common.{◌≡◌, Bool, List, [], ◌∷◌, Option, Some, None, Bor, refl, sym, ◌∙◌, ap, Decides, option_copied, is_eq, ordering_then, true≢false, same_Some, Name, Path, Port, Connection}
+use Rattle.fb_types.proofs.Common.{◌≡◌, Bool, List, [], ◌∷◌, Option, Some, None, Bor, refl, sym, ◌∙◌, ap, Decides, option_copied, is_eq, ordering_then, true≢false, same_Some, Name, Path, Port}
+use Rattle.fb_types.specs.declared.library.Connection.{Connection}
 use Rattle.std.proofs.Common.{Ordering}
 use Rattle.std.specs.Cmp.Lexicographic.{slice_cmp}
 use Rattle.std.specs.Option.{option_cmp}

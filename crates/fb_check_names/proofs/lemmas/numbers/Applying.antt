@@ -1,5 +1,10 @@
 -- From what holds at a location to the condition of its number.
-use Rattle.fb_types.proofs.Common.{◌≡◌, ℕ, Bool, true, false, not, List, [], ◌++◌, map, Contains, refl, sym, ◌∙◌, inl, inr, is_some, true≢false, Contains-append_left, Contains-append_right, event_block_named, event_blocks, resource_names_of, type_name, algorithm_names, event_pairs, instance_names, link_pairs, state_names, BlockType, EventPort, Network, Ports, Variable}
+use Rattle.fb_types.proofs.Common.{◌≡◌, ℕ, Bool, true, false, not, List, [], ◌++◌, map, Contains, refl, sym, ◌∙◌, inl, inr, is_some, true≢false, Contains-append_left, Contains-append_right, event_block_named, event_blocks, resource_names_of, type_name, algorithm_names, event_pairs, instance_names, link_pairs, state_names}
+use Rattle.fb_types.specs.declared.library.BlockType.{BlockType}
+use Rattle.fb_types.specs.declared.library.EventPort.{EventPort}
+use Rattle.fb_types.specs.declared.library.Network.{Network}
+use Rattle.fb_types.specs.declared.library.Ports.{Ports}
+use Rattle.fb_types.specs.declared.library.Variable.{Variable}
 use Rattle.fb_types.specs.declared.library.BlockType.TheVariants as block
 use Rattle.fb_check_names.specs.GivenTwice.{BlockTwice, NetworkTwice, PortTwice, TypeTwice, names_of_ports}
 use Rattle.fb_types.proofs.lemmas.names.NameLaws.{contains_from_any}

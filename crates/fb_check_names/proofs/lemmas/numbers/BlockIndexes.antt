@@ -1,5 +1,6 @@
 -- The indexes of block types, one more at a time.
-use Rattle.fb_types.proofs.Common.{◌≡◌, ℕ, zero, suc, ◌<◌, ◌+◌, List, [], ◌∷◌, ◌++◌, length, take, get_or, Some, sym, ◌∙◌, ap, append_assoc, subst, length-append, slice_get, take_more, BlockType}
+use Rattle.fb_types.proofs.Common.{◌≡◌, ℕ, zero, suc, ◌<◌, ◌+◌, List, [], ◌∷◌, ◌++◌, length, take, get_or, Some, sym, ◌∙◌, ap, append_assoc, subst, length-append, slice_get, take_more}
+use Rattle.fb_types.specs.declared.library.BlockType.{BlockType}
 use Rattle.fb_check_names.specs.declared.catalog.BlockIndexes.{BlockIndexes}
 use Rattle.fb_check_names.specs.Catalog.{IsBlock}
 use Rattle.fb_check_names.specs.GivenTwice.{AreBlocks, BlockTwice}

@@ -1,5 +1,8 @@
 -- The catalog of all names, from its parts.
-use Rattle.fb_types.proofs.Common.{◌≡◌, List, ◌++◌, map, ◌∙◌, ap, append_assoc, inl, subst, event_blocks, type_name, resource_names_of, NameTwice, Twice, instance_names, Library, BlockType, Plan}
+use Rattle.fb_types.proofs.Common.{◌≡◌, List, ◌++◌, map, ◌∙◌, ap, append_assoc, inl, subst, event_blocks, type_name, resource_names_of, NameTwice, Twice, instance_names}
+use Rattle.fb_types.specs.declared.library.Library.{Library}
+use Rattle.fb_types.specs.declared.library.BlockType.{BlockType}
+use Rattle.fb_types.specs.declared.deploy.Plan.{Plan}
 use Rattle.fb_types.proofs.lemmas.lists.ByIndex.{element_of_index}
 use Rattle.fb_types.proofs.lemmas.lists.TwiceLaws.{Twice-append_right}
 use Rattle.fb_check_names.specs.declared.catalog.Catalog.{Catalog}

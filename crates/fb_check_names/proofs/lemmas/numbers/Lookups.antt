@@ -1,5 +1,9 @@
 -- Types, ports and instances by the indexes of their names.
-use Rattle.fb_types.proofs.Common.{◌≡◌, ℕ, ◌<◌, ◌≤◌, ◌-◌, List, ◌++◌, length, map, get_or, Some, None, Option, Bor, MatchOption, refl, sym, ◌∙◌, ap, subst, append_assoc, slice_get, option_map, option_and_then, position, BTreeMap, length-map, slice_get_read, same_Some, Name, same_name, Kind, Event, named, event_blocks, event_block_named, ports_of, variable_names, kind_of, type_name, type_named, kind_of_instance, internals_of, event_ins, event_outs, data_ins, data_outs, BlockType, Instance, Library, Ports}
+use Rattle.fb_types.proofs.Common.{◌≡◌, ℕ, ◌<◌, ◌≤◌, ◌-◌, List, ◌++◌, length, map, get_or, Some, None, Option, Bor, MatchOption, refl, sym, ◌∙◌, ap, subst, append_assoc, slice_get, option_map, option_and_then, position, BTreeMap, length-map, slice_get_read, same_Some, Name, same_name, Kind, Event, named, event_blocks, event_block_named, ports_of, variable_names, kind_of, type_name, type_named, kind_of_instance, internals_of, event_ins, event_outs, data_ins, data_outs}
+use Rattle.fb_types.specs.declared.library.BlockType.{BlockType}
+use Rattle.fb_types.specs.declared.library.Instance.{Instance}
+use Rattle.fb_types.specs.declared.library.Library.{Library}
+use Rattle.fb_types.specs.declared.library.Ports.{Ports}
 use Rattle.std.proofs.Common.{SomeIff}
 use Rattle.fb_check_names.specs.Indexes.{IsIndex, index_in}
 use Rattle.fb_check_names.specs.declared.catalog.BlockIndexes.{BlockIndexes}

@@ -1,5 +1,11 @@
 -- The list of all that is given twice: each is given twice, and if it is empty nothing is.
-use Rattle.fb_types.proofs.Common.{◌≡◌, ℕ, List, [], ◌++◌, map, Some, All, slice_get, All-append, All-map, All-weaker, resource_names_of, type_name, Name, Port, same_name, NameTwice, Twice, algorithm_names, event_pairs, instance_names, link_pairs, state_names, BlockType, Library, Network, Ports, Variable, Plan}
+use Rattle.fb_types.proofs.Common.{◌≡◌, ℕ, List, [], ◌++◌, map, Some, All, slice_get, All-append, All-map, All-weaker, resource_names_of, type_name, Name, Port, same_name, NameTwice, Twice, algorithm_names, event_pairs, instance_names, link_pairs, state_names}
+use Rattle.fb_types.specs.declared.library.BlockType.{BlockType}
+use Rattle.fb_types.specs.declared.library.Library.{Library}
+use Rattle.fb_types.specs.declared.library.Network.{Network}
+use Rattle.fb_types.specs.declared.library.Ports.{Ports}
+use Rattle.fb_types.specs.declared.library.Variable.{Variable}
+use Rattle.fb_types.specs.declared.deploy.Plan.{Plan}
 use Rattle.fb_types.specs.declared.library.BlockType.TheVariants as block
 use Rattle.fb_types.proofs.lemmas.names.NameLaws.{same_name-Decides}
 use Rattle.fb_check_names.specs.GivenTwice.{BlockTwice, NetworkTwice, PortTwice, names_of_ports}

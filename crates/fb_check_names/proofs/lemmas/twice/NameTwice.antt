@@ -1,5 +1,10 @@
 -- E20 is what a block type, the application's network or the deployment gives twice, or the block types together.
-use Rattle.fb_types.proofs.Common.{◌≡◌, ◌⊎◌, List, [], ◌∷◌, ◌++◌, map, Some, None, Contains, sym, ap, subst, inl, inr, flat_map, Name, ports_of, kind_of, resource_names_of, Twice, OwnedNetwork, networks, networks_in, basics, basics_in, interfaces, block_type_names, port_names, algorithm_names, state_names, instance_names, with_lists, parameter_lists, name_spaces, NameTwice, Library, BlockType, BasicType, CompositeType, Plan}
+use Rattle.fb_types.proofs.Common.{◌≡◌, ◌⊎◌, List, [], ◌∷◌, ◌++◌, map, Some, None, Contains, sym, ap, subst, inl, inr, flat_map, Name, ports_of, kind_of, resource_names_of, Twice, OwnedNetwork, networks, networks_in, basics, basics_in, interfaces, block_type_names, port_names, algorithm_names, state_names, instance_names, with_lists, parameter_lists, name_spaces, NameTwice}
+use Rattle.fb_types.specs.declared.library.Library.{Library}
+use Rattle.fb_types.specs.declared.library.BlockType.{BlockType}
+use Rattle.fb_types.specs.declared.library.BasicType.{BasicType}
+use Rattle.fb_types.specs.declared.library.CompositeType.{CompositeType}
+use Rattle.fb_types.specs.declared.deploy.Plan.{Plan}
 use Rattle.fb_types.specs.declared.library.BlockType.TheVariants as block
 use Rattle.fb_check_names.specs.GivenTwice.{TwiceIn, BlockTwice, NetworkTwice, PlanTwice, TypeTwice}
 use Rattle.fb_types.proofs.lemmas.lists.Elements.{Contains-nil, Contains-cons_cases, Contains-here, Contains-there, Contains-flat_map, flat_map-Contains, Contains-map, map-Contains}

@@ -1,5 +1,15 @@
 -- Parts of a declaration and a deployment that give nothing twice.
-use Rattle.fb_types.proofs.Common.{◌≡◌, ◌⊎◌, ◌||◌, Bool, true, false, not, List, [], ◌∷◌, ◌++◌, map, Some, Contains, refl, sym, ◌∙◌, ap, subst, inl, inr, All, is_some, option_map, cond, list_any, list_all, true≢false, All-contains, Contains-append_cases, Name, same_name, event_blocks, event_block_named, named, resource_names_of, type_name, Twice, NameTwice, algorithm_names, event_pairs, instance_names, link_pairs, state_names, BlockType, BasicType, CompositeType, EventPort, Instance, Library, Network, Ports, Variable, Plan}
+use Rattle.fb_types.proofs.Common.{◌≡◌, ◌⊎◌, ◌||◌, Bool, true, false, not, List, [], ◌∷◌, ◌++◌, map, Some, Contains, refl, sym, ◌∙◌, ap, subst, inl, inr, All, is_some, option_map, cond, list_any, list_all, true≢false, All-contains, Contains-append_cases, Name, same_name, event_blocks, event_block_named, named, resource_names_of, type_name, Twice, NameTwice, algorithm_names, event_pairs, instance_names, link_pairs, state_names}
+use Rattle.fb_types.specs.declared.library.BlockType.{BlockType}
+use Rattle.fb_types.specs.declared.library.BasicType.{BasicType}
+use Rattle.fb_types.specs.declared.library.CompositeType.{CompositeType}
+use Rattle.fb_types.specs.declared.library.EventPort.{EventPort}
+use Rattle.fb_types.specs.declared.library.Instance.{Instance}
+use Rattle.fb_types.specs.declared.library.Library.{Library}
+use Rattle.fb_types.specs.declared.library.Network.{Network}
+use Rattle.fb_types.specs.declared.library.Ports.{Ports}
+use Rattle.fb_types.specs.declared.library.Variable.{Variable}
+use Rattle.fb_types.specs.declared.deploy.Plan.{Plan}
 use Rattle.std.proofs.lemmas.List.Sums.{AllPass-from_list_all}
 use Rattle.fb_types.specs.declared.library.BlockType.TheVariants as block
 use Rattle.fb_check_names.specs.GivenTwice.{BlockTwice, NetworkTwice, PortTwice, TypeTwice, names_of_ports}

@@ -1,5 +1,7 @@
 -- Lists of what belongs to the networks of a declaration.
-use Rattle.fb_types.proofs.Common.{◌≡◌, ℕ, List, [], Some, None, Contains, refl, ap, subst, inl, inr, All, flat_map, slice_get, option_and_then, All-append, All-contains, All-nil, same_Some, OwnedNetwork, networks, networks_in, BlockType, Library}
+use Rattle.fb_types.proofs.Common.{◌≡◌, ℕ, List, [], Some, None, Contains, refl, ap, subst, inl, inr, All, flat_map, slice_get, option_and_then, All-append, All-contains, All-nil, same_Some, OwnedNetwork, networks, networks_in}
+use Rattle.fb_types.specs.declared.library.BlockType.{BlockType}
+use Rattle.fb_types.specs.declared.library.Library.{Library}
 use Rattle.fb_types.specs.declared.library.BlockType.TheVariants as block
 use Rattle.fb_types.proofs.lemmas.lists.ByIndex.{element_of_index}
 use Rattle.fb_types.proofs.lemmas.lists.Elements.{Contains-cons_cases, Contains-flat_map, Contains-here, Contains-nil, Contains-there, flat_map-Contains}

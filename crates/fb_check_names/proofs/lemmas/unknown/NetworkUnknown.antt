@@ -1,5 +1,12 @@
 -- Names of a network are known if they have numbers (E21).
-use Rattle.fb_types.proofs.Common.{◌≡◌, ◌&&◌, ◌||◌, ℕ, Bool, true, false, List, [], map, Some, None, Option, Contains, refl, sym, ◌∙◌, ap, is_some, slice_get, option_map, option_and_then, list_any, list_all, true≢false, false_from_ne_true, list_any-append, Name, same_name, Kind, event_blocks, named, among, variable_names, ports_of, type_name, kind_of_instance, instance_in, OwnedNetwork, block_type_names, instance_names, Required, all_of, required_parameters, is_end, data_ins, CompositeType, Connection, Instance, Library, Parameter, PortName, Ports}
+use Rattle.fb_types.proofs.Common.{◌≡◌, ◌&&◌, ◌||◌, ℕ, Bool, true, false, List, [], map, Some, None, Option, Contains, refl, sym, ◌∙◌, ap, is_some, slice_get, option_map, option_and_then, list_any, list_all, true≢false, false_from_ne_true, list_any-append, Name, same_name, Kind, event_blocks, named, among, variable_names, ports_of, type_name, kind_of_instance, instance_in, OwnedNetwork, block_type_names, instance_names, Required, all_of, required_parameters, is_end, data_ins}
+use Rattle.fb_types.specs.declared.library.CompositeType.{CompositeType}
+use Rattle.fb_types.specs.declared.library.Connection.{Connection}
+use Rattle.fb_types.specs.declared.library.Instance.{Instance}
+use Rattle.fb_types.specs.declared.library.Library.{Library}
+use Rattle.fb_types.specs.declared.library.Parameter.{Parameter}
+use Rattle.fb_types.specs.declared.library.PortName.{PortName}
+use Rattle.fb_types.specs.declared.library.Ports.{Ports}
 use Rattle.fb_types.proofs.lemmas.lists.Positions.{named-position, is_some-position}
 use Rattle.fb_types.proofs.lemmas.names.NameLaws.{contains_from_any, any-named}
 use Rattle.fb_check_names.specs.Numbers.{each_or_none, index_of, type_number, end_at, end_number, both_ends, parameter_numbers, ports_at_index}

@@ -1,5 +1,7 @@
 -- What is unknown in a declaration and a deployment, by its parts (E21).
-use Rattle.fb_types.proofs.Common.{List, ◌++◌, Contains, sym, ◌∙◌, inl, inr, flat_map, true≢false, Contains-append_left, Contains-append_right, Contains-append_cases, OwnedNetwork, networks, interfaces, basics, Required, required, required_types, required_withs, required_chart, required_parameters, required_deployment, NameUnknown, Library, Plan}
+use Rattle.fb_types.proofs.Common.{List, ◌++◌, Contains, sym, ◌∙◌, inl, inr, flat_map, true≢false, Contains-append_left, Contains-append_right, Contains-append_cases, OwnedNetwork, networks, interfaces, basics, Required, required, required_types, required_withs, required_chart, required_parameters, required_deployment, NameUnknown}
+use Rattle.fb_types.specs.declared.library.Library.{Library}
+use Rattle.fb_types.specs.declared.deploy.Plan.{Plan}
 use Rattle.fb_check_names.specs.Parts.{ArePartsKnown}
 use Rattle.fb_types.proofs.lemmas.lists.Elements.{Contains-flat_map, flat_map-Contains}
 use Rattle.fb_check_names.specs.Unknown.{NetworkUnknown, DeploymentUnknown}

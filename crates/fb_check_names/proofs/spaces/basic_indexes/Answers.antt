@@ -1,4 +1,6 @@
-use Rattle.fb_types.proofs.Common.{List, ◌++◌, ◌∙◌, ap, map, subst, inl, inr, Twice, algorithm_names, state_names, Algorithm, Variable}
+use Rattle.fb_types.proofs.Common.{List, ◌++◌, ◌∙◌, ap, map, subst, inl, inr, Twice, algorithm_names, state_names}
+use Rattle.fb_types.specs.declared.library.Algorithm.{Algorithm}
+use Rattle.fb_types.specs.declared.library.Variable.{Variable}
 use Rattle.fb_types.specs.declared.library.State.{State}
 use Rattle.fb_check_names.specs.declared.twice.GivenTwice.{GivenTwice}
 use Rattle.fb_check_names.specs.GivenTwice.{PortTwice, names_of_ports}

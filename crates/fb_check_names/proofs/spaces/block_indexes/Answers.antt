@@ -1,4 +1,5 @@
-use Rattle.fb_types.proofs.Common.{sym, subst, IfOk, BlockType}
+use Rattle.fb_types.proofs.Common.{sym, subst, IfOk}
+use Rattle.fb_types.specs.declared.library.BlockType.{BlockType}
 use Rattle.fb_check_names.specs.Catalog.{IsBlock}
 use Rattle.fb_check_names.specs.GivenTwice.{BlockTwice}
 use Rattle.fb_check_names.proofs.spaces.block_indexes.Goals as goal

@@ -1,4 +1,5 @@
-use Rattle.fb_types.proofs.Common.{List, refl, subst, take_all, BlockType}
+use Rattle.fb_types.proofs.Common.{List, refl, subst, take_all}
+use Rattle.fb_types.specs.declared.library.BlockType.{BlockType}
 use Rattle.fb_check_names.specs.GivenTwice.{AreBlocks}
 use Rattle.fb_check_names.specs.TwiceLists.{twice_in_block}
 use Rattle.fb_check_names.proofs.lemmas.Listing.{each_done, each_more}

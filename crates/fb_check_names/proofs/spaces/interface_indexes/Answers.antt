@@ -1,4 +1,5 @@
-use Rattle.fb_types.proofs.Common.{List, ◌++◌, ◌∙◌, ap, inl, EventPort}
+use Rattle.fb_types.proofs.Common.{List, ◌++◌, ◌∙◌, ap, inl}
+use Rattle.fb_types.specs.declared.library.EventPort.{EventPort}
 use Rattle.fb_check_names.specs.Listed.{each_at}
 use Rattle.fb_check_names.specs.declared.location.Direction.TheVariants.{Input, Output}
 use Rattle.fb_check_names.specs.declared.twice.GivenTwice.{GivenTwice}

@@ -1,4 +1,5 @@
-use Rattle.fb_types.proofs.Common.{List, ◌++◌, ◌∙◌, ap, map, subst, inl, Name, Twice, event_pairs, instance_names, Instance}
+use Rattle.fb_types.proofs.Common.{List, ◌++◌, ◌∙◌, ap, map, subst, inl, Name, Twice, event_pairs, instance_names}
+use Rattle.fb_types.specs.declared.library.Instance.{Instance}
 use Rattle.fb_check_names.specs.Listed.{each_at}
 use Rattle.fb_check_names.specs.declared.twice.GivenTwice.{GivenTwice}
 use Rattle.fb_check_names.specs.Indexes.{IsIndex}

@@ -1,4 +1,5 @@
-use Rattle.fb_types.proofs.Common.{◌++◌, List, ◌∙◌, ap, map, Parameter}
+use Rattle.fb_types.proofs.Common.{◌++◌, List, ◌∙◌, ap, map}
+use Rattle.fb_types.specs.declared.library.Parameter.{Parameter}
 use Rattle.fb_check_names.specs.TwiceLists.{names_twice, parameters_twice}
 use Rattle.fb_check_names.specs.declared.repeats.NameSpace.TheVariants as space
 use Rattle.fb_check_names.proofs.lemmas.Listing.{each_done, each_more}

@@ -1,4 +1,6 @@
-use Rattle.fb_types.proofs.Common.{List, ◌++◌, ◌∙◌, ap, map, subst, resource_names_of, Twice, link_pairs, Link, ResourceEntry}
+use Rattle.fb_types.proofs.Common.{List, ◌++◌, ◌∙◌, ap, map, subst, resource_names_of, Twice, link_pairs}
+use Rattle.fb_types.specs.declared.deploy.Link.{Link}
+use Rattle.fb_types.specs.declared.deploy.ResourceEntry.{ResourceEntry}
 use Rattle.fb_check_names.specs.declared.twice.GivenTwice.{GivenTwice}
 use Rattle.fb_check_names.specs.Ends.{link_ends}
 use Rattle.fb_check_names.specs.Indexes.{IsIndex}

@@ -1,4 +1,5 @@
-use Rattle.fb_types.proofs.Common.{Option, sym, ap, ◌∙◌, option_and_then, Kind, network_of, system_of, path_at, Library}
+use Rattle.fb_types.proofs.Common.{Option, sym, ap, ◌∙◌, option_and_then, Kind, network_of, system_of, path_at}
+use Rattle.fb_types.specs.declared.library.Library.{Library}
 use Rattle.fb_check_names.specs.Numbers.{kind_of_number}
 use Rattle.fb_wave.proofs.lemmas.Known.{path_some}
 use Rattle.fb_coverage.specs.Connected.{connections_of}

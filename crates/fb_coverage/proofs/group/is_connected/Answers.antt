@@ -1,4 +1,5 @@
-use Rattle.fb_types.proofs.Common.{◌≡◌, Bool, List, Option, Some, None, sym, ap, ◌∙◌, ◌||◌, list_any, first_of, network_at, parent, system_of, Name, path_at, Connection}
+use Rattle.fb_types.proofs.Common.{◌≡◌, Bool, List, Option, Some, None, sym, ap, ◌∙◌, ◌||◌, list_any, first_of, network_at, parent, system_of, Name, path_at}
+use Rattle.fb_types.specs.declared.library.Connection.{Connection}
 use Rattle.fb_coverage.specs.Connected.{connections_of, is_at}
 use Rattle.fb_wave.proofs.lemmas.Known.{path_some}
 use Rattle.fb_coverage.proofs.lemmas.Connections.{first_own}

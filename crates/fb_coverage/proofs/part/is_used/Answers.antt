@@ -1,4 +1,5 @@
-use Rattle.fb_types.proofs.Common.{◌<◌, ℕ, Bool, Bor, false, [], get_or, option_map, sym, ◌∙◌, ap, subst, ◌||◌, unwrap_or-slice_get, system_of, Path, BasicType}
+use Rattle.fb_types.proofs.Common.{◌<◌, ℕ, Bool, Bor, false, [], get_or, option_map, sym, ◌∙◌, ap, subst, ◌||◌, unwrap_or-slice_get, system_of, Path}
+use Rattle.fb_types.specs.declared.library.BasicType.{BasicType}
 use Rattle.std.proofs.lemmas.List.Folds.{list_any_at, list_any_more}
 use Rattle.fb_coverage.specs.Openings.{has_type, is_named}
 use Rattle.fb_coverage.proofs.part.is_used.Goals as goal

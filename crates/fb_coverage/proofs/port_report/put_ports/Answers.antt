@@ -1,4 +1,5 @@
-use Rattle.fb_types.proofs.Common.{Bool, List, ◌++◌, codes, ap, ◌∙◌, system_of, path_at, EventPort}
+use Rattle.fb_types.proofs.Common.{Bool, List, ◌++◌, codes, ap, ◌∙◌, system_of, path_at}
+use Rattle.fb_types.specs.declared.library.EventPort.{EventPort}
 use Rattle.fb_coverage.specs.Connected.{is_in}
 use Rattle.fb_coverage.specs.Listed.{listed}
 use Rattle.fb_coverage.specs.Reports.{port_line}

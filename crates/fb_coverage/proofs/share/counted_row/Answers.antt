@@ -1,4 +1,6 @@
-use Rattle.fb_types.proofs.Common.{Bool, List, ◌++◌, sym, ap, ◌∙◌, system_of, path_at, ports_at, EventPort, Ports}
+use Rattle.fb_types.proofs.Common.{Bool, List, ◌++◌, sym, ap, ◌∙◌, system_of, path_at, ports_at}
+use Rattle.fb_types.specs.declared.library.EventPort.{EventPort}
+use Rattle.fb_types.specs.declared.library.Ports.{Ports}
 use Rattle.fb_coverage.specs.Connected.{is_in}
 use Rattle.fb_coverage.specs.Listed.{listed}
 use Rattle.fb_coverage.specs.Shares.{flag_if, port_flags}

@@ -1,4 +1,5 @@
-use Rattle.fb_types.proofs.Common.{◌≡◌, ◌++◌, drop, EventPort}
+use Rattle.fb_types.proofs.Common.{◌≡◌, ◌++◌, drop}
+use Rattle.fb_types.specs.declared.library.EventPort.{EventPort}
 use Rattle.std.specs.List.{flat_map}
 use Rattle.fb_draw.specs.Networks as spec
 use Rattle.fb_draw.proofs.block.put_next_events.Given as goal

@@ -1,4 +1,5 @@
-use Rattle.fb_types.proofs.Common.{◌∙◌, ap, find, same_name, type_name, BlockType}
+use Rattle.fb_types.proofs.Common.{◌∙◌, ap, find, same_name, type_name}
+use Rattle.fb_types.specs.declared.library.BlockType.{BlockType}
 use Rattle.fb_types.proofs.lemmas.names.NameLaws.{find-named}
 use Rattle.fb_draw.proofs.network.find_type.Goals as goal
 

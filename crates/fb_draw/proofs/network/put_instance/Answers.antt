@@ -1,4 +1,5 @@
-use Rattle.fb_types.proofs.Common.{◌≡◌, Option, Some, None, sym, ◌∙◌, ap, append-nil, ◌++◌, option_copied, option_map, Kind, event_block_named, named, kind_of, type_name, BlockType}
+use Rattle.fb_types.proofs.Common.{◌≡◌, Option, Some, None, sym, ◌∙◌, ap, append-nil, ◌++◌, option_copied, option_map, Kind, event_block_named, named, kind_of, type_name}
+use Rattle.fb_types.specs.declared.library.BlockType.{BlockType}
 use Rattle.fb_draw.specs.Networks.{block_node, node_of}
 use Rattle.fb_text.proofs.lemmas.Adding.{put_as}
 use Rattle.fb_draw.proofs.lemmas.Types.{declared_type, event_type}

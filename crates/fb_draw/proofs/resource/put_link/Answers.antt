@@ -1,4 +1,5 @@
-use Rattle.fb_types.proofs.Common.{◌∙◌, ◌++◌, List, ap, codes, Entry}
+use Rattle.fb_types.proofs.Common.{◌∙◌, ◌++◌, List, ap, codes}
+use Rattle.fb_types.specs.declared.latency.Entry.{Entry}
 use Rattle.std.specs.List.{flat_map}
 use Rattle.fb_draw.specs.Resources as spec
 use Rattle.fb_text.proofs.lemmas.Adding.{put_three}

@@ -1,4 +1,5 @@
-use Rattle.fb_types.proofs.Common.{◌≡◌, ◌++◌, drop, Instance}
+use Rattle.fb_types.proofs.Common.{◌≡◌, ◌++◌, drop}
+use Rattle.fb_types.specs.declared.library.Instance.{Instance}
 use Rattle.std.specs.List.{flat_map}
 use Rattle.fb_draw.specs.Resources as spec
 use Rattle.fb_draw.proofs.resource.put_whole.Given as goal

@@ -1,4 +1,5 @@
-use Rattle.fb_types.proofs.Common.{◌≡◌, ◌∷◌, [], ◌++◌, ℕ, List, length, map, Option, refl, sym, ◌∙◌, ap, subst, arith, All, outputs_with, Name, Value}
+use Rattle.fb_types.proofs.Common.{◌≡◌, ◌∷◌, [], ◌++◌, ℕ, List, length, map, Option, refl, sym, ◌∙◌, ap, subst, arith, All, outputs_with, Name}
+use Rattle.fb_types.specs.declared.value.Value.{Value}
 use Rattle.fb_st.specs.Frames.{declared_in, values_of}
 use Rattle.fb_types.specs.declared.run.Emission.{Emission}
 use Rattle.fb_ecc.specs.Actions.{IsOutput}

@@ -1,4 +1,5 @@
-use Rattle.fb_types.proofs.Common.{◌∷◌, [], ◌++◌, List, ◌∙◌, ap, Value}
+use Rattle.fb_types.proofs.Common.{◌∷◌, [], ◌++◌, List, ◌∙◌, ap}
+use Rattle.fb_types.specs.declared.value.Value.{Value}
 use Rattle.fb_ecc.proofs.lemmas.Actions.{on_ok}
 use Rattle.fb_ecc.proofs.action.emit_several.Goals as goal
 

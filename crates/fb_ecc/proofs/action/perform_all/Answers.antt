@@ -1,4 +1,6 @@
-use Rattle.fb_types.proofs.Common.{◌≤◌, ◌+◌, ℕ, List, [], ◌∷◌, drop, length, Some, None, Result, refl, sym, ◌∙◌, subst, arith, err_from_is_err_and, Acts, Position, Action, Halt}
+use Rattle.fb_types.proofs.Common.{◌≤◌, ◌+◌, ℕ, List, [], ◌∷◌, drop, length, Some, None, Result, refl, sym, ◌∙◌, subst, arith, err_from_is_err_and, Acts, Position}
+use Rattle.fb_types.specs.declared.library.Action.{Action}
+use Rattle.fb_types.specs.declared.run.Halt.{Halt}
 use Rattle.fb_ecc.specs.Indexes.{Ended, index}
 use Rattle.fb_ecc.specs.Programs.{IsProgramOf}
 use Rattle.fb_ecc.specs.declared.chart.Act.{Act}

@@ -1,4 +1,6 @@
-use Rattle.fb_types.proofs.Common.{◌≡◌, ◌≤◌, ℕ, List, drop, Option, All, Acts, Position, Action, Reason}
+use Rattle.fb_types.proofs.Common.{◌≡◌, ◌≤◌, ℕ, List, drop, Option, All, Acts, Position}
+use Rattle.fb_types.specs.declared.library.Action.{Action}
+use Rattle.fb_types.specs.declared.value.Reason.{Reason}
 use Rattle.fb_st.specs.Frames.{declared_in}
 use Rattle.fb_ecc.specs.Actions.{AreActions}
 use Rattle.fb_ecc.specs.Blocks.{BeginsWith}

@@ -1,4 +1,5 @@
-use Rattle.fb_types.proofs.Common.{◌≡◌, ◌<◌, ℕ, List, Option, Some, length, get_or, map, sym, ◌∙◌, subst, slice_get, same_Some, slice_get_within, err_from_is_err_and, RunsAll, body_of, stmt_of, Algorithm}
+use Rattle.fb_types.proofs.Common.{◌≡◌, ◌<◌, ℕ, List, Option, Some, length, get_or, map, sym, ◌∙◌, subst, slice_get, same_Some, slice_get_within, err_from_is_err_and, RunsAll, body_of, stmt_of}
+use Rattle.fb_types.specs.declared.library.Algorithm.{Algorithm}
 use Rattle.fb_st.specs.Flows.{end_of, point}
 use Rattle.fb_st.specs.Frames.{Declared, declared_in, types_in}
 use Rattle.fb_st.specs.Known.{AllKnown}

@@ -1,4 +1,5 @@
-use Rattle.fb_types.proofs.Common.{ℕ, List, [], ◌∷◌, ◌++◌, map, ◌∙◌, ap, arith, take_all, Value}
+use Rattle.fb_types.proofs.Common.{ℕ, List, [], ◌∷◌, ◌++◌, map, ◌∙◌, ap, arith, take_all}
+use Rattle.fb_types.specs.declared.value.Value.{Value}
 use Rattle.fb_st.specs.Frames.{declared_in, values_of}
 use Rattle.fb_ecc.proofs.lemmas.Located.{at_index, read_there, same_count, values_more}
 use Rattle.fb_ecc.proofs.action.shown_values.Goals as goal

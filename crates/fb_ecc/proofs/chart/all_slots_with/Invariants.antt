@@ -1,4 +1,5 @@
-use Rattle.fb_types.proofs.Common.{◌≡◌, ◌<◌, ◌+◌, ◌^◌, List, length, map, take, among, variable_names, Variable}
+use Rattle.fb_types.proofs.Common.{◌≡◌, ◌<◌, ◌+◌, ◌^◌, List, length, map, take, among, variable_names}
+use Rattle.fb_types.specs.declared.library.Variable.{Variable}
 use Rattle.fb_check_names.specs.Indexes.{IsIndex}
 use Rattle.fb_ecc.specs.Located.{slots_among}
 use Rattle.fb_ecc.proofs.chart.all_slots_with.Given as goal

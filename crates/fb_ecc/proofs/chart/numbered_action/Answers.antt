@@ -1,4 +1,6 @@
-use Rattle.fb_types.proofs.Common.{refl, Algorithm, EventPort}
+use Rattle.fb_types.proofs.Common.{refl}
+use Rattle.fb_types.specs.declared.library.Algorithm.{Algorithm}
+use Rattle.fb_types.specs.declared.library.EventPort.{EventPort}
 use Rattle.fb_ecc.proofs.lemmas.Indexing.{numbered_if_named}
 use Rattle.fb_ecc.proofs.chart.numbered_action.Goals as goal
 

@@ -1,4 +1,5 @@
-use Rattle.fb_types.proofs.Common.{refl, EventPort}
+use Rattle.fb_types.proofs.Common.{refl}
+use Rattle.fb_types.specs.declared.library.EventPort.{EventPort}
 use Rattle.fb_types.specs.declared.library.State.{State}
 use Rattle.fb_ecc.proofs.lemmas.Indexing.{numbered, numbered_if_named}
 use Rattle.fb_ecc.proofs.chart.numbered_transition.Goals as goal

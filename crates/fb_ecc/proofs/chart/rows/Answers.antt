@@ -1,4 +1,5 @@
-use Rattle.fb_types.proofs.Common.{◌≡◌, ◌<◌, ◌∷◌, [], ◌++◌, ◌&&◌, List, length, get_or, refl, sym, ◌∙◌, ap, subst, is_some, position, same_name, state_names, Transition}
+use Rattle.fb_types.proofs.Common.{◌≡◌, ◌<◌, ◌∷◌, [], ◌++◌, ◌&&◌, List, length, get_or, refl, sym, ◌∙◌, ap, subst, is_some, position, same_name, state_names}
+use Rattle.fb_types.specs.declared.library.Transition.{Transition}
 use Rattle.fb_check_names.specs.Indexes.{index_in}
 use Rattle.fb_ecc.specs.declared.chart.Exit.{Exit}
 use Rattle.fb_ecc.proofs.lemmas.Charts.{rows_left, rows_stay}

@@ -1,4 +1,6 @@
-use Rattle.fb_types.proofs.Common.{List, subst, Algorithm, Transition}
+use Rattle.fb_types.proofs.Common.{List, subst}
+use Rattle.fb_types.specs.declared.library.Algorithm.{Algorithm}
+use Rattle.fb_types.specs.declared.library.Transition.{Transition}
 use Rattle.fb_st.specs.Frames.{Declared}
 use Rattle.fb_ecc.specs.Programs.{AreBodies, AreGuards}
 use Rattle.fb_ecc.proofs.program.forms.Goals as goal

@@ -1,4 +1,7 @@
-use Rattle.fb_types.proofs.Common.{◌≡◌, ◌<◌, ℕ, List, length, Option, Some, None, Result, Ok, sym, ◌∙◌, ap, subst, IfSome, option_map, length-map, err_from_is_err_and, Name, Acts, Clears, Position, actions_of, leaving, event_at, BasicType, Halt, Steps}
+use Rattle.fb_types.proofs.Common.{◌≡◌, ◌<◌, ℕ, List, length, Option, Some, None, Result, Ok, sym, ◌∙◌, ap, subst, IfSome, option_map, length-map, err_from_is_err_and, Name, Acts, Clears, Position, actions_of, leaving, event_at}
+use Rattle.fb_types.specs.declared.library.BasicType.{BasicType}
+use Rattle.fb_types.specs.declared.run.Halt.{Halt}
+use Rattle.fb_types.specs.declared.value.Reason.TheVariants.{Steps}
 use Rattle.fb_st.specs.declared.meter.Meter.{Meter}
 use Rattle.fb_ecc.specs.Indexes.{Ended, index, state_at}
 use Rattle.fb_ecc.specs.Programs.{IsProgramOf}

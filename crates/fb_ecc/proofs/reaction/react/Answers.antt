@@ -1,4 +1,5 @@
-use Rattle.fb_types.proofs.Common.{◌≡◌, Bool, None, Option, Result, Ok, Err, Some, ◌∙◌, ap, subst, arith, rules, option_map, err_from_is_err_and, Name, ChartReacts, Position, event_at, Values, Halt}
+use Rattle.fb_types.proofs.Common.{◌≡◌, Bool, None, Option, Result, Ok, Err, Some, ◌∙◌, ap, subst, arith, rules, option_map, err_from_is_err_and, Name, ChartReacts, Position, event_at, Values}
+use Rattle.fb_types.specs.declared.run.Halt.{Halt}
 use Rattle.fb_st.specs.Frames.{values_of, declared_in}
 use Rattle.fb_ecc.specs.Links.{Linked}
 use Rattle.fb_ecc.specs.Indexes.{Ended, index, sampled}

@@ -1,4 +1,5 @@
-use Rattle.fb_types.proofs.Common.{◌<◌, ◌≤◌, length, Option, All, IfSome, option_map, Position, event_at, Reason}
+use Rattle.fb_types.proofs.Common.{◌<◌, ◌≤◌, length, Option, All, IfSome, option_map, Position, event_at}
+use Rattle.fb_types.specs.declared.value.Reason.{Reason}
 use Rattle.fb_ecc.specs.Blocks.{BeginsWith}
 use Rattle.fb_ecc.specs.Links.{Chain}
 use Rattle.fb_ecc.specs.Indexes.{IsBlockOf, IsWellFormed, index}

@@ -1,4 +1,5 @@
-use Rattle.fb_types.proofs.Common.{List, None, arith, subst, sym, actions_of, Action}
+use Rattle.fb_types.proofs.Common.{List, None, arith, subst, sym, actions_of}
+use Rattle.fb_types.specs.declared.library.Action.{Action}
 use Rattle.fb_types.proofs.lemmas.lists.ByIndex.{element_at}
 use Rattle.fb_ecc.specs.Indexes.{state_at}
 use Rattle.fb_ecc.specs.Programs.{IsProgramOf}

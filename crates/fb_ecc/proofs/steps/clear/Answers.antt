@@ -1,4 +1,5 @@
-use Rattle.fb_types.proofs.Common.{◌≡◌, List, Option, Some, Ok, inr, sym, ◌∙◌, ap, subst, option_map, IfSome, slice_get_within, err_from_is_err_and, Name, trial_of, event_at, Values, Transition}
+use Rattle.fb_types.proofs.Common.{◌≡◌, List, Option, Some, Ok, inr, sym, ◌∙◌, ap, subst, option_map, IfSome, slice_get_within, err_from_is_err_and, Name, trial_of, event_at, Values}
+use Rattle.fb_types.specs.declared.library.Transition.{Transition}
 use Rattle.fb_st.specs.Frames.{values_of}
 use Rattle.fb_ecc.specs.Programs.{IsProgramOf}
 use Rattle.fb_ecc.specs.Steps.{clearing_exit, first_true, trial_at_exit}

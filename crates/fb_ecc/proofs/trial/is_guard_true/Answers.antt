@@ -1,4 +1,5 @@
-use Rattle.fb_types.proofs.Common.{ℕ, sym, ◌∙◌, ap, arith, Option, Values, Expr}
+use Rattle.fb_types.proofs.Common.{ℕ, sym, ◌∙◌, ap, arith, Option, Values}
+use Rattle.fb_types.specs.declared.text.Expr.{Expr}
 use Rattle.fb_types.specs.Charts.{guard_value}
 use Rattle.fb_st.specs.Frames.{values_of}
 use Rattle.fb_ecc.proofs.lemmas.Trials.{transition_within, unguarded, guard_read}

@@ -1,4 +1,5 @@
-use Rattle.fb_types.proofs.Common.{◌≡◌, ◌++◌, ◌∷◌, [], List, sym, subst, on_ok_weaker, Value}
+use Rattle.fb_types.proofs.Common.{◌≡◌, ◌++◌, ◌∷◌, [], List, sym, subst, on_ok_weaker}
+use Rattle.fb_types.specs.declared.value.Value.{Value}
 use Rattle.fb_event.proofs.emission.emit_bare.Goals as goal
 
 pub returns-clause-ok : goal.returns-clause-ok

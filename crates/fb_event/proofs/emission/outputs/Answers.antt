@@ -1,4 +1,5 @@
-use Rattle.fb_types.proofs.Common.{◌≡◌, ℤ, pos, List, [], ◌∷◌, sym, subst, rules, arith, IfOk, ints, Value}
+use Rattle.fb_types.proofs.Common.{◌≡◌, ℤ, pos, List, [], ◌∷◌, sym, subst, rules, arith, IfOk, ints}
+use Rattle.fb_types.specs.declared.value.Value.{Value}
 use Rattle.std.proofs.Common.{Fits}
 use mir.Syntax.{w16, w128}
 use mir.Val.{to_z}

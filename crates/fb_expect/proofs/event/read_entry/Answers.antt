@@ -1,4 +1,5 @@
-use Rattle.fb_types.proofs.Common.{◌≡◌, ℕ, ◌++◌, Bool, Bor, codes, ap, ◌∙◌, Form}
+use Rattle.fb_types.proofs.Common.{◌≡◌, ℕ, ◌++◌, Bool, Bor, codes, ap, ◌∙◌}
+use Rattle.fb_types.specs.declared.run.Form.{Form}
 use Rattle.fb_expect.specs.Events.{IsHead, IsLine, IsPortText, IsStart, event_of, side_text}
 use Rattle.fb_expect.specs.Words.{Text}
 use Rattle.fb_expect.specs.declared.entry.Entry.{Entry}

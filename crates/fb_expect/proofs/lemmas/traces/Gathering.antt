@@ -1,6 +1,7 @@
 -- A trace, line by line.
 use Rattle.fb_expect.proofs.lemmas.Common.{◌≡◌, ℕ, ◌+◌, ◌≤◌, List, [], ◌∷◌, ◌++◌, Some, None, length, refl, sym, ap, subst, ◌∙◌, arith, append_assoc, append-nil, Option, IfSome, length_push, Event, AllFollow, AreJudged, rules_of, AreBelow, tick_of, Text, End, Judged, Watcher, Rule}
-use Rattle.fb_types.proofs.Common.{Consumes, IsAtEnd, Consumes-trans, Form}
+use Rattle.fb_types.proofs.Common.{Consumes, IsAtEnd, Consumes-trans}
+use Rattle.fb_types.specs.declared.run.Form.{Form}
 use Rattle.std.proofs.KnownBytes.{Consumes-whole}
 use Rattle.fb_expect.specs.Events.{IsLine}
 use Rattle.fb_expect.specs.Judging.{AllMove, IsFollowed, IsRead, Judges}

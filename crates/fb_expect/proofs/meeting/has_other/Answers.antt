@@ -1,4 +1,5 @@
-use Rattle.fb_types.proofs.Common.{sym, ◌∙◌, Value}
+use Rattle.fb_types.proofs.Common.{sym, ◌∙◌}
+use Rattle.fb_types.specs.declared.value.Value.{Value}
 use Rattle.fb_expect.specs.Patterns.{are_as, is_value_of}
 use Rattle.fb_expect.proofs.lemmas.texts.TextParts.{any-first, any-last, part_shorter}
 use Rattle.fb_expect.proofs.meeting.has_other.Goals as goal

@@ -1,4 +1,5 @@
-use Rattle.fb_types.proofs.Common.{◌≤◌, length, arith, err_from_is_err_and, Plan}
+use Rattle.fb_types.proofs.Common.{◌≤◌, length, arith, err_from_is_err_and}
+use Rattle.fb_types.specs.declared.deploy.Plan.{Plan}
 use Rattle.toml.specs.View.{table_view}
 use Rattle.fb_inputs.specs.Deployments.{most_bytes, too_long}
 use Rattle.fb_inputs.proofs.lemmas.deployments.Outcomes.{judged_there, refused_document, refused_draft}

@@ -1,6 +1,7 @@
 -- Where deployments are refused, something is wrong.
 use Rattle.fb_inputs.proofs.lemmas.Common.{◌≡◌, ◌==◌, ℕ, zero, suc, ◌+◌, Bool, true, false, cond, ltb, List, [], ◌∷◌, length, Option, Some, None, Ok, Err, refl, sym, ap, subst, ◌∙◌, inl, inr, arith, pos, Result, slice_get, option_map, LatencyDraft, LinkDraft, DeployLocation, element_at, shape_in, among_links, entries_of_link, first_failing, has_latency, latency_of_link, out_of_order, start_of_link, count_of, of_table, each_at, each_in, and_then, or_refuse, Text}
-use Rattle.fb_types.proofs.Common.{leb, unsigned_abs, ◌⊎◌, ℤ, option_and_then, eqb-true, leb-false, ltb-true, same_name, ResourceEntry}
+use Rattle.fb_types.proofs.Common.{leb, unsigned_abs, ◌⊎◌, ℤ, option_and_then, eqb-true, leb-false, ltb-true, same_name}
+use Rattle.fb_types.specs.declared.deploy.ResourceEntry.{ResourceEntry}
 use Rattle.toml.specs.Data.{Data, Items, Members, as_array, as_integer, as_table}
 use Rattle.fb_inputs.specs.declared.document.PlanDraft.{PlanDraft}
 use Rattle.fb_inputs.specs.declared.deploy_location.DeployKey.{DeployKey}

@@ -1,6 +1,6 @@
 -- What a document says of a deployment, by its two keys.
 use Rattle.fb_inputs.proofs.lemmas.Common.{◌≡◌, true, false, List, length, ◌==◌, Some, None, Ok, Err, refl, DeployLocation, LinkDraft, count_of}
-use Rattle.fb_types.proofs.Common.{ResourceEntry}
+use Rattle.fb_types.specs.declared.deploy.ResourceEntry.{ResourceEntry}
 use Rattle.toml.specs.Data.{Data, Members}
 use Rattle.fb_inputs.specs.declared.deploy_location.DeployKey.TheVariants as key
 use Rattle.fb_inputs.specs.declared.deploy_location.TableFault.TheVariants as fault

@@ -1,6 +1,7 @@
 -- Documents, and what a function returns for the bytes of a deployment.
 use Rattle.fb_inputs.proofs.lemmas.Common.{◌≡◌, ◌≤◌, Bool, true, false, length, Some, None, Ok, Err, refl, ap, ◌∙◌, Result, option_map, le-leb, IfSome, DeployLocation, location_of, and_then, Text}
-use Rattle.fb_types.proofs.Common.{lt-leb, Plan}
+use Rattle.fb_types.proofs.Common.{lt-leb}
+use Rattle.fb_types.specs.declared.deploy.Plan.{Plan}
 use Rattle.std.proofs.Common.{IsUtf8}
 use Rattle.std.specs.Str.{is_utf8}
 use Rattle.std.proofs.lemmas.Str.{IsUtf8-from_is_utf8, is_utf8-from_IsUtf8}

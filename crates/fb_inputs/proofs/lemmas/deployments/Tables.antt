@@ -1,6 +1,9 @@
 -- Tables of latencies that pass the tests.
 use Rattle.fb_inputs.proofs.lemmas.Common.{◌≡◌, ◌==◌, ℕ, zero, suc, ◌+◌, ◌^◌, ◌<◌, ◌≤◌, nat_le, pos, Bool, true, false, cond, ltb, List, [], ◌∷◌, ◌++◌, map, length, get_or, Option, Some, None, Ok, refl, sym, ap, ◌∙◌, subst, arith, lt-ltb, Result, option_map, LinkDraft, LatencyDraft, DeployLocation, among_links, entries_of_link, entry, first_failing, has_latency, latency_of_link, out_of_order, start_of_link}
-use Rattle.fb_types.proofs.Common.{nat_lt, ℤ, negsuc, unsigned_abs, append_assoc, append-nil, Contains, and_parts, false≢true, true≢false, le-ltb, leb-true, ltb-true, ltb-false, eqb-true, length-map, All-nil, All-cons, All-contains, Link, ResourceEntry, IsWithinLimits, Entry}
+use Rattle.fb_types.proofs.Common.{nat_lt, ℤ, negsuc, unsigned_abs, append_assoc, append-nil, Contains, and_parts, false≢true, true≢false, le-ltb, leb-true, ltb-true, ltb-false, eqb-true, length-map, All-nil, All-cons, All-contains, IsWithinLimits}
+use Rattle.fb_types.specs.declared.deploy.Link.{Link}
+use Rattle.fb_types.specs.declared.deploy.ResourceEntry.{ResourceEntry}
+use Rattle.fb_types.specs.declared.latency.Entry.{Entry}
 use Rattle.std.specs.List.{All, slice_get}
 use Rattle.std.specs.List.Sorted.{IsStrictlyIncreasing}
 use Rattle.fb_types.specs.Latencies.{IsLatencyTable}

@@ -1,6 +1,7 @@
 -- What a reader returns next, appended to what was found.
 use Rattle.fb_inputs.proofs.lemmas.Common.{◌≡◌, ℕ, Bool, true, false, List, length, Some, Result, Ok, Err, Bor, refl, sym, ◌∙◌, IfSome, Text, stimuli_from, all_after, IsAt, rows_from}
-use Rattle.fb_types.proofs.Common.{same_Some, Stimulus}
+use Rattle.fb_types.proofs.Common.{same_Some}
+use Rattle.fb_types.specs.declared.deploy.Stimulus.{Stimulus}
 use Rattle.csv.specs.Reading.{FlexibleStep, RowStep, strip_bom}
 use Rattle.csv.specs.Records.{fields_of}
 use Rattle.csv.specs.declared.error.Error.{Error}

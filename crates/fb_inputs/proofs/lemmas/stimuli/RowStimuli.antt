@@ -1,6 +1,7 @@
 -- The stimulus of a row, by what is read of its fields.
 use Rattle.fb_inputs.proofs.lemmas.Common.{◌≡◌, Bool, true, false, not, ◌+◌, ◌<◌, ◌≤◌, ◌^◌, ℕ, List, [], ◌∷◌, Option, Some, None, Ok, Err, refl, sym, ◌∙◌, arith, option_map, nat_le, le-leb, lt-ltb, RowFault, each_at, value_at, setting, stimulus, Text}
-use Rattle.fb_types.proofs.Common.{min, leb-false, leb-true, le-ltb, lt-leb, not-true, same_Some, Setting}
+use Rattle.fb_types.proofs.Common.{min, leb-false, leb-true, le-ltb, lt-leb, not-true, same_Some}
+use Rattle.fb_types.specs.declared.deploy.Setting.{Setting}
 use Rattle.std.proofs.lemmas.Bool.{not-false}
 use Rattle.fb_inputs.specs.declared.location.RowFault.TheVariants as fault
 use Rattle.fb_inputs.specs.declared.row.Draft.{Draft}

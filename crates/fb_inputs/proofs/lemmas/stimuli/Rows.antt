@@ -1,6 +1,7 @@
 -- The stimuli of rows, read one after another.
 use Rattle.fb_inputs.proofs.lemmas.Common.{◌≡◌, ℕ, ◌+◌, ◌≤◌, true, false, List, [], ◌∷◌, ◌++◌, length, Option, Some, None, Ok, Err, refl, sym, ap, ◌∙◌, option_map, length_push, le-leb, IfSome, all_after, fault_of, RowFault, Row, Text, stimulus, stimuli_from, rows_from}
-use Rattle.fb_types.proofs.Common.{append-nil, Stimulus}
+use Rattle.fb_types.proofs.Common.{append-nil}
+use Rattle.fb_types.specs.declared.deploy.Stimulus.{Stimulus}
 use Rattle.csv.specs.Reading.{default_config, records, strip_bom}
 use Rattle.csv.specs.declared.parser.State.{State}
 use Rattle.csv.specs.declared.parser.State.TheVariants as st

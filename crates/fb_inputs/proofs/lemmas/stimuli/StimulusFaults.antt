@@ -1,6 +1,8 @@
 -- Where stimuli are refused, something is wrong.
 use Rattle.fb_inputs.proofs.lemmas.Common.{◌≡◌, ℕ, zero, suc, ◌+◌, Bool, true, false, cond, ltb, List, [], ◌∷◌, length, Option, Some, None, Ok, Err, refl, sym, ap, subst, ◌∙◌, arith, Result, slice_get, ◌^◌, option_map, RowFault, each_at, each_in, placed, value_at, and_then, or_refuse, Row, setting, stimulus, stimuli_from, Text}
-use Rattle.fb_types.proofs.Common.{leb, leb-false, ltb-false, Setting, Stimulus}
+use Rattle.fb_types.proofs.Common.{leb, leb-false, ltb-false}
+use Rattle.fb_types.specs.declared.deploy.Setting.{Setting}
+use Rattle.fb_types.specs.declared.deploy.Stimulus.{Stimulus}
 use Rattle.csv.specs.Reading.{records, default_config, strip_bom}
 use Rattle.fb_inputs.specs.declared.row.Draft.{Draft}
 use Rattle.fb_inputs.specs.declared.row.Word.{Word}

@@ -1,4 +1,5 @@
-use Rattle.fb_types.proofs.Common.{List, ◌++◌, [], ◌∷◌, map, take, sym, ap, ◌∙◌, arith, take_at_read, map-append, take_all, Entry}
+use Rattle.fb_types.proofs.Common.{List, ◌++◌, [], ◌∷◌, map, take, sym, ap, ◌∙◌, arith, take_at_read, map-append, take_all}
+use Rattle.fb_types.specs.declared.latency.Entry.{Entry}
 use Rattle.fb_inputs.specs.Deployments.{entry}
 use Rattle.fb_inputs.proofs.table.entries_of.Goals as goal
 

@@ -1,5 +1,8 @@
 -- The last line of a trace says which stop it is.
-use Rattle.fb_types.proofs.Common.{◌≡◌, ◌<◌, ◌^◌, ℕ, List, [], ◌∷◌, ◌++◌, length, map, codes, Option, Some, None, Contains, refl, sym, ap, ◌∙◌, inl, append_assoc, arith, decimal, flat_map, position, slice_get, unwrap_or, append_cancel_left, Contains-append_right, same_Some, resource_names_of, AreAccepted, Inputs, system_of, Name, same_name, Twice, algorithm_names, basics, block_type_names, instance_names, interfaces, name_spaces, networks, parameter_lists, port_names, state_names, with_lists, AtHorizon, AtStop, System, last_line, reason_text, tick_and_resource_text, ResourceEntry, Reason, Steps, Divide, Range}
+use Rattle.fb_types.proofs.Common.{◌≡◌, ◌<◌, ◌^◌, ℕ, List, [], ◌∷◌, ◌++◌, length, map, codes, Option, Some, None, Contains, refl, sym, ap, ◌∙◌, inl, append_assoc, arith, decimal, flat_map, position, slice_get, unwrap_or, append_cancel_left, Contains-append_right, same_Some, resource_names_of, AreAccepted, Inputs, system_of, Name, same_name, Twice, algorithm_names, basics, block_type_names, instance_names, interfaces, name_spaces, networks, parameter_lists, port_names, state_names, with_lists, AtHorizon, AtStop, System, last_line, reason_text, tick_and_resource_text}
+use Rattle.fb_types.specs.declared.deploy.ResourceEntry.{ResourceEntry}
+use Rattle.fb_types.specs.declared.value.Reason.{Reason}
+use Rattle.fb_types.specs.declared.value.Reason.TheVariants.{Steps, Divide, Range}
 use Rattle.std.proofs.lemmas.List.{append_cancel_right}
 use Rattle.fb_types.proofs.lemmas.lists.Elements.{Contains-here}
 use Rattle.fb_types.proofs.lemmas.lists.Positions.{position_of_once}

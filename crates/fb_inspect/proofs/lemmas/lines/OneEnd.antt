@@ -1,6 +1,7 @@
 -- The last line of a trace where a resource stops says of that stop alone.
 use Rattle.fb_inspect.proofs.lemmas.Common.{◌≡◌, ◌<◌, ◌≤◌, ℕ, zero, suc, List, [], ◌∷◌, ◌++◌, length, get_or, codes, decimal, map, refl, sym, ap, subst, ◌∙◌, inl, inr, arith, append_assoc, Contains, flat_map, slice_get, unwrap_or, append_cancel_left, Contains-append_right, AreAccepted, Inputs, system_of, Name, Twice, algorithm_names, basics, interfaces, networks, AtStop, System, last_line, Library, StopMark, Reason, Divide, Range, Steps, Form, ending_of, Outcome, Stop, IsEndOf, HasNames, IsNext, Next}
-use Rattle.fb_types.proofs.Common.{resource_names_of, block_type_names, instance_names, name_spaces, parameter_lists, port_names, state_names, with_lists, reason_text, Plan}
+use Rattle.fb_types.proofs.Common.{resource_names_of, block_type_names, instance_names, name_spaces, parameter_lists, port_names, state_names, with_lists, reason_text}
+use Rattle.fb_types.specs.declared.deploy.Plan.{Plan}
 use Rattle.fb_types.proofs.lemmas.lists.ByIndex.{element_of_index}
 use Rattle.fb_trace.specs.declared.last.Outcome.TheVariants.{End}
 use Rattle.fb_wave.specs.Reading.{number_text}

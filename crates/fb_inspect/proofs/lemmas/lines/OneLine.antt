@@ -1,6 +1,7 @@
 -- A text is that of one line at most, as far as the form shows it.
 use Rattle.fb_inspect.proofs.lemmas.Common.{◌≡◌, ℕ, true, List, [], ◌∷◌, ◌++◌, length, map, codes, refl, sym, ap, subst, ◌∙◌, arith, append_assoc, and_parts, append_cancel_left, length-map, system_of, Name, line_of, pair_up, path_at, System, line_text, fits, Form, One, Two, Line, Value, line_variables, IsLineOf, IsTextOf, HasNames, fit_each, type_at, Port, PortTable}
-use Rattle.fb_types.proofs.Common.{value_text, values_text, Ty}
+use Rattle.fb_types.proofs.Common.{value_text, values_text}
+use Rattle.fb_types.specs.declared.value.Ty.{Ty}
 use Rattle.fb_system.specs.IndexLists.{variable_at}
 use Rattle.fb_wave.specs.Lines.{line_side}
 use Rattle.fb_wave.specs.Ports.{BeginsWith, IsPortOf, port_text}

@@ -1,5 +1,7 @@
 -- The actions of the state at an index.
-use Rattle.fb_types.proofs.Common.{◌≡◌, ℕ, List, [], Option, Some, None, ◌∙◌, ap, option_and_then, slice_get, named, actions_of, Action, BasicType}
+use Rattle.fb_types.proofs.Common.{◌≡◌, ℕ, List, [], Option, Some, None, ◌∙◌, ap, option_and_then, slice_get, named, actions_of}
+use Rattle.fb_types.specs.declared.library.Action.{Action}
+use Rattle.fb_types.specs.declared.library.BasicType.{BasicType}
 use Rattle.fb_types.specs.declared.library.State.{State}
 use Rattle.fb_st.proofs.lemmas.Indexes.{named_at_index}
 use Rattle.fb_ecc.specs.Indexes.{state_at}

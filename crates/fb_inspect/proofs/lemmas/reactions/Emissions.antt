@@ -1,5 +1,14 @@
 -- What the reaction of a block emits: event outputs of its type, with values of the types of the variables WITH them.
-use Rattle.fb_types.proofs.Common.{◌≡◌, ℕ, zero, suc, Bool, true, false, List, [], ◌∷◌, Option, Some, None, refl, sym, subst, ◌&&◌, ◌||◌, codes, if◌then◌else◌, nat_lt, End, Went, Left, Returned, Stopped, RunsBody, Emission, Event, among, bound, outputs_with, ports_of, types_of, variables_of, Acts, AfterBody, ChartReacts, Clears, Enters, Fails, Halts, Links, Moving, NoneClears, Performs, Position, Rests, Trial, actions_of, algorithm_of, at_point, emitting, trial_at, Each, Name, emissions, event_outs, Values, fits, EventKind, Restart, Split, Merge, Rendezvous, Permit, Select, Switch, Delay, Cycle, SetReset, DataLatch, RisingEdge, FallingEdge, CountUp, Action, BasicType, Ports, Variable, Reason, Steps, Value}
+use Rattle.fb_types.proofs.Common.{◌≡◌, ℕ, zero, suc, Bool, true, false, List, [], ◌∷◌, Option, Some, None, refl, sym, subst, ◌&&◌, ◌||◌, codes, if◌then◌else◌, nat_lt, End, Went, Left, Returned, Stopped, RunsBody, Emission, Event, among, bound, outputs_with, ports_of, types_of, variables_of, Acts, AfterBody, ChartReacts, Clears, Enters, Fails, Halts, Links, Moving, NoneClears, Performs, Position, Rests, Trial, actions_of, algorithm_of, at_point, emitting, trial_at, Each, Name, emissions, event_outs, Values, fits}
+use Rattle.fb_types.specs.declared.event_kind.EventKind.{EventKind}
+use Rattle.fb_types.specs.declared.event_kind.EventKind.TheVariants.{Restart, Split, Merge, Rendezvous, Permit, Select, Switch, Delay, Cycle, SetReset, DataLatch, RisingEdge, FallingEdge, CountUp}
+use Rattle.fb_types.specs.declared.library.Action.{Action}
+use Rattle.fb_types.specs.declared.library.BasicType.{BasicType}
+use Rattle.fb_types.specs.declared.library.Ports.{Ports}
+use Rattle.fb_types.specs.declared.library.Variable.{Variable}
+use Rattle.fb_types.specs.declared.value.Reason.{Reason}
+use Rattle.fb_types.specs.declared.value.Reason.TheVariants.{Steps}
+use Rattle.fb_types.specs.declared.value.Value.{Value}
 use Rattle.fb_types.specs.Charts.{OrHalts}
 use Rattle.fb_types.specs.EventBlocks as blocks
 use Rattle.fb_types.specs.States.{Remembers}

@@ -1,5 +1,13 @@
 -- In a system that was accepted events go to event ports of instances, actions emit event outputs, and indices of ports fit in 32 bits.
-use Rattle.fb_types.proofs.Common.{◌≡◌, Bool, true, false, cond, List, [], ◌∷◌, ◌++◌, map, Option, Some, None, Contains, refl, sym, ap, subst, ◌∙◌, inl, inr, ◌&&◌, flat_map, option_and_then, list_all, and_parts, both_ways, All-contains, Contains-append_left, Contains-append_right, same_Some, BadStimulus, IsGood, Kind, Basic, Composite, Event, among, event_names, is_event_input, named, ports_of, actions_of, IsNarrow, events_inside, instance_in, kind_at, kind_of, kind_of_instance, network_at, pairs_in, parent, port_in, AreAccepted, Inputs, stimuli_of, system_of, TooHigh, Each, Name, Path, Port, same_port, OwnedNetwork, algorithm_names, basics, basics_in, interfaces, networks, stimulus_of, Required, all_of, data_ins, data_outs, ends_known, event_ins, event_outs, is_end, required, required_chart, required_deployment, required_parameters, required_types, required_withs, EventKind, Action, BasicType, BlockType, CompositeType, Connection, Library, Network}
+use Rattle.fb_types.proofs.Common.{◌≡◌, Bool, true, false, cond, List, [], ◌∷◌, ◌++◌, map, Option, Some, None, Contains, refl, sym, ap, subst, ◌∙◌, inl, inr, ◌&&◌, flat_map, option_and_then, list_all, and_parts, both_ways, All-contains, Contains-append_left, Contains-append_right, same_Some, BadStimulus, IsGood, Kind, Basic, Composite, Event, among, event_names, is_event_input, named, ports_of, actions_of, IsNarrow, events_inside, instance_in, kind_at, kind_of, kind_of_instance, network_at, pairs_in, parent, port_in, AreAccepted, Inputs, stimuli_of, system_of, TooHigh, Each, Name, Path, Port, same_port, OwnedNetwork, algorithm_names, basics, basics_in, interfaces, networks, stimulus_of, Required, all_of, data_ins, data_outs, ends_known, event_ins, event_outs, is_end, required, required_chart, required_deployment, required_parameters, required_types, required_withs}
+use Rattle.fb_types.specs.declared.event_kind.EventKind.{EventKind}
+use Rattle.fb_types.specs.declared.library.Action.{Action}
+use Rattle.fb_types.specs.declared.library.BasicType.{BasicType}
+use Rattle.fb_types.specs.declared.library.BlockType.{BlockType}
+use Rattle.fb_types.specs.declared.library.CompositeType.{CompositeType}
+use Rattle.fb_types.specs.declared.library.Connection.{Connection}
+use Rattle.fb_types.specs.declared.library.Library.{Library}
+use Rattle.fb_types.specs.declared.library.Network.{Network}
 use Rattle.std.proofs.Common.{filter}
 use Rattle.std.proofs.lemmas.Bool.{true_from_ne_false}
 use Rattle.fb_types.specs.Accepted.{Applies, kind_of_stimulus}

@@ -1,5 +1,9 @@
 -- The lines that a reaction gives are those of its instance, with values of the types of the variables WITH their events.
-use Rattle.fb_types.proofs.Common.{◌≡◌, ◌⊎◌, ℕ, Bool, true, false, List, [], ◌∷◌, map, Option, Some, None, refl, sym, subst, inl, inr, if◌then◌else◌, both_ways, Basic, Composite, Emission, Event, Kind, among, inputs_with, is_event_input, ports_of, actions_of, variables_in, Each, Name, Path, Port, Outcome, Reacts, ReactsAt, World, crossing_in, crossing_out, emissions, emitted_all, expires, from_inside, hold_all, memory_of, remembered, sampled, settled, shown, silent, start_of, taking, with_slots, Arrived, Block, Expired, Raised, Stimulated, System, event_ins, event_outs, fits, Key, Action, BasicType, CompositeType}
+use Rattle.fb_types.proofs.Common.{◌≡◌, ◌⊎◌, ℕ, Bool, true, false, List, [], ◌∷◌, map, Option, Some, None, refl, sym, subst, inl, inr, if◌then◌else◌, both_ways, Basic, Composite, Emission, Event, Kind, among, inputs_with, is_event_input, ports_of, actions_of, variables_in, Each, Name, Path, Port, Outcome, Reacts, ReactsAt, World, crossing_in, crossing_out, emissions, emitted_all, expires, from_inside, hold_all, memory_of, remembered, sampled, settled, shown, silent, start_of, taking, with_slots, Arrived, Block, Expired, Raised, Stimulated, System, event_ins, event_outs, fits}
+use Rattle.fb_types.specs.declared.key.Key.{Key}
+use Rattle.fb_types.specs.declared.library.Action.{Action}
+use Rattle.fb_types.specs.declared.library.BasicType.{BasicType}
+use Rattle.fb_types.specs.declared.library.CompositeType.{CompositeType}
 use Rattle.fb_types.specs.EventBlocks as blocks
 use Rattle.fb_types.specs.Posted.{emission_line}
 use Rattle.fb_types.specs.States.{Event as AnEvent, Line}

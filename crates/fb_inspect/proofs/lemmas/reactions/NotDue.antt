@@ -1,6 +1,7 @@
 -- Where the timer of an event block does not go off with a line, no taking of it begins with the line.
 use Rattle.fb_inspect.proofs.lemmas.Common.{◌≡◌, ℕ, Bool, List, [], ◌∷◌, map, inl, inr, refl, sym, ◌∙◌, ap, subst, All, All-head, Emission, Event, ports_of_event_block, system_of, Name, emission_of, line_of, path_at, ports_at, memory_of, EventKind, Restart, Ports, Line, IsEmission as IsEmissionOf, HasNames, PortTable, Seen, emission_line, emissions_by, IsBlockKept, EventBlock}
-use Rattle.fb_types.proofs.Common.{All-weaker, Delay, Cycle}
+use Rattle.fb_types.proofs.Common.{All-weaker}
+use Rattle.fb_types.specs.declared.event_kind.EventKind.TheVariants.{Delay, Cycle}
 use Rattle.fb_types.specs.EventBlocks as blocks
 use Rattle.fb_types.specs.States as model
 use Rattle.fb_types.specs.declared.run.Emission as run

@@ -1,5 +1,7 @@
 -- What the blocks remember and the first line determine a taking, and the lines determine a row of takings.
-use Rattle.fb_types.proofs.Common.{◌≡◌, ℕ, zero, suc, true, false, List, [], ◌∷◌, ◌++◌, Option, Some, None, refl, sym, ◌∙◌, ap, subst, inl, inr, append_assoc, append_cancel_left, Kind, Basic, Event, Composite, Emission, Position, memory_of, with_values, InState, System, EventKind, BasicType}
+use Rattle.fb_types.proofs.Common.{◌≡◌, ℕ, zero, suc, true, false, List, [], ◌∷◌, ◌++◌, Option, Some, None, refl, sym, ◌∙◌, ap, subst, inl, inr, append_assoc, append_cancel_left, Kind, Basic, Event, Composite, Emission, Position, memory_of, with_values, InState, System}
+use Rattle.fb_types.specs.declared.event_kind.EventKind.{EventKind}
+use Rattle.fb_types.specs.declared.library.BasicType.{BasicType}
 use Rattle.fb_types.specs.EventBlocks as blocks
 use Rattle.fb_types.specs.States.{Line}
 use Rattle.fb_inspect.specs.Inspections.{AreTakings, all_lines}

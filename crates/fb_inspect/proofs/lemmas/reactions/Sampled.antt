@@ -1,6 +1,6 @@
 -- What an event block samples: all its inputs, or none.
 use Rattle.fb_inspect.proofs.lemmas.Common.{◌≡◌, ◌<◌, ◌≤◌, ◌⊎◌, ℕ, zero, suc, Bool, true, List, [], ◌∷◌, ◌++◌, length, map, Some, refl, sym, ◌∙◌, ap, subst, arith, inl, inr, if◌then◌else◌, and_parts, Bound, inputs_with, ports_of_event_block, variable_names, Name, event_at, pair_up, with_values, Values, fits, EventKind, Variable, Value, AllFit, FitInputs, AreIndexes, fit_each, type_at}
-use Rattle.fb_types.proofs.Common.{Ty}
+use Rattle.fb_types.specs.declared.value.Ty.{Ty}
 use Rattle.fb_types.specs.declared.event_kind.EventKind.TheVariants as kind
 use Rattle.fb_types.proofs.lemmas.lists.ByIndex.{all_at}
 use Rattle.fb_types.proofs.lemmas.events.EventCounts.{one_input}

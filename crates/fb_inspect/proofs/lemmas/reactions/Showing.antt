@@ -1,5 +1,9 @@
 -- What is shown of a reaction, put together from its steps.
-use Rattle.fb_types.proofs.Common.{◌≡◌, ℕ, zero, suc, List, [], ◌∷◌, ◌++◌, map, Option, Some, None, refl, sym, ◌∙◌, ap, subst, append_assoc, append-nil, Name, End, Went, Left, Returned, Stopped, bound, outputs_with, Emission, Position, Moving, Acts, AfterBody, Performs, Trial, Clears, NoneClears, Fails, Rests, trial_at, leaving, actions_of, emitting, at_point, Values, Action, BasicType, Transition, Reason}
+use Rattle.fb_types.proofs.Common.{◌≡◌, ℕ, zero, suc, List, [], ◌∷◌, ◌++◌, map, Option, Some, None, refl, sym, ◌∙◌, ap, subst, append_assoc, append-nil, Name, End, Went, Left, Returned, Stopped, bound, outputs_with, Emission, Position, Moving, Acts, AfterBody, Performs, Trial, Clears, NoneClears, Fails, Rests, trial_at, leaving, actions_of, emitting, at_point, Values}
+use Rattle.fb_types.specs.declared.library.Action.{Action}
+use Rattle.fb_types.specs.declared.library.BasicType.{BasicType}
+use Rattle.fb_types.specs.declared.library.Transition.{Transition}
+use Rattle.fb_types.specs.declared.value.Reason.{Reason}
 use Rattle.fb_ecc.specs.Steps.{first_true}
 use Rattle.fb_inspect.specs.walk.Chains.{Piece, Clears_by, Ran, Emits, Showing, Silent, emission_pieces, ShowsAfter, ShowsPerform, ShowsEmission, ShowsActs, rest_pieces, ShowsOr, ShowsEnters, ShowsLinks, ShowsChain}
 

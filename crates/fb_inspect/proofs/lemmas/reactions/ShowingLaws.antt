@@ -1,5 +1,10 @@
 -- Each reaction is shown, and in one way.
-use Rattle.fb_types.proofs.Common.{◌≡◌, ℕ, zero, suc, true, false, List, [], ◌∷◌, ◌++◌, Option, Some, None, Ok, Err, refl, sym, ◌∙◌, ap, subst, Name, Point, End, Went, Left, Returned, Stopped, types_of, Position, Moving, Acts, AfterBody, ChartReacts, Enters, Links, Performs, Trial, Clears, NoneClears, Fails, Rests, trial_at, trial_of, by_condition, is_true, leaving, actions_of, algorithm_of, at_point, emitting, Values, Action, BasicType, Transition, Reason, Steps}
+use Rattle.fb_types.proofs.Common.{◌≡◌, ℕ, zero, suc, true, false, List, [], ◌∷◌, ◌++◌, Option, Some, None, Ok, Err, refl, sym, ◌∙◌, ap, subst, Name, Point, End, Went, Left, Returned, Stopped, types_of, Position, Moving, Acts, AfterBody, ChartReacts, Enters, Links, Performs, Trial, Clears, NoneClears, Fails, Rests, trial_at, trial_of, by_condition, is_true, leaving, actions_of, algorithm_of, at_point, emitting, Values}
+use Rattle.fb_types.specs.declared.library.Action.{Action}
+use Rattle.fb_types.specs.declared.library.BasicType.{BasicType}
+use Rattle.fb_types.specs.declared.library.Transition.{Transition}
+use Rattle.fb_types.specs.declared.value.Reason.{Reason}
+use Rattle.fb_types.specs.declared.value.Reason.TheVariants.{Steps}
 use Rattle.fb_types.specs.Charts.{OrHalts}
 use Rattle.fb_types.proofs.lemmas.determined.BodyLaws.{body-one}
 use Rattle.fb_ecc.specs.Steps.{first_by, first_true}

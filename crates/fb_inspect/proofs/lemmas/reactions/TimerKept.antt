@@ -1,5 +1,7 @@
 -- A timer that is set goes off with an emission.
-use Rattle.fb_types.proofs.Common.{◌≡◌, ℕ, Bool, true, false, ◌||◌, ◌&&◌, List, [], ◌∷◌, refl, if◌then◌else◌, codes, nat_lt, Name, Values, Memory, Idle, Marks, Flag, Count, Reaction, reaction, expiry, started, counted, is, EventKind, Restart, Split, Merge, Rendezvous, Permit, Select, Switch, Delay, Cycle, SetReset, DataLatch, RisingEdge, FallingEdge, CountUp}
+use Rattle.fb_types.proofs.Common.{◌≡◌, ℕ, Bool, true, false, ◌||◌, ◌&&◌, List, [], ◌∷◌, refl, if◌then◌else◌, codes, nat_lt, Name, Values, Memory, Idle, Marks, Flag, Count, Reaction, reaction, expiry, started, counted, is}
+use Rattle.fb_types.specs.declared.event_kind.EventKind.{EventKind}
+use Rattle.fb_types.specs.declared.event_kind.EventKind.TheVariants.{Restart, Split, Merge, Rendezvous, Permit, Select, Switch, Delay, Cycle, SetReset, DataLatch, RisingEdge, FallingEdge, CountUp}
 use Rattle.fb_types.specs.EventBlocks.{Running, emits_if, rendezvous}
 use Rattle.fb_inspect.specs.walk.RunTakings.{MayRun, RunsAfter}
 

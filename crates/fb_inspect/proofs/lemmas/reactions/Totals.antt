@@ -1,5 +1,10 @@
 -- Each movement of a chart goes somewhere, and is shown.
-use Rattle.fb_types.proofs.Common.{◌≡◌, ◌<◌, ◌≤◌, ℕ, zero, suc, List, [], ◌∷◌, ◌++◌, Bool, true, false, Option, Some, None, Result, Ok, Err, refl, arith, types_of, End, Went, Left, Returned, Stopped, Position, Trial, Clears, NoneClears, Fails, trial_at, trial_of, by_condition, is_true, leaving, actions_of, algorithm_of, at_point, emitting, Name, Values, Action, BasicType, Transition, Reason, Steps}
+use Rattle.fb_types.proofs.Common.{◌≡◌, ◌<◌, ◌≤◌, ℕ, zero, suc, List, [], ◌∷◌, ◌++◌, Bool, true, false, Option, Some, None, Result, Ok, Err, refl, arith, types_of, End, Went, Left, Returned, Stopped, Position, Trial, Clears, NoneClears, Fails, trial_at, trial_of, by_condition, is_true, leaving, actions_of, algorithm_of, at_point, emitting, Name, Values}
+use Rattle.fb_types.specs.declared.library.Action.{Action}
+use Rattle.fb_types.specs.declared.library.BasicType.{BasicType}
+use Rattle.fb_types.specs.declared.library.Transition.{Transition}
+use Rattle.fb_types.specs.declared.value.Reason.{Reason}
+use Rattle.fb_types.specs.declared.value.Reason.TheVariants.{Steps}
 use Rattle.fb_laws.proofs.lemmas.existence.BodyTotal.{body_total}
 use Rattle.fb_inspect.specs.walk.Chains.{Piece, Clears_by, Ran, Showing, ShowsActs, ShowsAfter, ShowsChain, ShowsEmission, ShowsPerform, emission_pieces, rest_pieces}
 use Rattle.fb_inspect.proofs.lemmas.reactions.Showing.{chain_fails, chain_goes_on, chain_rests, chain_stops}

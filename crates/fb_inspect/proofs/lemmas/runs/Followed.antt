@@ -1,5 +1,9 @@
 -- A walk through the trace of a run follows it: takings with the lines of the run, which end as it ends.
-use Rattle.fb_types.proofs.Common.{◌≡◌, ◌⊎◌, ℕ, zero, suc, ◌+◌, ◌-◌, ◌<◌, ◌≤◌, ◌^◌, min, Bool, true, false, cond, List, [], ◌∷◌, ◌++◌, Option, Some, None, refl, sym, ◌∙◌, ap, subst, inl, inr, arith, All, ◌==◌, flat_map, if◌then◌else◌, cases_eq, eq-eqb, All-head, All-tail, Kind, Event, found, timer_key, Each, Path, Outcome, Reacts, AtHorizon, AtStop, Chain, Ending, IsSimulation, NothingAfter as NothingTaken, Taken, ending_by, ending_of, lines_of, opening, opening_events, restart_of, stimuli_from, Arrived, Config, Expired, Meter, Raised, State, Stimulated, path_of, System, Effect, Takes, TakesWith, agenda_after, begun, effect_of, out_of_steps, posts_of, world_of, Restart, Key, Reason, Steps, Divide, Range}
+use Rattle.fb_types.proofs.Common.{◌≡◌, ◌⊎◌, ℕ, zero, suc, ◌+◌, ◌-◌, ◌<◌, ◌≤◌, ◌^◌, min, Bool, true, false, cond, List, [], ◌∷◌, ◌++◌, Option, Some, None, refl, sym, ◌∙◌, ap, subst, inl, inr, arith, All, ◌==◌, flat_map, if◌then◌else◌, cases_eq, eq-eqb, All-head, All-tail, Kind, Event, found, timer_key, Each, Path, Outcome, Reacts, AtHorizon, AtStop, Chain, Ending, IsSimulation, NothingAfter as NothingTaken, Taken, ending_by, ending_of, lines_of, opening, opening_events, restart_of, stimuli_from, Arrived, Config, Expired, Meter, Raised, State, Stimulated, path_of, System, Effect, Takes, TakesWith, agenda_after, begun, effect_of, out_of_steps, posts_of, world_of}
+use Rattle.fb_types.specs.declared.event_kind.EventKind.TheVariants.{Restart}
+use Rattle.fb_types.specs.declared.key.Key.{Key}
+use Rattle.fb_types.specs.declared.value.Reason.{Reason}
+use Rattle.fb_types.specs.declared.value.Reason.TheVariants.{Steps, Divide, Range}
 use Rattle.fb_types.specs.Simulation.{Stimulus}
 use Rattle.fb_types.specs.States.{Event as AnEvent, Line}
 use Rattle.fb_types.proofs.lemmas.lists.EachLaws.{each_append}

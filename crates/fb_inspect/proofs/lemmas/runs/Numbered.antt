@@ -1,5 +1,8 @@
 -- Each instance of a system that was accepted is at its number.
-use Rattle.fb_types.proofs.Common.{◌≡◌, ◌⊎◌, ◌<◌, ℕ, zero, suc, ◌+◌, Bool, true, false, List, [], ◌∷◌, length, Option, Some, Contains, inl, inr, refl, sym, ap, subst, ◌∙◌, arith, option_map, position, slice_get, unwrap_or, both_ways, same_Some, Kind, inside, instance_at, instance_in, kind_at, kind_of_instance, network_at, paths_inside, paths_of, TooHigh, Name, Path, same_path, Instance, Library, Network}
+use Rattle.fb_types.proofs.Common.{◌≡◌, ◌⊎◌, ◌<◌, ℕ, zero, suc, ◌+◌, Bool, true, false, List, [], ◌∷◌, length, Option, Some, Contains, inl, inr, refl, sym, ap, subst, ◌∙◌, arith, option_map, position, slice_get, unwrap_or, both_ways, same_Some, Kind, inside, instance_at, instance_in, kind_at, kind_of_instance, network_at, paths_inside, paths_of, TooHigh, Name, Path, same_path}
+use Rattle.fb_types.specs.declared.library.Instance.{Instance}
+use Rattle.fb_types.specs.declared.library.Library.{Library}
+use Rattle.fb_types.specs.declared.library.Network.{Network}
 use Rattle.fb_types.specs.Flat.{number_of}
 use Rattle.fb_types.proofs.lemmas.lists.Elements.{Contains-cons_cases, Contains-flat_map, Contains-here, Contains-nil, Contains-there}
 use Rattle.fb_types.proofs.lemmas.names.NameLaws.{named-Contains}

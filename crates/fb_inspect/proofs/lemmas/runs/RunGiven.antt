@@ -1,5 +1,11 @@
 -- The lines of a run of what was accepted are those of its instances, with values of the types of the variables WITH their events.
-use Rattle.fb_types.proofs.Common.{◌≡◌, ◌⊎◌, ℕ, suc, ◌+◌, Bool, true, false, List, [], ◌∷◌, Option, Some, None, All, refl, sym, ◌∙◌, ap, subst, inl, inr, flat_map, if◌then◌else◌, Basic, Event, Kind, actions_of, AreAccepted, Inputs, stimuli_of, system_of, found, or_else, same_key, timer_key, without, Each, Name, Path, Port, Outcome, Reacts, Chain, IsSimulation, Taken, TakesLeast, after, opening, opening_events, restart_of, stimuli_from, Agenda, Arrived, Config, Expired, Meter, Raised, State, Stimulated, path_of, System, Effect, agenda_after, begun, effect_of, is_timer_of, out_of_steps, posts_of, put_of, timer_change, world_of, Restart, Key, Action, BasicType, TimerAsk, Keep, Clear, At}
+use Rattle.fb_types.proofs.Common.{◌≡◌, ◌⊎◌, ℕ, suc, ◌+◌, Bool, true, false, List, [], ◌∷◌, Option, Some, None, All, refl, sym, ◌∙◌, ap, subst, inl, inr, flat_map, if◌then◌else◌, Basic, Event, Kind, actions_of, AreAccepted, Inputs, stimuli_of, system_of, found, or_else, same_key, timer_key, without, Each, Name, Path, Port, Outcome, Reacts, Chain, IsSimulation, Taken, TakesLeast, after, opening, opening_events, restart_of, stimuli_from, Agenda, Arrived, Config, Expired, Meter, Raised, State, Stimulated, path_of, System, Effect, agenda_after, begun, effect_of, is_timer_of, out_of_steps, posts_of, put_of, timer_change, world_of}
+use Rattle.fb_types.specs.declared.event_kind.EventKind.TheVariants.{Restart}
+use Rattle.fb_types.specs.declared.key.Key.{Key}
+use Rattle.fb_types.specs.declared.library.Action.{Action}
+use Rattle.fb_types.specs.declared.library.BasicType.{BasicType}
+use Rattle.fb_types.specs.declared.run.TimerAsk.{TimerAsk}
+use Rattle.fb_types.specs.declared.run.TimerAsk.TheVariants.{Keep, Clear, At}
 use Rattle.fb_types.specs.Simulation.{Stimulus}
 use Rattle.fb_types.specs.States.{Event as AnEvent}
 use Rattle.fb_types.proofs.lemmas.lists.EachLaws.{each_append}

@@ -1,5 +1,11 @@
 -- The events that wait in a run are ones that a walk through its trace can take.
-use Rattle.fb_types.proofs.Common.{◌≡◌, ◌⊎◌, ℕ, Bool, true, false, eqb, List, [], ◌∷◌, Option, Some, None, refl, sym, ◌∙◌, ap, subst, inl, inr, ⊎_elim, ◌&&◌, if◌then◌else◌, cases_eq, eq-eqb, ne_eqb, same_Some, Kind, Basic, Event, Composite, Emission, is_event_input, ports_of, changed_to, found, local_key, message_key, or_else, same_key, timer_key, without, Each, Path, Port, same_path, Out, Outcome, Reacts, ReactsAt, Sends, World, answered, carried_from, crossing_in, crossing_out, emissions, emitted, emitted_all, expires, hold_all, memory_of, remembered, silent, spread, taking, with_slots, Agenda, Arrived, Expired, Meter, Raised, State, Stimulated, path_of, System, Posts, agenda_after, effect_of, is_timer_of, post, post_all, posts_of, put_of, timer_change, EventKind, Key, CompositeType, TimerAsk, Keep, Clear, At, Value}
+use Rattle.fb_types.proofs.Common.{◌≡◌, ◌⊎◌, ℕ, Bool, true, false, eqb, List, [], ◌∷◌, Option, Some, None, refl, sym, ◌∙◌, ap, subst, inl, inr, ⊎_elim, ◌&&◌, if◌then◌else◌, cases_eq, eq-eqb, ne_eqb, same_Some, Kind, Basic, Event, Composite, Emission, is_event_input, ports_of, changed_to, found, local_key, message_key, or_else, same_key, timer_key, without, Each, Path, Port, same_path, Out, Outcome, Reacts, ReactsAt, Sends, World, answered, carried_from, crossing_in, crossing_out, emissions, emitted, emitted_all, expires, hold_all, memory_of, remembered, silent, spread, taking, with_slots, Agenda, Arrived, Expired, Meter, Raised, State, Stimulated, path_of, System, Posts, agenda_after, effect_of, is_timer_of, post, post_all, posts_of, put_of, timer_change}
+use Rattle.fb_types.specs.declared.event_kind.EventKind.{EventKind}
+use Rattle.fb_types.specs.declared.key.Key.{Key}
+use Rattle.fb_types.specs.declared.library.CompositeType.{CompositeType}
+use Rattle.fb_types.specs.declared.run.TimerAsk.{TimerAsk}
+use Rattle.fb_types.specs.declared.run.TimerAsk.TheVariants.{Keep, Clear, At}
+use Rattle.fb_types.specs.declared.value.Value.{Value}
 use Rattle.fb_types.specs.EventBlocks as blocks
 use Rattle.fb_types.specs.Reactions.{Local}
 use Rattle.fb_types.specs.States.{Event as AnEvent}

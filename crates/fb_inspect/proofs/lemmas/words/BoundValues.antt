@@ -1,6 +1,7 @@
 -- The values of a line, as far as they were read.
 use Rattle.fb_inspect.proofs.lemmas.Common.{◌≡◌, ℕ, ◌<◌, List, [], ◌∷◌, ◌++◌, length, get_or, sym, ap, subst, ◌∙◌, Option, Some, None, length-map, Name, pair_up, System, Variable, Value, AreIndexes, type_at, Port}
-use Rattle.fb_types.proofs.Common.{MatchOption, values_text, Ty}
+use Rattle.fb_types.proofs.Common.{MatchOption, values_text}
+use Rattle.fb_types.specs.declared.value.Ty.{Ty}
 use Rattle.fb_wave.specs.Lines.{AreValuesOf, port_side, port_variables}
 use Rattle.fb_wave.specs.Reading.{AreRead, IsNoValue, IsUnbound, name_at}
 use Rattle.fb_wave.proofs.lemmas.Valued.{AreSoFar, name_at-get_or, type_at-get_or}

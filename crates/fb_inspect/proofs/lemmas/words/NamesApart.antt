@@ -1,5 +1,6 @@
 -- Names that are the same bytes, and names that are not.
-use Rattle.fb_types.proofs.Common.{◌≡◌, ℕ, ◌<◌, Bool, true, false, List, [], ◌∷◌, length, get_or, cond, refl, sym, ap, ◌∙◌, arith, Some, None, nat_lt, not, position, unwrap_or, position_or_len, both_ways, nat_tests, slice_get-get_or, slice_get-map, event_at, EventPort}
+use Rattle.fb_types.proofs.Common.{◌≡◌, ℕ, ◌<◌, Bool, true, false, List, [], ◌∷◌, length, get_or, cond, refl, sym, ap, ◌∙◌, arith, Some, None, nat_lt, not, position, unwrap_or, position_or_len, both_ways, nat_tests, slice_get-get_or, slice_get-map, event_at}
+use Rattle.fb_types.specs.declared.library.EventPort.{EventPort}
 use Rattle.std.proofs.Common.{Decides}
 use Rattle.std.proofs.lemmas.List.Sums.{position_or_len_is}
 

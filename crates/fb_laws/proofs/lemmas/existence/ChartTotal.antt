@@ -1,5 +1,10 @@
 -- Every chart reacts, and leaves no more steps than there were.
-use Rattle.fb_types.proofs.Common.{◌≡◌, ℕ, zero, suc, ◌<◌, ◌≤◌, refl, sym, subst, List, [], ◌∷◌, Bool, true, false, Option, Some, None, Result, Ok, Err, arith, Name, Values, End, Went, Left, Returned, Stopped, types_of, Position, Moving, Performs, AfterBody, Acts, Trial, Clears, NoneClears, Fails, Rests, Enters, Links, ChartReacts, is_true, by_condition, trial_of, trial_at, leaving, actions_of, algorithm_of, at_point, emitting, Action, Transition, BasicType, Reason, Steps}
+use Rattle.fb_types.proofs.Common.{◌≡◌, ℕ, zero, suc, ◌<◌, ◌≤◌, refl, sym, subst, List, [], ◌∷◌, Bool, true, false, Option, Some, None, Result, Ok, Err, arith, Name, Values, End, Went, Left, Returned, Stopped, types_of, Position, Moving, Performs, AfterBody, Acts, Trial, Clears, NoneClears, Fails, Rests, Enters, Links, ChartReacts, is_true, by_condition, trial_of, trial_at, leaving, actions_of, algorithm_of, at_point, emitting}
+use Rattle.fb_types.specs.declared.library.Action.{Action}
+use Rattle.fb_types.specs.declared.library.Transition.{Transition}
+use Rattle.fb_types.specs.declared.library.BasicType.{BasicType}
+use Rattle.fb_types.specs.declared.value.Reason.{Reason}
+use Rattle.fb_types.specs.declared.value.Reason.TheVariants.{Steps}
 use Rattle.fb_laws.proofs.lemmas.existence.BodyTotal.{body_total}
 
 -- how many steps a trial leaves

@@ -1,5 +1,11 @@
 -- Every event can be taken: a taking that does not stop leaves fewer steps.
-use Rattle.fb_types.proofs.Common.{◌≡◌, ℕ, zero, suc, ◌<◌, ◌≤◌, ◌⊎◌, refl, sym, ap, ◌∙◌, inl, inr, ⊎_elim, List, [], ◌∷◌, ◌++◌, Bool, true, false, Option, Some, None, arith, if◌then◌else◌, ◌==◌, cond-true, eq-eqb, Path, Port, same_key, found, timer_key, Kind, Basic, Event as EventBlock, Composite, ports_of, is_event_input, System, State, Meter, Stimulated, Expired, Arrived, Raised, path_of, World, Outcome, settled, charted, answered, emissions, remembered, taking, start_of, silent, expires, crossing_in, crossing_out, with_slots, hold_all, memory_of, ReactsAt, Reacts, Effect, Takes, TakesWith, begun, world_of, posts_of, effect_of, out_of_steps, put_of, is_timer_of, timer_change, Key, Steps, Ports, EventKind, TimerAsk, Keep, Clear, At}
+use Rattle.fb_types.proofs.Common.{◌≡◌, ℕ, zero, suc, ◌<◌, ◌≤◌, ◌⊎◌, refl, sym, ap, ◌∙◌, inl, inr, ⊎_elim, List, [], ◌∷◌, ◌++◌, Bool, true, false, Option, Some, None, arith, if◌then◌else◌, ◌==◌, cond-true, eq-eqb, Path, Port, same_key, found, timer_key, Kind, Basic, Event as EventBlock, Composite, ports_of, is_event_input, System, State, Meter, Stimulated, Expired, Arrived, Raised, path_of, World, Outcome, settled, charted, answered, emissions, remembered, taking, start_of, silent, expires, crossing_in, crossing_out, with_slots, hold_all, memory_of, ReactsAt, Reacts, Effect, Takes, TakesWith, begun, world_of, posts_of, effect_of, out_of_steps, put_of, is_timer_of, timer_change}
+use Rattle.fb_types.specs.declared.key.Key.{Key}
+use Rattle.fb_types.specs.declared.value.Reason.TheVariants.{Steps}
+use Rattle.fb_types.specs.declared.library.Ports.{Ports}
+use Rattle.fb_types.specs.declared.event_kind.EventKind.{EventKind}
+use Rattle.fb_types.specs.declared.run.TimerAsk.{TimerAsk}
+use Rattle.fb_types.specs.declared.run.TimerAsk.TheVariants.{Keep, Clear, At}
 use Rattle.fb_types.specs.EventBlocks as blocks
 use Rattle.fb_types.specs.States.{Event}
 use Rattle.fb_types.proofs.lemmas.events.KeyLaws.{same_key_is}

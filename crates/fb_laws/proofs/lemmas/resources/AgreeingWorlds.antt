@@ -1,5 +1,10 @@
 -- A reaction reads only the part of its resource: if two worlds agree on it, the outcomes agree.
-use Rattle.fb_types.proofs.Common.{◌≡◌, ℕ, refl, sym, subst, List, [], ◌∷◌, ◌++◌, Bool, true, false, Option, Some, None, if◌then◌else◌, ◌==◌, eqb-true, Name, Path, same_path, same_port, Port, Kind, Basic, Event, Composite, ports_of, is_event_input, inputs_with, outputs_with, bound, Bound, Emission, among, Position, ChartReacts, System, Block, InState, Stimulated, Expired, Arrived, Raised, path_of, World, Outcome, with_block, shown, sampled_from, sampled, emitted, emitted_all, settled, remembered, charted, answered, emissions, taking, crossing_in, crossing_out, from_inside, silent, expires, with_slots, with_values, hold_all, ReactsAt, Reacts, memory_of, state_of, start_of, spread, carried_from, Key, Value, Reason, Ports, EventKind}
+use Rattle.fb_types.proofs.Common.{◌≡◌, ℕ, refl, sym, subst, List, [], ◌∷◌, ◌++◌, Bool, true, false, Option, Some, None, if◌then◌else◌, ◌==◌, eqb-true, Name, Path, same_path, same_port, Port, Kind, Basic, Event, Composite, ports_of, is_event_input, inputs_with, outputs_with, bound, Bound, Emission, among, Position, ChartReacts, System, Block, InState, Stimulated, Expired, Arrived, Raised, path_of, World, Outcome, with_block, shown, sampled_from, sampled, emitted, emitted_all, settled, remembered, charted, answered, emissions, taking, crossing_in, crossing_out, from_inside, silent, expires, with_slots, with_values, hold_all, ReactsAt, Reacts, memory_of, state_of, start_of, spread, carried_from}
+use Rattle.fb_types.specs.declared.key.Key.{Key}
+use Rattle.fb_types.specs.declared.value.Value.{Value}
+use Rattle.fb_types.specs.declared.value.Reason.{Reason}
+use Rattle.fb_types.specs.declared.library.Ports.{Ports}
+use Rattle.fb_types.specs.declared.event_kind.EventKind.{EventKind}
 use Rattle.fb_types.specs.EventBlocks as blocks
 use Rattle.fb_types.specs.States.{Remembers, Event as AnEvent}
 use Rattle.fb_types.specs.Reactions.{with_held, seen, is_input_of}

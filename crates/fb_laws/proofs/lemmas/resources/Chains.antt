@@ -1,5 +1,6 @@
 -- The takes of one resource by itself: they are determined, and what arrives later changes nothing before.
-use Rattle.fb_types.proofs.Common.{◌≡◌, ℕ, ◌<◌, ◌≤◌, Some, None, List, [], ◌∷◌, ◌++◌, refl, sym, ap, ◌∙◌, subst, ⊎_elim, append_assoc, arith, if◌then◌else◌, lt-ltb, le-ltb, cases_lt, cond-true, cond-false, Key, same_key, changed_to, clock_after, Machine, Item, Local, Each, waiting, TakesAlone, end, Run, sent_by, cut}
+use Rattle.fb_types.proofs.Common.{◌≡◌, ℕ, ◌<◌, ◌≤◌, Some, None, List, [], ◌∷◌, ◌++◌, refl, sym, ap, ◌∙◌, subst, ⊎_elim, append_assoc, arith, if◌then◌else◌, lt-ltb, le-ltb, cases_lt, cond-true, cond-false, same_key, changed_to, clock_after, Machine, Item, Local, Each, waiting, TakesAlone, end, Run, sent_by, cut}
+use Rattle.fb_types.specs.declared.key.Key.{Key}
 use Rattle.fb_types.specs.Cores.{stop_or}
 use Rattle.fb_types.specs.Machines.{Outcome, after, Chain, lines_of}
 use Rattle.fb_laws.specs.Facts.{IsLawful}

@@ -1,5 +1,6 @@
 -- Families of runs that hear one another: they are determined.
-use Rattle.fb_types.proofs.Common.{◌≡◌, ℕ, zero, suc, ◌<◌, ◌≤◌, min, Option, Some, None, List, refl, sym, ap, ◌∙◌, subst, arith, Key, found, Machine, Item, Local, Each, Run, sent_by, cut}
+use Rattle.fb_types.proofs.Common.{◌≡◌, ℕ, zero, suc, ◌<◌, ◌≤◌, min, Option, Some, None, List, refl, sym, ap, ◌∙◌, subst, arith, found, Machine, Item, Local, Each, Run, sent_by, cut}
+use Rattle.fb_types.specs.declared.key.Key.{Key}
 use Rattle.fb_laws.specs.Facts.{IsLawful}
 use Rattle.fb_types.proofs.lemmas.lists.Lookups.{none_since}
 use Rattle.fb_laws.proofs.lemmas.resources.Chains.{Agree, run_unique, cut_run, cut_zero}

@@ -1,5 +1,6 @@
 -- The messages of all outboxes: under a key is what the outbox of its sender has.
-use Rattle.fb_types.proofs.Common.{◌≡◌, ℕ, zero, suc, Option, Some, None, List, [], ◌∷◌, refl, sym, ap, ◌∙◌, arith, flat_map, slice_get, if◌then◌else◌, Key, same_key, or_else, found}
+use Rattle.fb_types.proofs.Common.{◌≡◌, ℕ, zero, suc, Option, Some, None, List, [], ◌∷◌, refl, sym, ap, ◌∙◌, arith, flat_map, slice_get, if◌then◌else◌, same_key, or_else, found}
+use Rattle.fb_types.specs.declared.key.Key.{Key}
 use Rattle.fb_types.proofs.lemmas.events.KeyLaws.{same_key_itself}
 use Rattle.fb_types.proofs.lemmas.lists.Lookups.{none_since, or_else_none, or_else_nones, found-append}
 

@@ -1,5 +1,12 @@
 -- Every accepted system is sound.
-use Rattle.fb_types.proofs.Common.{◌≡◌, ℕ, zero, suc, ◌<◌, ◌≤◌, refl, sym, ap, ◌∙◌, subst, inl, inr, ⊎_elim, List, [], ◌∷◌, ◌++◌, map, length, Bool, true, false, ◌&&◌, Option, Some, None, arith, flat_map, ◌^◌, cond, slice_get, slice_index_or, unwrap_or, Contains, nat_le, filter, position_or_len, lt-ltb, le-ltb, cases_lt, cases_Bool, and_parts, length-map, All-contains, Contains-append_left, Contains-append_right, slice_get_within, slice_get-get_or, unwrap_or-slice_get, Name, Path, same_name, Port, same_port, among, last_of, network_at, parent, port_in, pairs_in, events_inside, targets_of, resource_names_of, holder, resource_of, latency_at, Twice, block_type_names, port_names, basics, algorithm_names, state_names, networks, instance_names, with_lists, interfaces, parameter_lists, name_spaces, NoLink, Inputs, system_of, Each, Library, Connection, PortName, Network, Entry, Plan, Link}
+use Rattle.fb_types.proofs.Common.{◌≡◌, ℕ, zero, suc, ◌<◌, ◌≤◌, refl, sym, ap, ◌∙◌, subst, inl, inr, ⊎_elim, List, [], ◌∷◌, ◌++◌, map, length, Bool, true, false, ◌&&◌, Option, Some, None, arith, flat_map, ◌^◌, cond, slice_get, slice_index_or, unwrap_or, Contains, nat_le, filter, position_or_len, lt-ltb, le-ltb, cases_lt, cases_Bool, and_parts, length-map, All-contains, Contains-append_left, Contains-append_right, slice_get_within, slice_get-get_or, unwrap_or-slice_get, Name, Path, same_name, Port, same_port, among, last_of, network_at, parent, port_in, pairs_in, events_inside, targets_of, resource_names_of, holder, resource_of, latency_at, Twice, block_type_names, port_names, basics, algorithm_names, state_names, networks, instance_names, with_lists, interfaces, parameter_lists, name_spaces, NoLink, Inputs, system_of, Each}
+use Rattle.fb_types.specs.declared.library.Library.{Library}
+use Rattle.fb_types.specs.declared.library.Connection.{Connection}
+use Rattle.fb_types.specs.declared.library.PortName.{PortName}
+use Rattle.fb_types.specs.declared.library.Network.{Network}
+use Rattle.fb_types.specs.declared.latency.Entry.{Entry}
+use Rattle.fb_types.specs.declared.deploy.Plan.{Plan}
+use Rattle.fb_types.specs.declared.deploy.Link.{Link}
 use Rattle.std.specs.List.{position}
 use Rattle.std.proofs.lemmas.List.Quantifiers.{position-Some}
 use Rattle.std.proofs.lemmas.List.Sums.{position_or_len_is}

@@ -1,6 +1,11 @@
 -- What a reaction emits: events to its own resource, messages over its links, lines under its key, timers of now or
 -- later.
-use Rattle.fb_types.proofs.Common.{◌≡◌, ℕ, refl, sym, subst, ⊎_elim, List, [], ◌∷◌, Bool, true, false, Option, Some, None, if◌then◌else◌, cases_eq, eq-eqb, ne_eqb, Path, Port, Kind, Basic, Event, Composite, ports_of, is_event_input, bound, outputs_with, Emission, Position, System, Stimulated, Expired, Arrived, Raised, path_of, World, Outcome, Out, Sends, emitted, emitted_all, charted, answered, taking, crossing_in, crossing_out, silent, expires, settled, remembered, from_inside, emissions, with_slots, hold_all, ReactsAt, Reacts, memory_of, spread, carried_from, Each, Key, Value, Reason, Ports, EventKind}
+use Rattle.fb_types.proofs.Common.{◌≡◌, ℕ, refl, sym, subst, ⊎_elim, List, [], ◌∷◌, Bool, true, false, Option, Some, None, if◌then◌else◌, cases_eq, eq-eqb, ne_eqb, Path, Port, Kind, Basic, Event, Composite, ports_of, is_event_input, bound, outputs_with, Emission, Position, System, Stimulated, Expired, Arrived, Raised, path_of, World, Outcome, Out, Sends, emitted, emitted_all, charted, answered, taking, crossing_in, crossing_out, silent, expires, settled, remembered, from_inside, emissions, with_slots, hold_all, ReactsAt, Reacts, memory_of, spread, carried_from, Each}
+use Rattle.fb_types.specs.declared.key.Key.{Key}
+use Rattle.fb_types.specs.declared.value.Value.{Value}
+use Rattle.fb_types.specs.declared.value.Reason.{Reason}
+use Rattle.fb_types.specs.declared.library.Ports.{Ports}
+use Rattle.fb_types.specs.declared.event_kind.EventKind.{EventKind}
 use Rattle.fb_types.specs.EventBlocks as blocks
 use Rattle.fb_types.specs.States.{Event as AnEvent, Line}
 use Rattle.fb_types.specs.Reactions.{Local}

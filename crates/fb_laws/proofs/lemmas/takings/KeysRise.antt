@@ -1,6 +1,7 @@
 -- Every key under which a taking puts an event is greater than the key taken.
 use Rattle.fb_laws.proofs.lemmas.Common.{◌≡◌, ℕ, zero, suc, ◌+◌, ◌<◌, ◌≤◌, ◌⊎◌, refl, sym, ap, ◌∙◌, subst, inl, inr, ⊎_elim, List, [], ◌∷◌, Bool, true, false, Option, Some, None, arith, if◌then◌else◌, cases_lt, cases_eq, eq-eqb, lt-ltb, Precedes, same_key, found, timer_key, Kind, Basic, Composite, System, State, Meter, Expired, path_of, Config, Out, Sends, Outcome, memory_of, Effect, Posts, post, post_all, Takes, TakesWith, begun, world_of, posts_of, effect_of, out_of_steps, put_of, is_timer_of, timer_change, Taken, IsSimulation, opening, Each, Key, EventKind, TimerAsk, Keep, Clear, At, Event, Stimulus, IsSound}
-use Rattle.fb_types.proofs.Common.{NoneBelow, stimulus_key, Event as EventBlock, TakesLeast, after, Chain, opening_block, Rendezvous}
+use Rattle.fb_types.proofs.Common.{NoneBelow, stimulus_key, Event as EventBlock, TakesLeast, after, Chain, opening_block}
+use Rattle.fb_types.specs.declared.event_kind.EventKind.TheVariants.{Rendezvous}
 use Rattle.fb_types.specs.EventBlocks.{memory_at_start}
 use Rattle.fb_types.specs.Reactions.{Local}
 use Rattle.fb_types.specs.Takes.{is_tick}

@@ -1,5 +1,9 @@
 -- A reaction changes only the block of its event.
-use Rattle.fb_types.proofs.Common.{◌≡◌, ℕ, refl, ap, ◌∙◌, List, [], ◌∷◌, Bool, true, false, Option, Some, None, if◌then◌else◌, Path, same_path, Port, Kind, Basic, Event, Composite, ports_of, is_event_input, bound, outputs_with, Emission, Position, System, Stimulated, Expired, Arrived, Raised, path_of, World, Outcome, emitted, emitted_all, charted, answered, taking, crossing_in, crossing_out, silent, expires, settled, remembered, from_inside, emissions, with_slots, hold_all, ReactsAt, Reacts, memory_of, Key, Reason, Ports, EventKind}
+use Rattle.fb_types.proofs.Common.{◌≡◌, ℕ, refl, ap, ◌∙◌, List, [], ◌∷◌, Bool, true, false, Option, Some, None, if◌then◌else◌, Path, same_path, Port, Kind, Basic, Event, Composite, ports_of, is_event_input, bound, outputs_with, Emission, Position, System, Stimulated, Expired, Arrived, Raised, path_of, World, Outcome, emitted, emitted_all, charted, answered, taking, crossing_in, crossing_out, silent, expires, settled, remembered, from_inside, emissions, with_slots, hold_all, ReactsAt, Reacts, memory_of}
+use Rattle.fb_types.specs.declared.key.Key.{Key}
+use Rattle.fb_types.specs.declared.value.Reason.{Reason}
+use Rattle.fb_types.specs.declared.library.Ports.{Ports}
+use Rattle.fb_types.specs.declared.event_kind.EventKind.{EventKind}
 use Rattle.fb_types.specs.EventBlocks as blocks
 use Rattle.fb_types.specs.States.{Event as AnEvent}
 

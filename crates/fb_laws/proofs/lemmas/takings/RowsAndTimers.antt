@@ -1,5 +1,6 @@
 -- Rows and timers by their keys.
-use Rattle.fb_types.proofs.Common.{◌≡◌, ℕ, suc, ◌+◌, List, [], ◌∷◌, ◌++◌, length, eqb, true, ap, ◌∙◌, arith, ◌&&◌, eqb-true, stimulus_key, stimuli_from, Stimulated, System, is_timer_of, Key}
+use Rattle.fb_types.proofs.Common.{◌≡◌, ℕ, suc, ◌+◌, List, [], ◌∷◌, ◌++◌, length, eqb, true, ap, ◌∙◌, arith, ◌&&◌, eqb-true, stimulus_key, stimuli_from, Stimulated, System, is_timer_of}
+use Rattle.fb_types.specs.declared.key.Key.{Key}
 use Rattle.std.specs.Cmp.{first_so, second_so}
 use Rattle.fb_types.specs.Simulation.{Stimulus}
 

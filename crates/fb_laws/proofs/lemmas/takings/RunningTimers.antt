@@ -1,5 +1,12 @@
 -- A running timer has a time of at least one tick, so a timer is set at a later tick than that of its setting.
-use Rattle.fb_types.proofs.Common.{◌≡◌, ℕ, ◌+◌, ◌<◌, ◌≤◌, ℤ, pos, negsuc, sym, subst, List, [], ◌∷◌, Bool, true, false, ◌||◌, ◌&&◌, not, Option, Some, None, arith, if◌then◌else◌, codes, nat_lt, Name, Path, Port, same_path, Values, truth, Kind, Basic, Event, Composite, Emission, ports_of, is_event_input, bound, outputs_with, Position, Memory, Idle, Marks, Flag, Count, Reaction, reaction, expiry, started, counted, is, System, Block, Stimulated, Expired, Arrived, Raised, World, Outcome, memory_of, with_block, silent, taking, emitted, emitted_all, settled, remembered, emissions, answered, crossing_in, crossing_out, from_inside, expires, with_slots, hold_all, ReactsAt, Reacts, Key, Ports, Reason, EventKind, Restart, Split, Merge, Rendezvous, Permit, Select, Switch, Delay, Cycle, SetReset, DataLatch, RisingEdge, FallingEdge, CountUp, TimerAsk, Keep, Clear, At}
+use Rattle.fb_types.proofs.Common.{◌≡◌, ℕ, ◌+◌, ◌<◌, ◌≤◌, ℤ, pos, negsuc, sym, subst, List, [], ◌∷◌, Bool, true, false, ◌||◌, ◌&&◌, not, Option, Some, None, arith, if◌then◌else◌, codes, nat_lt, Name, Path, Port, same_path, Values, truth, Kind, Basic, Event, Composite, Emission, ports_of, is_event_input, bound, outputs_with, Position, Memory, Idle, Marks, Flag, Count, Reaction, reaction, expiry, started, counted, is, System, Block, Stimulated, Expired, Arrived, Raised, World, Outcome, memory_of, with_block, silent, taking, emitted, emitted_all, settled, remembered, emissions, answered, crossing_in, crossing_out, from_inside, expires, with_slots, hold_all, ReactsAt, Reacts}
+use Rattle.fb_types.specs.declared.key.Key.{Key}
+use Rattle.fb_types.specs.declared.library.Ports.{Ports}
+use Rattle.fb_types.specs.declared.value.Reason.{Reason}
+use Rattle.fb_types.specs.declared.event_kind.EventKind.{EventKind}
+use Rattle.fb_types.specs.declared.event_kind.EventKind.TheVariants.{Restart, Split, Merge, Rendezvous, Permit, Select, Switch, Delay, Cycle, SetReset, DataLatch, RisingEdge, FallingEdge, CountUp}
+use Rattle.fb_types.specs.declared.run.TimerAsk.{TimerAsk}
+use Rattle.fb_types.specs.declared.run.TimerAsk.TheVariants.{Keep, Clear, At}
 use Rattle.fb_types.specs.EventBlocks as blocks
 use Rattle.fb_types.specs.EventBlocks.{Running, emits, emits_if, timed, rendezvous, met, again, ticks, differ, flag}
 use Rattle.fb_types.specs.States.{Event as AnEvent}

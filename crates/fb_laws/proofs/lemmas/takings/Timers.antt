@@ -1,5 +1,9 @@
 -- A timer is set at the tick of its setting or later.
-use Rattle.fb_types.proofs.Common.{ℕ, ◌≤◌, Bool, true, false, ◌||◌, ◌&&◌, arith, if◌then◌else◌, codes, nat_lt, Name, Values, Memory, Idle, Marks, Flag, Count, Reaction, reaction, expiry, started, counted, is, EventKind, Restart, Split, Merge, Rendezvous, Permit, Select, Switch, Delay, Cycle, SetReset, DataLatch, RisingEdge, FallingEdge, CountUp, TimerAsk, Keep, Clear, At}
+use Rattle.fb_types.proofs.Common.{ℕ, ◌≤◌, Bool, true, false, ◌||◌, ◌&&◌, arith, if◌then◌else◌, codes, nat_lt, Name, Values, Memory, Idle, Marks, Flag, Count, Reaction, reaction, expiry, started, counted, is}
+use Rattle.fb_types.specs.declared.event_kind.EventKind.{EventKind}
+use Rattle.fb_types.specs.declared.event_kind.EventKind.TheVariants.{Restart, Split, Merge, Rendezvous, Permit, Select, Switch, Delay, Cycle, SetReset, DataLatch, RisingEdge, FallingEdge, CountUp}
+use Rattle.fb_types.specs.declared.run.TimerAsk.{TimerAsk}
+use Rattle.fb_types.specs.declared.run.TimerAsk.TheVariants.{Keep, Clear, At}
 use Rattle.fb_types.specs.EventBlocks.{Running, emits_if, timed, rendezvous, met, again}
 
 abbrev pub IsLater : ℕ → TimerAsk → Type 0

@@ -1,5 +1,9 @@
 -- What the runs of bodies keep, the reaction of a chart keeps, and it emits such values.
-use Rattle.fb_types.proofs.Common.{ℕ, zero, suc, sym, subst, List, [], ◌∷◌, Option, Some, None, All, All-push, Name, Values, End, Went, Left, Returned, Stopped, RunsBody, types_of, outputs_with, bound, Emission, Position, Moving, Halts, Performs, AfterBody, Acts, Trial, Clears, NoneClears, Fails, Rests, Enters, Links, ChartReacts, trial_at, actions_of, algorithm_of, at_point, emitting, Action, BasicType, Reason, Steps}
+use Rattle.fb_types.proofs.Common.{ℕ, zero, suc, sym, subst, List, [], ◌∷◌, Option, Some, None, All, All-push, Name, Values, End, Went, Left, Returned, Stopped, RunsBody, types_of, outputs_with, bound, Emission, Position, Moving, Halts, Performs, AfterBody, Acts, Trial, Clears, NoneClears, Fails, Rests, Enters, Links, ChartReacts, trial_at, actions_of, algorithm_of, at_point, emitting}
+use Rattle.fb_types.specs.declared.library.Action.{Action}
+use Rattle.fb_types.specs.declared.library.BasicType.{BasicType}
+use Rattle.fb_types.specs.declared.value.Reason.{Reason}
+use Rattle.fb_types.specs.declared.value.Reason.TheVariants.{Steps}
 use Rattle.fb_types.specs.Charts.{OrHalts}
 use Rattle.fb_laws.proofs.lemmas.typing.Bodies.{Keeps}
 

@@ -1,5 +1,11 @@
 -- A data connection leads to a variable that holds all values of its source.
-use Rattle.fb_types.proofs.Common.{◌≡◌, ◌⊎◌, inl, inr, ⊎_elim, refl, subst, ap, ◌∙◌, Bool, true, false, cond, List, [], ◌∷◌, map, Option, Some, None, Contains, option_and_then, Contains-append_cases, Name, Path, Port, same_port, Kind, Composite, ports_of, among, first_of, parent, port_in, pairs_in, instance_in, kind_of_instance, network_at, kind_at, data_inside, source_of, is_end, Library, CompositeType, Connection, Network, PortName, Ports, same_Some}
+use Rattle.fb_types.proofs.Common.{◌≡◌, ◌⊎◌, inl, inr, ⊎_elim, refl, subst, ap, ◌∙◌, Bool, true, false, cond, List, [], ◌∷◌, map, Option, Some, None, Contains, option_and_then, Contains-append_cases, Name, Path, Port, same_port, Kind, Composite, ports_of, among, first_of, parent, port_in, pairs_in, instance_in, kind_of_instance, network_at, kind_at, data_inside, source_of, is_end, same_Some}
+use Rattle.fb_types.specs.declared.library.Library.{Library}
+use Rattle.fb_types.specs.declared.library.CompositeType.{CompositeType}
+use Rattle.fb_types.specs.declared.library.Connection.{Connection}
+use Rattle.fb_types.specs.declared.library.Network.{Network}
+use Rattle.fb_types.specs.declared.library.PortName.{PortName}
+use Rattle.fb_types.specs.declared.library.Ports.{Ports}
 use Rattle.std.proofs.Common.{filter}
 use Rattle.fb_types.specs.Flat.{data_at}
 use Rattle.fb_types.specs.Joined.{type_among, type_at_end}

@@ -1,5 +1,10 @@
 -- Kinds and networks are those of the declaration.
-use Rattle.fb_types.proofs.Common.{◌≡◌, ◌⊎◌, inl, inr, refl, sym, subst, ap, ◌∙◌, true, false, cond, List, [], ◌∷◌, Option, Some, None, Contains, option_map, option_and_then, flat_map, Name, Path, same_name, Kind, Basic, Event, Composite, named, event_blocks, kind_of, type_name, type_named, network_of, inside, kind_of_instance, network_at, instance_at, kind_at, networks, networks_in, EventKind, Library, BlockType, CompositeType, Network, same_Some}
+use Rattle.fb_types.proofs.Common.{◌≡◌, ◌⊎◌, inl, inr, refl, sym, subst, ap, ◌∙◌, true, false, cond, List, [], ◌∷◌, Option, Some, None, Contains, option_map, option_and_then, flat_map, Name, Path, same_name, Kind, Basic, Event, Composite, named, event_blocks, kind_of, type_name, type_named, network_of, inside, kind_of_instance, network_at, instance_at, kind_at, networks, networks_in, same_Some}
+use Rattle.fb_types.specs.declared.event_kind.EventKind.{EventKind}
+use Rattle.fb_types.specs.declared.library.Library.{Library}
+use Rattle.fb_types.specs.declared.library.BlockType.{BlockType}
+use Rattle.fb_types.specs.declared.library.CompositeType.{CompositeType}
+use Rattle.fb_types.specs.declared.library.Network.{Network}
 use Rattle.fb_types.specs.declared.library.BlockType.TheVariants as block
 use Rattle.fb_types.proofs.lemmas.lists.Options.{and_then_parts, map_parts}
 use Rattle.fb_types.proofs.lemmas.lists.Elements.{Contains-here, Contains-there, Contains-flat_map}

@@ -1,5 +1,6 @@
 -- A variable looked up by its name among those that are declared.
-use Rattle.fb_types.proofs.Common.{◌≡◌, ◌⊎◌, inl, inr, ⊎_elim, refl, Bool, true, false, cond, List, [], ◌∷◌, ◌++◌, Option, Some, None, All, or_cases, or_parts, or_left, or_right, false_from_ne_true, both_ways, All-nil, All-cons, Name, same_name, Values, Bound, bound, among, variable_names, Variable}
+use Rattle.fb_types.proofs.Common.{◌≡◌, ◌⊎◌, inl, inr, ⊎_elim, refl, Bool, true, false, cond, List, [], ◌∷◌, ◌++◌, Option, Some, None, All, or_cases, or_parts, or_left, or_right, false_from_ne_true, both_ways, All-nil, All-cons, Name, same_name, Values, Bound, bound, among, variable_names}
+use Rattle.fb_types.specs.declared.library.Variable.{Variable}
 use Rattle.std.proofs.Common.{filter}
 use Rattle.fb_types.proofs.lemmas.names.NameLaws.{same_from_same_name, same_name-itself}
 use Rattle.fb_laws.specs.Typed.{variable_named}

@@ -1,5 +1,8 @@
 -- What is emitted carries values of the types of the outputs, and publishes such.
-use Rattle.fb_types.proofs.Common.{◌≡◌, ℕ, sym, ◌∙◌, ap, subst, eqb, Bool, true, false, cond, List, [], ◌∷◌, ◌++◌, Some, All, All-nil, All-cons, All-head, All-tail, All-append, All-map, All-weaker, Name, Path, Port, Values, fits, Kind, ports_of, outputs_with, variable_names, Bound, bound, Emission, Block, System, World, Sends, Outcome, silent, spread, carried_from, with_values, emitted, emitted_all, Key, Variable, Value, same_Some}
+use Rattle.fb_types.proofs.Common.{◌≡◌, ℕ, sym, ◌∙◌, ap, subst, eqb, Bool, true, false, cond, List, [], ◌∷◌, ◌++◌, Some, All, All-nil, All-cons, All-head, All-tail, All-append, All-map, All-weaker, Name, Path, Port, Values, fits, Kind, ports_of, outputs_with, variable_names, Bound, bound, Emission, Block, System, World, Sends, Outcome, silent, spread, carried_from, with_values, emitted, emitted_all, same_Some}
+use Rattle.fb_types.specs.declared.key.Key.{Key}
+use Rattle.fb_types.specs.declared.library.Variable.{Variable}
+use Rattle.fb_types.specs.declared.value.Value.{Value}
 use Rattle.fb_types.specs.Reactions.{Local}
 use Rattle.fb_laws.specs.Typed.{variable_named, AllFit, FitsAt, IsTypedOut, AreTyped, KeepsTypes, IsTypedSystem}
 use Rattle.fb_laws.proofs.lemmas.typing.DeclaredVariables.{among-filter, named-among, All-bound}

@@ -1,5 +1,8 @@
 -- What an event block remembers gives its data outputs values of their types.
-use Rattle.fb_types.proofs.Common.{◌≡◌, ◌≤◌, ◌<◌, ◌+◌, ℕ, refl, subst, ltb, leb, nat_le, Bool, true, false, cond, List, [], ◌∷◌, Some, codes, arith, ltb-true, lt-ltb, le-leb, and_from, Name, same_name, Values, fits, whole, Event, ports_of_event_block, Memory, Idle, Marks, Flag, Count, Reaction, counted, reaction, expiry, is, memory_of, EventKind, Delay, Cycle, SetReset, DataLatch, CountUp, Variable, same_Some}
+use Rattle.fb_types.proofs.Common.{◌≡◌, ◌≤◌, ◌<◌, ◌+◌, ℕ, refl, subst, ltb, leb, nat_le, Bool, true, false, cond, List, [], ◌∷◌, Some, codes, arith, ltb-true, lt-ltb, le-leb, and_from, Name, same_name, Values, fits, whole, Event, ports_of_event_block, Memory, Idle, Marks, Flag, Count, Reaction, counted, reaction, expiry, is, memory_of, same_Some}
+use Rattle.fb_types.specs.declared.event_kind.EventKind.{EventKind}
+use Rattle.fb_types.specs.declared.event_kind.EventKind.TheVariants.{Delay, Cycle, SetReset, DataLatch, CountUp}
+use Rattle.fb_types.specs.declared.library.Variable.{Variable}
 use Rattle.fb_types.specs.Blocks.{variable}
 use Rattle.fb_types.specs.EventBlocks.{Running, output_of, emits, stays, memory_at_start, natural}
 use Rattle.fb_types.specs.States as states

@@ -1,5 +1,17 @@
 -- In an accepted declaration each variable begins with a value of its type, and stimuli set such values.
-use Rattle.fb_types.proofs.Common.{◌≡◌, inl, inr, refl, sym, subst, ap, ◌∙◌, true, false, List, [], ◌∷◌, ◌++◌, map, Option, Some, None, Contains, All, option_and_then, flat_map, list_all, both_ways, All-map, Contains-get_or, Contains-append_left, Contains-append_right, Name, Path, fits, Kind, Event, ports_of, named, among, variable_names, initial_of, Bound, instance_in, kind_of_instance, network_at, instance_at, kind_at, variables_in, zero_value, IsGood, BadStimulus, KindWrong, declared_right, OwnedNetwork, networks, basics, interfaces, Required, required, all_of, required_types, required_withs, required_chart, required_parameters, required_deployment, NameUnknown, stimulus_of, EventKind, Restart, Library, Instance, Network, Parameter, Variable, Plan, Setting, Stimulus, Ty, Value, same_Some}
+use Rattle.fb_types.proofs.Common.{◌≡◌, inl, inr, refl, sym, subst, ap, ◌∙◌, true, false, List, [], ◌∷◌, ◌++◌, map, Option, Some, None, Contains, All, option_and_then, flat_map, list_all, both_ways, All-map, Contains-get_or, Contains-append_left, Contains-append_right, Name, Path, fits, Kind, Event, ports_of, named, among, variable_names, initial_of, Bound, instance_in, kind_of_instance, network_at, instance_at, kind_at, variables_in, zero_value, IsGood, BadStimulus, KindWrong, declared_right, OwnedNetwork, networks, basics, interfaces, Required, required, all_of, required_types, required_withs, required_chart, required_parameters, required_deployment, NameUnknown, stimulus_of, same_Some}
+use Rattle.fb_types.specs.declared.event_kind.EventKind.{EventKind}
+use Rattle.fb_types.specs.declared.event_kind.EventKind.TheVariants.{Restart}
+use Rattle.fb_types.specs.declared.library.Library.{Library}
+use Rattle.fb_types.specs.declared.library.Instance.{Instance}
+use Rattle.fb_types.specs.declared.library.Network.{Network}
+use Rattle.fb_types.specs.declared.library.Parameter.{Parameter}
+use Rattle.fb_types.specs.declared.library.Variable.{Variable}
+use Rattle.fb_types.specs.declared.deploy.Plan.{Plan}
+use Rattle.fb_types.specs.declared.deploy.Setting.{Setting}
+use Rattle.fb_types.specs.declared.deploy.Stimulus.{Stimulus}
+use Rattle.fb_types.specs.declared.value.Ty.{Ty}
+use Rattle.fb_types.specs.declared.value.Value.{Value}
 use Rattle.std.proofs.lemmas.Bool.{true_from_ne_false}
 use Rattle.fb_types.specs.Values.{zero_of}
 use Rattle.fb_types.specs.Flat.{flat, declared_initial}

@@ -1,5 +1,12 @@
 -- A reaction leaves each variable with a value of its type, and what it emits carries such values.
-use Rattle.fb_types.proofs.Common.{◌≡◌, ℕ, refl, sym, subst, Bool, true, false, List, [], ◌∷◌, Option, Some, None, All, if◌then◌else◌, All-nil, All-cons, Name, Path, Port, fits, Kind, Basic, Event, Composite, ports_of, variables_of, types_of, is_event_input, outputs_with, Bound, bound, RunsBody, Position, ChartReacts, algorithm_of, Block, InState, Stimulated, Expired, Arrived, Raised, System, World, Outcome, silent, taking, start_of, settled, charted, memory_of, emissions, remembered, answered, crossing_in, crossing_out, from_inside, shown, expires, with_slots, hold_all, ReactsAt, EventKind, Key, BasicType, CompositeType, Variable, Reason, Value}
+use Rattle.fb_types.proofs.Common.{◌≡◌, ℕ, refl, sym, subst, Bool, true, false, List, [], ◌∷◌, Option, Some, None, All, if◌then◌else◌, All-nil, All-cons, Name, Path, Port, fits, Kind, Basic, Event, Composite, ports_of, variables_of, types_of, is_event_input, outputs_with, Bound, bound, RunsBody, Position, ChartReacts, algorithm_of, Block, InState, Stimulated, Expired, Arrived, Raised, System, World, Outcome, silent, taking, start_of, settled, charted, memory_of, emissions, remembered, answered, crossing_in, crossing_out, from_inside, shown, expires, with_slots, hold_all, ReactsAt}
+use Rattle.fb_types.specs.declared.event_kind.EventKind.{EventKind}
+use Rattle.fb_types.specs.declared.key.Key.{Key}
+use Rattle.fb_types.specs.declared.library.BasicType.{BasicType}
+use Rattle.fb_types.specs.declared.library.CompositeType.{CompositeType}
+use Rattle.fb_types.specs.declared.library.Variable.{Variable}
+use Rattle.fb_types.specs.declared.value.Reason.{Reason}
+use Rattle.fb_types.specs.declared.value.Value.{Value}
 use Rattle.fb_types.specs.EventBlocks as blocks
 use Rattle.fb_types.specs.States.{Remembers}
 use Rattle.fb_laws.specs.Typed.{variable_named, AllFit, FitsAt, IsTypedBlock, IsTypedMemory, IsTypedOut, AreTyped, KeepsTypes, IsTypedSystem, TypesAreKept}

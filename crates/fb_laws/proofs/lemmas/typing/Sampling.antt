@@ -1,5 +1,7 @@
 -- An event that is taken samples values of the types of its variables.
-use Rattle.fb_types.proofs.Common.{◌≡◌, ℕ, refl, sym, ◌∙◌, ap, Bool, true, false, cond, Option, Some, None, Name, Path, Port, fits, Kind, ports_of, inputs_with, among, variable_names, variables_in, Block, System, World, sampled_from, sampled, taking, shown, Key, Variable, same_Some}
+use Rattle.fb_types.proofs.Common.{◌≡◌, ℕ, refl, sym, ◌∙◌, ap, Bool, true, false, cond, Option, Some, None, Name, Path, Port, fits, Kind, ports_of, inputs_with, among, variable_names, variables_in, Block, System, World, sampled_from, sampled, taking, shown, same_Some}
+use Rattle.fb_types.specs.declared.key.Key.{Key}
+use Rattle.fb_types.specs.declared.library.Variable.{Variable}
 use Rattle.fb_laws.specs.Typed.{variable_named, AllFit, IsTypedBlock, AreTyped, IsTypedSystem}
 use Rattle.fb_laws.proofs.lemmas.typing.DeclaredVariables.{among-filter, named-among}
 use Rattle.fb_laws.proofs.lemmas.typing.Values.{port-found, input-found}

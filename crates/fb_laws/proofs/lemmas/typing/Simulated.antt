@@ -1,5 +1,9 @@
 -- In a simulation each variable holds a value of its type.
-use Rattle.fb_types.proofs.Common.{ℕ, zero, suc, ◌+◌, sym, subst, eqb, Bool, true, false, cond, List, [], ◌∷◌, Option, Some, None, All, flat_map, All-nil, All-cons, All-head, All-tail, All-append, All-push, Path, Port, Kind, Event, or_else, found, changed_to, same_key, timer_key, local_key, without, Out, Sends, Outcome, Taken, IsSimulation, Chain, after, opening, opening_state, opening_events, stimuli_from, restart_of, State, Meter, Config, Agenda, Expired, Raised, path_of, System, Posts, post, post_all, posts_of, timer_change, is_timer_of, Effect, put_of, world_of, effect_of, TakesWith, Takes, begun, agenda_after, Restart, Key, TimerAsk, Keep, Clear, At}
+use Rattle.fb_types.proofs.Common.{ℕ, zero, suc, ◌+◌, sym, subst, eqb, Bool, true, false, cond, List, [], ◌∷◌, Option, Some, None, All, flat_map, All-nil, All-cons, All-head, All-tail, All-append, All-push, Path, Port, Kind, Event, or_else, found, changed_to, same_key, timer_key, local_key, without, Out, Sends, Outcome, Taken, IsSimulation, Chain, after, opening, opening_state, opening_events, stimuli_from, restart_of, State, Meter, Config, Agenda, Expired, Raised, path_of, System, Posts, post, post_all, posts_of, timer_change, is_timer_of, Effect, put_of, world_of, effect_of, TakesWith, Takes, begun, agenda_after}
+use Rattle.fb_types.specs.declared.event_kind.EventKind.TheVariants.{Restart}
+use Rattle.fb_types.specs.declared.key.Key.{Key}
+use Rattle.fb_types.specs.declared.run.TimerAsk.{TimerAsk}
+use Rattle.fb_types.specs.declared.run.TimerAsk.TheVariants.{Keep, Clear, At}
 use Rattle.fb_types.specs.Reactions.{Local}
 use Rattle.fb_types.specs.Simulation.{Stimulus, opening_memory, opening_agenda}
 use Rattle.fb_types.specs.States.{Event as AnEvent}

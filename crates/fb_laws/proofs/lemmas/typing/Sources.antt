@@ -1,5 +1,14 @@
 -- In an accepted declaration sources fit what they feed, and the name of an output is that of no other variable.
-use Rattle.fb_types.proofs.Common.{◌≡◌, ◌⊎◌, inl, inr, ⊎_elim, refl, sym, subst, ap, ◌∙◌, Bool, true, false, cond, ◌&&◌, List, [], ◌∷◌, ◌++◌, Option, Some, None, Contains, codes, option_map, list_all, and_parts, both_ways, Contains-append_right, Name, Path, Port, same_name, fits, Kind, ports_of, ports_of_event_block, event_names, variable_names, port_in, kind_of, kind_at, source_of, variables_in, OutOfRange, Twice, OwnedNetwork, networks, NameTwice, is_end, data_ins, data_outs, event_ins, event_outs, ends_known, EventKind, SetReset, DataLatch, CountUp, Library, BlockType, Connection, PortName, Ports, Variable, Plan, none-some}
+use Rattle.fb_types.proofs.Common.{◌≡◌, ◌⊎◌, inl, inr, ⊎_elim, refl, sym, subst, ap, ◌∙◌, Bool, true, false, cond, ◌&&◌, List, [], ◌∷◌, ◌++◌, Option, Some, None, Contains, codes, option_map, list_all, and_parts, both_ways, Contains-append_right, Name, Path, Port, same_name, fits, Kind, ports_of, ports_of_event_block, event_names, variable_names, port_in, kind_of, kind_at, source_of, variables_in, OutOfRange, Twice, OwnedNetwork, networks, NameTwice, is_end, data_ins, data_outs, event_ins, event_outs, ends_known, none-some}
+use Rattle.fb_types.specs.declared.event_kind.EventKind.{EventKind}
+use Rattle.fb_types.specs.declared.event_kind.EventKind.TheVariants.{SetReset, DataLatch, CountUp}
+use Rattle.fb_types.specs.declared.library.Library.{Library}
+use Rattle.fb_types.specs.declared.library.BlockType.{BlockType}
+use Rattle.fb_types.specs.declared.library.Connection.{Connection}
+use Rattle.fb_types.specs.declared.library.PortName.{PortName}
+use Rattle.fb_types.specs.declared.library.Ports.{Ports}
+use Rattle.fb_types.specs.declared.library.Variable.{Variable}
+use Rattle.fb_types.specs.declared.deploy.Plan.{Plan}
 use Rattle.std.proofs.lemmas.Bool.{true_from_ne_false}
 use Rattle.fb_types.specs.Blocks.{variable}
 use Rattle.fb_types.specs.Flat.{flat}

@@ -1,5 +1,7 @@
 -- Changes of values that keep the types, and the look-up of ports among all variables.
-use Rattle.fb_types.proofs.Common.{◌≡◌, refl, sym, subst, ◌∙◌, ap, Bool, true, false, cond, List, [], ◌∷◌, ◌++◌, Option, Some, None, All, All-head, All-tail, Name, Path, with_value, same_name, Values, fits, Kind, Basic, Event, Composite, ports_of, Bound, variables_in, with_values, System, Variable, Value, same_Some}
+use Rattle.fb_types.proofs.Common.{◌≡◌, refl, sym, subst, ◌∙◌, ap, Bool, true, false, cond, List, [], ◌∷◌, ◌++◌, Option, Some, None, All, All-head, All-tail, Name, Path, with_value, same_name, Values, fits, Kind, Basic, Event, Composite, ports_of, Bound, variables_in, with_values, System, same_Some}
+use Rattle.fb_types.specs.declared.library.Variable.{Variable}
+use Rattle.fb_types.specs.declared.value.Value.{Value}
 use Rattle.fb_types.proofs.lemmas.names.NameLaws.{same_from_same_name}
 use Rattle.fb_laws.specs.Typed.{variable_named, AllFit, IsTypedSystem}
 use Rattle.fb_laws.proofs.lemmas.typing.DeclaredVariables.{named-front, named-back}

@@ -1,5 +1,7 @@
 -- Changes of a world that keep its types.
-use Rattle.fb_types.proofs.Common.{◌≡◌, ℕ, refl, sym, subst, ap, ◌∙◌, eqb, Bool, true, false, cond, List, [], ◌∷◌, ◌++◌, Some, All, All-head, All-tail, All-weaker, Path, same_path, Port, same_port, fits, Kind, ports_of, Bound, Block, System, World, with_block, with_slots, hold_all, shown, Variable, Value}
+use Rattle.fb_types.proofs.Common.{◌≡◌, ℕ, refl, sym, subst, ap, ◌∙◌, eqb, Bool, true, false, cond, List, [], ◌∷◌, ◌++◌, Some, All, All-head, All-tail, All-weaker, Path, same_path, Port, same_port, fits, Kind, ports_of, Bound, Block, System, World, with_block, with_slots, hold_all, shown}
+use Rattle.fb_types.specs.declared.library.Variable.{Variable}
+use Rattle.fb_types.specs.declared.value.Value.{Value}
 use Rattle.fb_types.specs.Blocks.{is_input}
 use Rattle.fb_types.specs.Reactions.{with_held, seen}
 use Rattle.fb_types.proofs.lemmas.names.PathLaws.{same_path_is, same_port_is}

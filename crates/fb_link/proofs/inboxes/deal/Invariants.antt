@@ -1,4 +1,5 @@
-use Rattle.fb_types.proofs.Common.{◌≡◌, ◌++◌, List, length, into_iter_items, into_iter_len, system_of, Message}
+use Rattle.fb_types.proofs.Common.{◌≡◌, ◌++◌, List, length, into_iter_items, into_iter_len, system_of}
+use Rattle.fb_types.specs.declared.run.Message.{Message}
 use Rattle.fb_link.specs.Exchanges.{AreDealt}
 use Rattle.fb_link.proofs.inboxes.deal.Given as goal
 

@@ -1,4 +1,5 @@
-use Rattle.fb_types.proofs.Common.{◌≡◌, ◌+◌, ◌∷◌, [], length, length-append, sym, ap, ◌∙◌, arith, slice_get, Global, slice_get_within, Message}
+use Rattle.fb_types.proofs.Common.{◌≡◌, ◌+◌, ◌∷◌, [], length, length-append, sym, ap, ◌∙◌, arith, slice_get, Global, slice_get_within}
+use Rattle.fb_types.specs.declared.run.Message.{Message}
 use Rattle.std.proofs.Common.{Vec}
 use Rattle.fb_types.proofs.lemmas.lists.ByIndex.{slice_get-push}
 use Rattle.fb_link.proofs.inboxes.empty_lists.Goals as goal

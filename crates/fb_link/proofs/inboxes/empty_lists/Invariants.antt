@@ -1,4 +1,5 @@
-use Rattle.fb_types.proofs.Common.{◌≡◌, ℕ, [], length, Some, slice_get, Global, Message}
+use Rattle.fb_types.proofs.Common.{◌≡◌, ℕ, [], length, Some, slice_get, Global}
+use Rattle.fb_types.specs.declared.run.Message.{Message}
 use Rattle.std.proofs.Common.{Vec}
 use Rattle.fb_link.proofs.inboxes.empty_lists.Given as goal
 

@@ -1,4 +1,5 @@
-use Rattle.fb_types.proofs.Common.{◌≡◌, ◌<◌, ◌≤◌, ◌++◌, [], ◌∷◌, All, length, refl, sym, ap, subst, ◌∙◌, append_assoc, append-nil, arith, Global, into_iter_items, length-set, nil_from_length, slice_get_read, system_of, Message}
+use Rattle.fb_types.proofs.Common.{◌≡◌, ◌<◌, ◌≤◌, ◌++◌, [], ◌∷◌, All, length, refl, sym, ap, subst, ◌∙◌, append_assoc, append-nil, arith, Global, into_iter_items, length-set, nil_from_length, slice_get_read, system_of}
+use Rattle.fb_types.specs.declared.run.Message.{Message}
 use Rattle.std.proofs.Common.{Vec}
 use Rattle.fb_link.specs.Exchanges.{all_of, AreDealt}
 use Rattle.fb_link.proofs.lemmas.Dealt.{all_snoc, sorted_all, sorted_more, sorted_none}

@@ -1,4 +1,5 @@
-use Rattle.fb_types.proofs.Common.{List, refl, sym, ◌∙◌, ap, expr_of, Expr}
+use Rattle.fb_types.proofs.Common.{List, refl, sym, ◌∙◌, ap, expr_of}
+use Rattle.fb_types.specs.declared.text.Expr.{Expr}
 use Rattle.fb_check.specs.types.Trees.{arguments_of}
 use Rattle.fb_lint.specs.Constants.{divides_by_zero, some_divides}
 use Rattle.fb_lint.proofs.lemmas.Tests.{passes_here, passes_later, passes_never}

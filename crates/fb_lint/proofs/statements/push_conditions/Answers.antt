@@ -1,4 +1,5 @@
-use Rattle.fb_types.proofs.Common.{◌++◌, List, refl, sym, ◌∙◌, ap, Stmts, mentions, Choice}
+use Rattle.fb_types.proofs.Common.{◌++◌, List, refl, sym, ◌∙◌, ap, Stmts, mentions}
+use Rattle.fb_types.specs.declared.text.Choice.{Choice}
 use Rattle.fb_types.specs.Syntax.{Expr}
 use Rattle.fb_check.specs.types.Trees.{choice_of, choices_of}
 use Rattle.fb_check.proofs.lemmas.types.Meanings.{choice_says}

@@ -1,4 +1,6 @@
-use Rattle.fb_types.proofs.Common.{◌++◌, List, refl, sym, ◌∙◌, ap, Stmts, Branch, Label}
+use Rattle.fb_types.proofs.Common.{◌++◌, List, refl, sym, ◌∙◌, ap, Stmts}
+use Rattle.fb_types.specs.declared.text.Branch.{Branch}
+use Rattle.fb_types.specs.declared.text.Label.{Label}
 use Rattle.fb_check.specs.types.Trees.{branch_of, branches_of}
 use Rattle.fb_check.proofs.lemmas.types.Meanings.{branch_says}
 use Rattle.fb_lint.specs.Statements.{labels_in}

@@ -1,5 +1,5 @@
 use Rattle.fb_lint.proofs.lemmas.Common.{List, refl, flat_map, guard_mentions, meant_all}
-use Rattle.fb_types.proofs.Common.{Transition}
+use Rattle.fb_types.specs.declared.library.Transition.{Transition}
 use Rattle.fb_check.proofs.lemmas.types.GrowingLists.{list_added, one_added}
 use Rattle.fb_lint.proofs.uses.push_guards.Goals as goal
 

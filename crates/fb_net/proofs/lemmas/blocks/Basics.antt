@@ -1,6 +1,7 @@
 -- What the reaction of a basic block leaves of the blocks of its resource.
 use Rattle.fb_net.proofs.lemmas.Common.{◌≡◌, ℕ, ◌<◌, List, [], length, Option, Some, None, Result, Ok, Err, refl, sym, ap, subst, ◌∙◌, fun_ext, Path, Values, Basic, inputs_with, Inputs, system_of, event_at, pair_up, path_at, World, with_values, System, BasicType, Halt, Target, Value, values_of, BasicState, components_of, own_of, block_in, with_instance, Changed, block_at, put_at, InForest, IsForest, ShellRepresents, Represents, way_in, Block, Forest, Shell}
-use Rattle.fb_types.proofs.Common.{ChartReacts, Moving, Position, state_of, Reason}
+use Rattle.fb_types.proofs.Common.{ChartReacts, Moving, Position, state_of}
+use Rattle.fb_types.specs.declared.value.Reason.{Reason}
 use Rattle.fb_types.specs.States as model
 use Rattle.fb_types.specs.declared.run.Emission as run
 use Rattle.fb_types.specs.declared.run.Halt.TheVariants as halt

@@ -1,5 +1,6 @@
 -- The charts that the blocks of a resource share.
-use Rattle.fb_types.proofs.Common.{◌≡◌, ℕ, true, false, cond, nat_eq, [], ◌⊎◌, Some, None, refl, sym, ◌∙◌, ap, subst, inl, inr, arith, slice_get, IfSome, lookup, is_eq, nat_cmp, Inputs, BasicType, nat_tests, same_Some}
+use Rattle.fb_types.proofs.Common.{◌≡◌, ℕ, true, false, cond, nat_eq, [], ◌⊎◌, Some, None, refl, sym, ◌∙◌, ap, subst, inl, inr, arith, slice_get, IfSome, lookup, is_eq, nat_cmp, Inputs, nat_tests, same_Some}
+use Rattle.fb_types.specs.declared.library.BasicType.{BasicType}
 use Rattle.std.specs.BTreeMap.{get, is_at}
 use Rattle.fb_types.specs.declared.library.BlockType.TheVariants as block
 use Rattle.fb_ecc.specs.Programs.{IsSharedOf}

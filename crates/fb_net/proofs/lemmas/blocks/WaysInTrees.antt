@@ -1,5 +1,10 @@
 -- Different instances of a resource have different ways in its trees: the indexes on the way to an instance determine its names.
-use Rattle.fb_types.proofs.Common.{◌≡◌, ℕ, ◌<◌, ◌≤◌, ◌+◌, zero, suc, List, [], ◌∷◌, ◌++◌, length, Contains, refl, ap, sym, ◌∙◌, inl, inr, arith, length-append, same_Some, Option, Some, None, position, slice_get, unwrap_or, Name, Path, same_name, inside, instance_at, instance_in, network_at, paths_inside, paths_of, resource_of, AreAccepted, Inputs, system_of, path_at, instance_names, networks, Plan, CompositeType, Instance, Library, Network}
+use Rattle.fb_types.proofs.Common.{◌≡◌, ℕ, ◌<◌, ◌≤◌, ◌+◌, zero, suc, List, [], ◌∷◌, ◌++◌, length, Contains, refl, ap, sym, ◌∙◌, inl, inr, arith, length-append, same_Some, Option, Some, None, position, slice_get, unwrap_or, Name, Path, same_name, inside, instance_at, instance_in, network_at, paths_inside, paths_of, resource_of, AreAccepted, Inputs, system_of, path_at, instance_names, networks}
+use Rattle.fb_types.specs.declared.deploy.Plan.{Plan}
+use Rattle.fb_types.specs.declared.library.CompositeType.{CompositeType}
+use Rattle.fb_types.specs.declared.library.Instance.{Instance}
+use Rattle.fb_types.specs.declared.library.Library.{Library}
+use Rattle.fb_types.specs.declared.library.Network.{Network}
 use Rattle.fb_types.proofs.lemmas.lists.Positions.{named-position, position_is}
 use Rattle.fb_types.proofs.lemmas.lists.Elements.{Contains-cons_cases, Contains-here, Contains-nil, flat_map-Contains}
 use Rattle.fb_types.proofs.lemmas.lists.Options.{and_then_parts}

@@ -1,5 +1,10 @@
 -- What the rows of event ports say, where a step of taking an event needs it.
-use Rattle.fb_types.proofs.Common.{◌≡◌, ◌≢◌, ℕ, Bool, true, false, cond, List, refl, sym, subst, ap, ◌∙◌, ◌↔◌, IsTrue, Option, Some, Basic, Composite, Event, event_output, path_at, port_of, ports_at, System, EventKind, BasicType, CompositeType, InstanceVariable, Target}
+use Rattle.fb_types.proofs.Common.{◌≡◌, ◌≢◌, ℕ, Bool, true, false, cond, List, refl, sym, subst, ap, ◌∙◌, ◌↔◌, IsTrue, Option, Some, Basic, Composite, Event, event_output, path_at, port_of, ports_at, System}
+use Rattle.fb_types.specs.declared.event_kind.EventKind.{EventKind}
+use Rattle.fb_types.specs.declared.library.BasicType.{BasicType}
+use Rattle.fb_types.specs.declared.library.CompositeType.{CompositeType}
+use Rattle.fb_types.specs.declared.run.InstanceVariable.{InstanceVariable}
+use Rattle.fb_types.specs.declared.run.Target.{Target}
 use Rattle.fb_types.specs.Numbers.{event_input}
 use Rattle.fb_system.specs.Ends.{IsSourceOf, LeadsTo}
 use Rattle.fb_system.specs.IndexLists.{AreIndexes}

@@ -1,5 +1,11 @@
 -- The variables of a basic block get the values that they begin with.
-use Rattle.fb_types.proofs.Common.{◌≡◌, ℕ, ◌<◌, ◌+◌, zero, suc, Bool, List, [], ◌∷◌, map, length, drop, get_or, true, false, cond, Option, Some, None, Contains, refl, sym, ◌∙◌, ap, subst, arith, ◌||◌, if◌then◌else◌, option_and_then, option_map, slice_get, true≢false, slice_get-get_or, slice_get-map, Name, Path, same_name, with_value, Values, Kind, Basic, among, initial_of, named, variable_names, variables_of, instance_at, kind_at, zero_value, BasicType, Instance, Library, Parameter, Variable, Value}
+use Rattle.fb_types.proofs.Common.{◌≡◌, ℕ, ◌<◌, ◌+◌, zero, suc, Bool, List, [], ◌∷◌, map, length, drop, get_or, true, false, cond, Option, Some, None, Contains, refl, sym, ◌∙◌, ap, subst, arith, ◌||◌, if◌then◌else◌, option_and_then, option_map, slice_get, true≢false, slice_get-get_or, slice_get-map, Name, Path, same_name, with_value, Values, Kind, Basic, among, initial_of, named, variable_names, variables_of, instance_at, kind_at, zero_value}
+use Rattle.fb_types.specs.declared.library.BasicType.{BasicType}
+use Rattle.fb_types.specs.declared.library.Instance.{Instance}
+use Rattle.fb_types.specs.declared.library.Library.{Library}
+use Rattle.fb_types.specs.declared.library.Parameter.{Parameter}
+use Rattle.fb_types.specs.declared.library.Variable.{Variable}
+use Rattle.fb_types.specs.declared.value.Value.{Value}
 use Rattle.fb_types.specs.Flat.{declared_initial, initial_at}
 use Rattle.fb_st.specs.Frames.{Declared, is_declared, values_of}
 use Rattle.fb_ecc.specs.Opened.{slot_of}

@@ -1,5 +1,9 @@
 -- Held copies before the first event.
-use Rattle.fb_types.proofs.Common.{◌≡◌, ◌≢◌, ℕ, ◌<◌, ◌+◌, Bool, true, false, List, [], ◌∷◌, ◌++◌, map, length, Option, Some, None, refl, sym, ◌∙◌, ap, subst, inl, inr, arith, if◌then◌else◌, option_map, position, slice_get, unwrap_or, cases_eq, cases_lt, slice_get-map, same_Some, Name, Port, same_name, Kind, ports, ports_of, variable_names, AreAccepted, Inputs, system_of, path_at, ports_at, Twice, Ports, Variable, Value, InstanceVariable, System}
+use Rattle.fb_types.proofs.Common.{◌≡◌, ◌≢◌, ℕ, ◌<◌, ◌+◌, Bool, true, false, List, [], ◌∷◌, ◌++◌, map, length, Option, Some, None, refl, sym, ◌∙◌, ap, subst, inl, inr, arith, if◌then◌else◌, option_map, position, slice_get, unwrap_or, cases_eq, cases_lt, slice_get-map, same_Some, Name, Port, same_name, Kind, ports, ports_of, variable_names, AreAccepted, Inputs, system_of, path_at, ports_at, Twice, System}
+use Rattle.fb_types.specs.declared.library.Ports.{Ports}
+use Rattle.fb_types.specs.declared.library.Variable.{Variable}
+use Rattle.fb_types.specs.declared.value.Value.{Value}
+use Rattle.fb_types.specs.declared.run.InstanceVariable.{InstanceVariable}
 use Rattle.fb_types.proofs.lemmas.lists.Positions.{position_of_once}
 use Rattle.fb_system.specs.Ports.{IsVariable, variable_of, variables_at}
 use Rattle.fb_system.specs.Stimuli.{initial_inputs, initial_outputs}

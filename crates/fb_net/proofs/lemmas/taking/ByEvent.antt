@@ -1,6 +1,8 @@
 -- Taking an event is what the model makes of it, by what the event is.
 use Rattle.fb_net.proofs.lemmas.Common.{◌≡◌, ℕ, List, map, refl, sym, ap, subst, ◌∙◌, None, Option, Some, Result, Ok, Err, append-nil, Bound, Emission, Event, ports_of, kind_of, Inputs, system_of, Path, Port, carried_of, emission_of, line_of, path_at, port_of, ports_at, Outcome, World, emissions, emitted_all, System, EventKind, Key, BlockType, Ports, Halt, Target, TimerAsk, Value, InputValue, RepresentsOutcome, asked, gathered, out_of, Effects, EventCame, HoldsAll, Changes, InForest, IsForest, Forest, Arrives, ComesTo, HasReacted, AreKept}
-use Rattle.fb_types.proofs.Common.{Reacts, ReactsAt, expires, hold_all, remembered, silent, with_slots, Stimulated, path_of, Message, Reason}
+use Rattle.fb_types.proofs.Common.{Reacts, ReactsAt, expires, hold_all, remembered, silent, with_slots, Stimulated, path_of}
+use Rattle.fb_types.specs.declared.run.Message.{Message}
+use Rattle.fb_types.specs.declared.value.Reason.{Reason}
 use Rattle.std.specs.Option.{option_map}
 use Rattle.fb_types.specs.EventBlocks as blocks
 use Rattle.fb_types.specs.States as model

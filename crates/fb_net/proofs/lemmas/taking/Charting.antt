@@ -1,6 +1,7 @@
 -- The arrival of an event at a basic block is what the model makes of it, also where a reason stops it.
 use Rattle.fb_net.proofs.lemmas.Common.{◌≡◌, ℕ, Bool, true, false, cond, List, [], ◌∷◌, map, refl, sym, ap, subst, ◌∙◌, None, Option, Some, Result, Ok, Err, fun_ext, Kind, Basic, Emission, inputs_with, Inputs, system_of, Path, Port, same_path, emission_of, event_at, line_of, path_at, ports_at, Outcome, World, emitted_all, taking, with_block, System, Values, Key, BasicType, Ports, Halt, Target, Value, gathered, RepresentsOutcome, Effects, InForest, IsForest, Forest, Arrives, HasReacted, IsReady}
-use Rattle.fb_types.proofs.Common.{ChartReacts, Position, ReactsAt, charted, emitted, sampled, settled, start_of, state_of, Reason}
+use Rattle.fb_types.proofs.Common.{ChartReacts, Position, ReactsAt, charted, emitted, sampled, settled, start_of, state_of}
+use Rattle.fb_types.specs.declared.value.Reason.{Reason}
 use Rattle.fb_types.specs.States as model
 use Rattle.fb_types.specs.declared.run.Emission as run
 use Rattle.fb_types.specs.declared.run.Halt.TheVariants as halt

@@ -1,6 +1,7 @@
 -- What arrives at an instance is taken as its kind says.
 use Rattle.fb_net.proofs.lemmas.Common.{◌≡◌, ◌<◌, inl, inr, ℕ, Bool, true, false, cond, List, [], ◌∷◌, ◌++◌, length, Contains, refl, sym, ap, subst, ◌∙◌, None, Option, Some, Result, Ok, Err, slice_get, slice_get_within, Kind, Composite, Event, ports_of, variable_names, AreAccepted, Inputs, system_of, Name, Path, Port, event_at, path_at, port_of, ports_at, Outcome, World, emissions, memory_of, taking, Twice, System, EventKind, Key, BlockType, CompositeType, Ports, Halt, Target, Effects, Forest, Arrives, ComesTo, HasReacted, entering, leaving, Remembered}
-use Rattle.fb_types.proofs.Common.{⊎_elim, IfErr, OnOk, false_from_ne_true, length-map, Contains-append_right, Contains-get_or, get_or_from_slice_get, unwrap_or-slice_get, event_names, is_event_input, ReactsAt, answered, crossing_in, crossing_out, remembered, EventPort}
+use Rattle.fb_types.proofs.Common.{⊎_elim, IfErr, OnOk, false_from_ne_true, length-map, Contains-append_right, Contains-get_or, get_or_from_slice_get, unwrap_or-slice_get, event_names, is_event_input, ReactsAt, answered, crossing_in, crossing_out, remembered}
+use Rattle.fb_types.specs.declared.library.EventPort.{EventPort}
 use Rattle.fb_types.specs.EventBlocks as blocks
 use Rattle.fb_types.specs.declared.library.BlockType.TheVariants as block
 use Rattle.fb_types.specs.declared.run.Halt.TheVariants as halt

@@ -1,6 +1,7 @@
 -- Event blocks that only pass events on.
 use Rattle.fb_net.proofs.lemmas.Common.{◌≡◌, ◌<◌, ℕ, List, [], ◌∷◌, length, map, Some, sym, ap, subst, ◌∙◌, Name, Emission, Event, inputs_with, ports_of_event_block, Inputs, system_of, emission_of, event_at, pair_up, path_at, ports_at, World, emissions, memory_of, sampled_from, System, Values, EventKind, Ports, Target, Value, block_in, with_instance, EventCame, taken_reaction, names_in, InForest, IsForest, Forest, IsEmission}
-use Rattle.fb_types.proofs.Common.{bound, Reaction, Keep}
+use Rattle.fb_types.proofs.Common.{bound, Reaction}
+use Rattle.fb_types.specs.declared.run.TimerAsk.TheVariants.{Keep}
 use Rattle.fb_types.specs.EventBlocks.{output_of}
 use Rattle.fb_types.specs.States as model
 use Rattle.fb_event.specs.Reactions.{PassesTo}

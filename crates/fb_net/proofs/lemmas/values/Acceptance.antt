@@ -1,5 +1,14 @@
 -- What acceptance says of the instances of a declaration.
-use Rattle.fb_types.proofs.Common.{◌≡◌, ℕ, ◌<◌, ◌≤◌, ◌+◌, zero, suc, List, [], ◌∷◌, ◌++◌, map, length, get_or, Option, Some, None, Contains, true, false, refl, sym, ◌∙◌, ap, subst, inl, inr, arith, append_assoc, true≢false, Contains-append_left, Contains-append_right, Contains-append_cases, slice_get-get_or, flat_map, option_map, option_and_then, position, slice_get, unwrap_or, Name, Path, same_name, Kind, Basic, Event, among, event_blocks, event_names, named, ports_of, variable_names, inside, instance_at, instance_in, kind_at, kind_of, kind_of_instance, network_at, paths_inside, paths_of, resource_names_of, type_name, type_named, AreAccepted, Inputs, system_of, path_at, NameTwice, OwnedNetwork, Twice, algorithm_names, basics, basics_in, block_type_names, instance_names, interfaces, internals_of, networks, networks_in, parameter_lists, port_names, state_names, with_lists, NameUnknown, Required, all_of, required_chart, required_deployment, required_parameters, required_types, required, required_withs, Plan, EventKind, BasicType, BlockType, CompositeType, Instance, Library, Network, Parameter}
+use Rattle.fb_types.proofs.Common.{◌≡◌, ℕ, ◌<◌, ◌≤◌, ◌+◌, zero, suc, List, [], ◌∷◌, ◌++◌, map, length, get_or, Option, Some, None, Contains, true, false, refl, sym, ◌∙◌, ap, subst, inl, inr, arith, append_assoc, true≢false, Contains-append_left, Contains-append_right, Contains-append_cases, slice_get-get_or, flat_map, option_map, option_and_then, position, slice_get, unwrap_or, Name, Path, same_name, Kind, Basic, Event, among, event_blocks, event_names, named, ports_of, variable_names, inside, instance_at, instance_in, kind_at, kind_of, kind_of_instance, network_at, paths_inside, paths_of, resource_names_of, type_name, type_named, AreAccepted, Inputs, system_of, path_at, NameTwice, OwnedNetwork, Twice, algorithm_names, basics, basics_in, block_type_names, instance_names, interfaces, internals_of, networks, networks_in, parameter_lists, port_names, state_names, with_lists, NameUnknown, Required, all_of, required_chart, required_deployment, required_parameters, required_types, required, required_withs}
+use Rattle.fb_types.specs.declared.deploy.Plan.{Plan}
+use Rattle.fb_types.specs.declared.event_kind.EventKind.{EventKind}
+use Rattle.fb_types.specs.declared.library.BasicType.{BasicType}
+use Rattle.fb_types.specs.declared.library.BlockType.{BlockType}
+use Rattle.fb_types.specs.declared.library.CompositeType.{CompositeType}
+use Rattle.fb_types.specs.declared.library.Instance.{Instance}
+use Rattle.fb_types.specs.declared.library.Library.{Library}
+use Rattle.fb_types.specs.declared.library.Network.{Network}
+use Rattle.fb_types.specs.declared.library.Parameter.{Parameter}
 use Rattle.fb_types.specs.declared.library.BlockType.TheVariants as block
 use Rattle.fb_types.proofs.lemmas.lists.Positions.{is_some-position, named-position, named_of_once, position_is}
 use Rattle.fb_types.proofs.lemmas.lists.Options.{and_then_parts, map_parts, some_from_is_some}

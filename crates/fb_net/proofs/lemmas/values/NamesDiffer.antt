@@ -1,5 +1,10 @@
 -- The names of the variables of an accepted declaration's type differ: those of the data inputs, those of the data outputs, and the ones from the others.
-use Rattle.fb_types.proofs.Common.{◌≡◌, List, [], ◌∷◌, ◌++◌, append_assoc, map, false, Contains, refl, sym, subst, inl, false_from_ne_true, Contains-append_left, Option, Some, None, option_map, option_and_then, flat_map, Name, Path, Kind, Event, among, event_blocks, event_names, named, ports_of, variable_names, kind_of, kind_at, kind_of_instance, instance_at, resource_names_of, type_name, NameTwice, OwnedNetwork, Twice, algorithm_names, basics, block_type_names, instance_names, interfaces, internals_of, networks, parameter_lists, port_names, state_names, with_lists, Plan, EventKind, BlockType, Instance, Library}
+use Rattle.fb_types.proofs.Common.{◌≡◌, List, [], ◌∷◌, ◌++◌, append_assoc, map, false, Contains, refl, sym, subst, inl, false_from_ne_true, Contains-append_left, Option, Some, None, option_map, option_and_then, flat_map, Name, Path, Kind, Event, among, event_blocks, event_names, named, ports_of, variable_names, kind_of, kind_at, kind_of_instance, instance_at, resource_names_of, type_name, NameTwice, OwnedNetwork, Twice, algorithm_names, basics, block_type_names, instance_names, interfaces, internals_of, networks, parameter_lists, port_names, state_names, with_lists}
+use Rattle.fb_types.specs.declared.deploy.Plan.{Plan}
+use Rattle.fb_types.specs.declared.event_kind.EventKind.{EventKind}
+use Rattle.fb_types.specs.declared.library.BlockType.{BlockType}
+use Rattle.fb_types.specs.declared.library.Instance.{Instance}
+use Rattle.fb_types.specs.declared.library.Library.{Library}
 use Rattle.fb_types.proofs.lemmas.lists.TwiceLaws.{Twice-append_left, Twice-both, Twice-append_right}
 use Rattle.fb_types.proofs.lemmas.names.NameLaws.{contains_from_any, named-Contains}
 use Rattle.fb_types.proofs.lemmas.lists.Elements.{Contains-there, Contains-map}

@@ -1,5 +1,5 @@
 use Rattle.fb_read.proofs.lemmas.Common.{◌≡◌, List, Ok, Err, refl, subst, err_from_is_err_and, Reads, run_after, basic, algorithm, algorithms}
-use Rattle.fb_types.proofs.Common.{Algorithm}
+use Rattle.fb_types.specs.declared.library.Algorithm.{Algorithm}
 use Rattle.fb_read.specs.declared.token.Mark.TheVariants as mark
 use Rattle.fb_read.proofs.lemmas.rules.Reading.{stops, stops_later, went_on}
 use Rattle.fb_read.proofs.block.basic.Goals as goal

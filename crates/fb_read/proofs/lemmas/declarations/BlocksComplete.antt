@@ -1,6 +1,9 @@
 -- What the grammar of block types and of libraries derives is read.
 use Rattle.fb_read.proofs.lemmas.Common.{◌≡◌, ◌<◌, true, false, List, ◌∷◌, [], ◌++◌, length, refl, ◌∙◌, arith, Name, Ports, Library, Mark, Tokens, same_mark, sees, name, expect, run_after, basic, block, library, is_mark, is_name, AreAll, IsLibrary}
-use Rattle.fb_types.proofs.Common.{list_all-append, Network, BasicType, BlockType}
+use Rattle.fb_types.proofs.Common.{list_all-append}
+use Rattle.fb_types.specs.declared.library.Network.{Network}
+use Rattle.fb_types.specs.declared.library.BasicType.{BasicType}
+use Rattle.fb_types.specs.declared.library.BlockType.{BlockType}
 use Rattle.fb_types.specs.declared.library.BlockType.TheVariants as block_type
 use Rattle.fb_read.specs.declared.token.Mark.TheVariants as mark
 use Rattle.fb_read.specs.declared.token.Token.TheVariants as token

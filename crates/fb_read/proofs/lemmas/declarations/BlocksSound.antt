@@ -1,6 +1,6 @@
 -- What the parser of block types and of libraries reads is in the grammar.
 use Rattle.fb_read.proofs.lemmas.Common.{List, [], ◌++◌, Ok, sym, subst, inl, inr, Name, Ports, sees, name, expect, run_after, network, application, variables, ports, states, transitions, algorithms, basic, block, library, AreAll, IsLibrary}
-use Rattle.fb_types.proofs.Common.{BlockType}
+use Rattle.fb_types.specs.declared.library.BlockType.{BlockType}
 use Rattle.fb_types.specs.declared.library.BlockType.TheVariants as block_type
 use Rattle.fb_read.specs.declared.token.Mark.TheVariants as mark
 use Rattle.fb_read.specs.Nodes.{basic_of, composite_of, library_of}

@@ -1,6 +1,7 @@
 -- What the grammar of execution control charts derives is read.
 use Rattle.fb_read.proofs.lemmas.Common.{◌≡◌, ◌<◌, ◌≤◌, Bool, true, false, List, ◌∷◌, [], length, Option, Some, None, refl, ap, ◌∙◌, arith, Expr, Action, Mark, transition_of, Tokens, same_mark, sees, after, name, name_if, one, word, expect, Stops, loosest, action, actions, state, states, condition, transition, transitions, structured_text, algorithm, algorithms, IsMark, is_mark, is_name, is_whole, AreAll}
-use Rattle.fb_types.proofs.Common.{Transition, Algorithm}
+use Rattle.fb_types.specs.declared.library.Transition.{Transition}
+use Rattle.fb_types.specs.declared.library.Algorithm.{Algorithm}
 use Rattle.fb_types.specs.declared.library.State.{State}
 use Rattle.fb_types.specs.declared.library.Condition.{Condition}
 use Rattle.fb_read.specs.declared.token.Mark.TheVariants as mark

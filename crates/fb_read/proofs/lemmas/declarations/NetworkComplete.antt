@@ -1,6 +1,11 @@
 -- What the grammar of networks derives is read.
 use Rattle.fb_read.proofs.lemmas.Common.{◌≡◌, ◌<◌, ◌≤◌, Bool, false, List, ◌∷◌, length, refl, ap, ◌∙◌, arith, Mark, Tokens, same_mark, sees, after, name, whole, literal, expect, many, section, port, connection, constant, parameter, parameters, instance, network, application, is_mark, is_name, is_whole, is_time, IsSection}
-use Rattle.fb_types.proofs.Common.{Value, PortName, Connection, Parameter, Instance, Network}
+use Rattle.fb_types.specs.declared.value.Value.{Value}
+use Rattle.fb_types.specs.declared.library.PortName.{PortName}
+use Rattle.fb_types.specs.declared.library.Connection.{Connection}
+use Rattle.fb_types.specs.declared.library.Parameter.{Parameter}
+use Rattle.fb_types.specs.declared.library.Instance.{Instance}
+use Rattle.fb_types.specs.declared.library.Network.{Network}
 use Rattle.fb_types.specs.declared.library.Application.{Application}
 use Rattle.fb_read.specs.declared.token.Mark.TheVariants as mark
 use Rattle.fb_read.specs.declared.token.Token.TheVariants as token

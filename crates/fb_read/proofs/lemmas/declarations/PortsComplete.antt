@@ -1,6 +1,8 @@
 -- What the grammar of interfaces derives is read.
 use Rattle.fb_read.proofs.lemmas.Common.{◌≡◌, ◌≤◌, Bool, false, List, ◌∷◌, length, Option, refl, ap, ◌∙◌, arith, Name, Ports, Mark, Tokens, same_mark, sees, after, name, expect, separated, section, with_names, event, initial, declaration, variables, ports, is_mark, IsName, is_name, AreSeparated, last, and_next, IsSection}
-use Rattle.fb_types.proofs.Common.{Value, EventPort, Variable}
+use Rattle.fb_types.specs.declared.value.Value.{Value}
+use Rattle.fb_types.specs.declared.library.EventPort.{EventPort}
+use Rattle.fb_types.specs.declared.library.Variable.{Variable}
 use Rattle.fb_read.specs.declared.ports.Declaration.{Declaration}
 use Rattle.fb_read.specs.declared.token.Mark.TheVariants as mark
 use Rattle.fb_read.specs.declared.token.Token.TheVariants as token

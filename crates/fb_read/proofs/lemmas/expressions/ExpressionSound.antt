@@ -1,6 +1,6 @@
 -- Expressions that are read are derived by the grammar, with their nesting counted.
 use Rattle.fb_read.proofs.lemmas.Common.{◌≡◌, ℕ, zero, suc, ℤ, ◌≤◌, max, Bool, true, false, cond, eqb, leb, List, [], ◌∷◌, ◌++◌, length, map, Ok, Err, Option, Some, None, refl, sym, ap, subst, ◌∙◌, append_assoc, inl, inr, arith, leb-true, eqb-true, Name, BinaryOperator, Expr, Mark, Nested, Tokens, Parser, Outcome, syntax, too_deep, and_then, sees, rest_of, after, expect, name, literal, nesting, deepest, most_nesting, operator_of, next_operator, begins_expression, loosest, IsMark, is_mark, IsName, IsLevel, is_unary, is_chain, IsChain, ends, goes_on, IsUnary, negated, inverted, is_primary, IsPrimary, is_number, is_duration, is_true, is_false, is_variable, is_group, is_bare_call, is_call, AreArguments, another, IsExpression, expression, nested_expression, level_at, climb, unary, primary, arguments, arguments_from, around}
-use Rattle.fb_types.proofs.Common.{UnaryOperator}
+use Rattle.fb_types.specs.declared.text.UnaryOperator.{UnaryOperator}
 use Rattle.fb_types.specs.declared.text.UnaryOperator.TheVariants as sign
 use Rattle.fb_types.specs.declared.text.Expr.TheVariants as e
 use Rattle.fb_read.specs.declared.token.Mark.TheVariants as mark

@@ -1,5 +1,8 @@
 -- How deep each kind of expression nests.
-use Rattle.fb_types.proofs.Common.{◌≡◌, ℕ, ℤ, suc, ◌≤◌, max, Bool, List, map, arith, rules, Name, BinaryOperator, UnaryOperator, Expr}
+use Rattle.fb_types.proofs.Common.{◌≡◌, ℕ, ℤ, suc, ◌≤◌, max, Bool, List, map, arith, rules, Name}
+use Rattle.fb_types.specs.declared.text.BinaryOperator.{BinaryOperator}
+use Rattle.fb_types.specs.declared.text.UnaryOperator.{UnaryOperator}
+use Rattle.fb_types.specs.declared.text.Expr.{Expr}
 use Rattle.fb_types.specs.declared.text.Expr.{the_lemmas, fold_out-Expr}
 use Rattle.fb_types.specs.declared.text.Expr.TheOpen.{Expr-F}
 use Rattle.fb_types.specs.declared.text.Expr.TheVariants as e

@@ -1,6 +1,6 @@
 -- The rules of expressions look one token ahead.
 use Rattle.fb_read.proofs.lemmas.Common.{◌≡◌, ℕ, zero, suc, ◌<◌, ◌≤◌, Bool, true, false, cond, List, [], ◌∷◌, ◌++◌, length, Option, Some, None, Ok, Err, refl, sym, ap, ◌∙◌, leb, arith, max, Name, Expr, BinaryOperator, le-leb, leb-true, Mark, Nested, Tokens, Outcome, Parser, too_deep, and_then, ◌>>=◌, pure, refuse, eat, expect, name, literal, rest_of, after, sees, next_operator, begins_expression, loosest, around, arguments_from, arguments, primary, unary, climb, level_at, nested_expression, expression, most_nesting}
-use Rattle.fb_types.proofs.Common.{UnaryOperator}
+use Rattle.fb_types.specs.declared.text.UnaryOperator.{UnaryOperator}
 use Rattle.fb_types.specs.declared.text.Expr.TheVariants as e
 use Rattle.fb_types.specs.declared.text.UnaryOperator.TheVariants as sign
 use Rattle.fb_read.specs.declared.token.Token.TheVariants as token

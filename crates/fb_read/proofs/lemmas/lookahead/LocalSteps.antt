@@ -1,6 +1,6 @@
 -- The steps that every rule is made of look one token ahead.
 use Rattle.fb_read.proofs.lemmas.Common.{◌≡◌, ℕ, ◌+◌, ◌<◌, ◌≤◌, Bool, true, false, cond, [], ◌∷◌, ◌++◌, length, Option, Some, None, Ok, Err, ℤ, pos, refl, ◌∙◌, eqb, arith, bytes_eq, Name, length-append, Token, Mark, Tokens, Outcome, Parser, syntax, too_deep, and_then, ◌>>=◌, eat, after, expect, name, name_if, word, ty_name, whole, one, literal}
-use Rattle.fb_types.proofs.Common.{Ty}
+use Rattle.fb_types.specs.declared.value.Ty.{Ty}
 use Rattle.fb_read.specs.declared.token.Token.TheVariants as token
 use Rattle.fb_read.specs.Parser.{is_mark, ty_of, typed}
 use Rattle.fb_read.proofs.lemmas.lookahead.OneTokenAhead.{Local, Nests, Step, taken, kept, denied, on, stepped, looks-bind, looks-cond, local-step, local-as}

@@ -1,6 +1,9 @@
 -- What a section lists takes a token for each item.
 use Rattle.fb_read.proofs.lemmas.Common.{◌≡◌, ◌+◌, ◌<◌, ◌≤◌, List, length, Ok, arith, length-append, flat_map, Mark, Tokens, many, section, instance, event, variables, AreSeparated, last, and_next, IsSection}
-use Rattle.fb_types.proofs.Common.{length-map, EventPort, Instance, Variable}
+use Rattle.fb_types.proofs.Common.{length-map}
+use Rattle.fb_types.specs.declared.library.EventPort.{EventPort}
+use Rattle.fb_types.specs.declared.library.Instance.{Instance}
+use Rattle.fb_types.specs.declared.library.Variable.{Variable}
 use Rattle.fb_read.specs.declared.ports.Declaration.{Declaration}
 use Rattle.fb_read.specs.declared.token.Mark.TheVariants as mark
 use Rattle.fb_read.specs.Nodes.{variable_of}

@@ -1,6 +1,7 @@
 -- The steps of a parser: what was read is what the grammar says.
 use Rattle.fb_read.proofs.lemmas.Common.{◌≡◌, ℕ, ℤ, pos, ◌<◌, Bool, true, false, cond, eqb, [], ◌∷◌, length, Option, Some, None, Ok, Err, refl, ap, subst, inl, inr, arith, rules, bytes_eq, eq-eqb, eqb-true, Name, Mark, Tokens, Parser, Outcome, syntax, and_then, same_mark, sees, rest_of, after, expect, name, ty_name, word, whole, one, literal, IsMark, is_mark, IsName, is_name, is_whole, is_time}
-use Rattle.fb_types.proofs.Common.{◌⊎◌, bytes_eq-Decides, Ty}
+use Rattle.fb_types.proofs.Common.{◌⊎◌, bytes_eq-Decides}
+use Rattle.fb_types.specs.declared.value.Ty.{Ty}
 use denote.Enum.Bare.{same_true}
 use Rattle.fb_read.specs.contracts.token.Mark.{the_type}
 use Rattle.fb_read.specs.declared.token.Token.TheVariants as token

@@ -1,5 +1,10 @@
 -- How deep each kind of statement nests, and the expressions in it.
-use Rattle.fb_types.proofs.Common.{◌≡◌, ℕ, suc, ◌≤◌, max, List, Option, map, arith, rules, Name, Expr, Stmt-F, Choice, Branch, Label}
+use Rattle.fb_types.proofs.Common.{◌≡◌, ℕ, suc, ◌≤◌, max, List, Option, map, arith, rules, Name}
+use Rattle.fb_types.specs.declared.text.Expr.{Expr}
+use Rattle.fb_types.specs.declared.text.Stmt.TheOpen.{Stmt-F}
+use Rattle.fb_types.specs.declared.text.Choice.{Choice}
+use Rattle.fb_types.specs.declared.text.Branch.{Branch}
+use Rattle.fb_types.specs.declared.text.Label.{Label}
 use Rattle.fb_types.specs.declared.text.Stmt.{Stmt, the_lemmas, fold_out-Stmt}
 use Rattle.fb_types.specs.declared.text.Stmt.TheVariants as s
 use Rattle.fb_read.specs.Nesting.{nesting, by_nesting, deepest, statement_step, statement_nesting, branch_nesting, choice_nesting, expression_nesting, branch_expression_nesting, choice_expression_nesting}

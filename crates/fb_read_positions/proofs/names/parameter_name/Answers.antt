@@ -1,4 +1,6 @@
-use Rattle.fb_types.proofs.Common.{List, ap, ◌∙◌, option_map, slice_get, option_copied, Instance, Parameter}
+use Rattle.fb_types.proofs.Common.{List, ap, ◌∙◌, option_map, slice_get, option_copied}
+use Rattle.fb_types.specs.declared.library.Instance.{Instance}
+use Rattle.fb_types.specs.declared.library.Parameter.{Parameter}
 use Rattle.fb_read_positions.proofs.lemmas.IndexedItems.{found, none_found}
 use Rattle.fb_read_positions.proofs.names.parameter_name.Goals as goal
 

@@ -1,4 +1,5 @@
-use Rattle.fb_types.proofs.Common.{refl, ap, ◌∙◌, option_copied, Instance}
+use Rattle.fb_types.proofs.Common.{refl, ap, ◌∙◌, option_copied}
+use Rattle.fb_types.specs.declared.library.Instance.{Instance}
 use Rattle.fb_read_positions.proofs.lemmas.IndexedItems.{had, none_had}
 use Rattle.fb_read_positions.proofs.names.type_of.Goals as goal
 

@@ -1,4 +1,5 @@
-use Rattle.fb_types.proofs.Common.{ap, ◌∙◌, slice_get, option_copied, EventPort}
+use Rattle.fb_types.proofs.Common.{ap, ◌∙◌, slice_get, option_copied}
+use Rattle.fb_types.specs.declared.library.EventPort.{EventPort}
 use Rattle.fb_read_positions.proofs.lemmas.IndexedItems.{found, none_found}
 use Rattle.fb_read_positions.proofs.names.with_name.Goals as goal
 

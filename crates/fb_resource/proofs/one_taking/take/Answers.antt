@@ -1,5 +1,5 @@
 use Rattle.fb_resource.proofs.lemmas.Common.{◌≡◌, Some, All, length, refl, sym, ap, subst, ◌∙◌, arith, system_of, local_key, begun, world_of, Key, path_of, Event, event_of, IsMetered, meter_of, AreReady, IsTakenHere, with_event, Traffic, TickCounts}
-use Rattle.fb_types.proofs.Common.{Steps}
+use Rattle.fb_types.specs.declared.value.Reason.TheVariants.{Steps}
 use Rattle.fb_types.specs.declared.run.Event.TheVariants.{Local}
 use Rattle.fb_net.specs.Outs.{IsOut}
 use Rattle.fb_net.specs.Events.{IsEventIn}

@@ -1,4 +1,5 @@
-use Rattle.fb_types.proofs.Common.{refl, sym, ap, subst, ◌∙◌, system_of, stimulus_key, Port, Key}
+use Rattle.fb_types.proofs.Common.{refl, sym, ap, subst, ◌∙◌, system_of, stimulus_key, Port}
+use Rattle.fb_types.specs.declared.key.Key.{Key}
 use Rattle.fb_types.specs.declared.run.Event.TheVariants.{Stimulus}
 use Rattle.fb_resource.proofs.lemmas.OpenIs.{stimulus_waits}
 use Rattle.fb_resource.proofs.lemmas.PostLaws.{port_path}

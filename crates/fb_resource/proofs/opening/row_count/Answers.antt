@@ -1,4 +1,5 @@
-use Rattle.fb_types.proofs.Common.{◌<◌, ◌^◌, List, length, subst, sym, Stimulus}
+use Rattle.fb_types.proofs.Common.{◌<◌, ◌^◌, List, length, subst, sym}
+use Rattle.fb_types.specs.declared.deploy.Stimulus.{Stimulus}
 use Rattle.fb_resource.proofs.lemmas.OpenIs.{few_rows}
 use Rattle.fb_resource.proofs.opening.row_count.Goals as goal
 

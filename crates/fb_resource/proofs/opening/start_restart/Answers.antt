@@ -1,4 +1,5 @@
-use Rattle.fb_types.proofs.Common.{refl, sym, ap, subst, ◌∙◌, Some, arith, Event, system_of, path_at, At}
+use Rattle.fb_types.proofs.Common.{refl, sym, ap, subst, ◌∙◌, Some, arith, Event, system_of, path_at}
+use Rattle.fb_types.specs.declared.run.TimerAsk.TheVariants.{At}
 use Rattle.fb_check_names.specs.Numbers.{kind_of_number}
 use Rattle.fb_resource.proofs.lemmas.OpenIs.{IsStarted, below_more, other_event, put_none, restart_below, restart_put}
 use Rattle.fb_resource.proofs.lemmas.ReadyIs.{lies_in, order_timer}

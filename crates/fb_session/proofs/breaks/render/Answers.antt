@@ -1,4 +1,5 @@
-use Rattle.fb_types.proofs.Common.{zero, suc, List, [], ◌∷◌, All, arith, subst, sym, system_of, Line}
+use Rattle.fb_types.proofs.Common.{zero, suc, List, [], ◌∷◌, All, arith, subst, sym, system_of}
+use Rattle.fb_types.specs.declared.run.Line.{Line}
 use Rattle.fb_system.specs.Lines.{BelongsTo}
 use Rattle.fb_session.proofs.breaks.render.Goals as goal
 

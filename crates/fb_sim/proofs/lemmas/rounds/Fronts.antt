@@ -1,5 +1,6 @@
 -- What was handed out is what the lines of the simulation begin with, and at the end it is all of them.
-use Rattle.fb_types.proofs.Common.{◌≡◌, ℕ, zero, suc, ◌+◌, ◌<◌, ◌≤◌, Bool, true, false, List, [], ◌∷◌, ◌++◌, None, refl, sym, ap, ◌∙◌, subst, inl, ⊎_elim, arith, if◌then◌else◌, nat_lt, not, filter, cases_lt, le-ltb, lt-ltb, Inputs, system_of, stimuli_of, Taken, IsSimulation, lines_of, opening, Machine, Item, Each, machine, items_of, count_of, IsMerge, lines_at, lines_before, Core, CoreStep, opening_core, IsSchedule, taken_after, IsAtHorizon, IsLeastStop, Reason}
+use Rattle.fb_types.proofs.Common.{◌≡◌, ℕ, zero, suc, ◌+◌, ◌<◌, ◌≤◌, Bool, true, false, List, [], ◌∷◌, ◌++◌, None, refl, sym, ap, ◌∙◌, subst, inl, ⊎_elim, arith, if◌then◌else◌, nat_lt, not, filter, cases_lt, le-ltb, lt-ltb, Inputs, system_of, stimuli_of, Taken, IsSimulation, lines_of, opening, Machine, Item, Each, machine, items_of, count_of, IsMerge, lines_at, lines_before, Core, CoreStep, opening_core, IsSchedule, taken_after, IsAtHorizon, IsLeastStop}
+use Rattle.fb_types.specs.declared.value.Reason.{Reason}
 use Rattle.fb_types.specs.States.{Line}
 use Rattle.fb_types.specs.Machines as machines
 use Rattle.fb_types.specs.declared.run.Line as run

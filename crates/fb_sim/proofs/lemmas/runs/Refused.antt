@@ -1,5 +1,6 @@
 -- Why nothing is run.
-use Rattle.fb_types.proofs.Common.{◌≡◌, ◌<◌, ◌↔◌, ◌⊎◌, inl, inr, ℕ, List, length, Result, Ok, Err, refl, ap, Library, Inputs}
+use Rattle.fb_types.proofs.Common.{◌≡◌, ◌<◌, ◌↔◌, ◌⊎◌, inl, inr, ℕ, List, length, Result, Ok, Err, refl, ap, Inputs}
+use Rattle.fb_types.specs.declared.library.Library.{Library}
 use Rattle.fb_read.specs.Front.{bad_byte, bad_token}
 use Rattle.fb_read.specs.Whole.{IsDerived, IsLibraryText, IsMemory, IsNesting, IsGrammarFault, HasTokenFault, HasTokens, RefusesWhere, most_bytes}
 use Rattle.fb_read.specs.declared.error.ReadError.{ReadError}

@@ -1,5 +1,6 @@
 -- Lists whose lines are taken tick by tick, and lists that are cut in two.
-use Rattle.fb_types.proofs.Common.{◌≡◌, ℕ, zero, suc, ◌+◌, ◌<◌, ◌≤◌, nat_le, Bool, true, false, Some, List, [], ◌∷◌, ◌++◌, length, get_or, take, drop, map, refl, sym, ap, ap₂, ◌∙◌, subst, ⊎_elim, arith, All, Bor, IsPermutation, append-nil, append_assoc, nat_lt, slice_get, cases_lt, cond-true, cond-false, le-leb, lt-leb, lt-ltb, le-ltb, ltb-true, ltb-false, All-nil, All-cons, All-head, All-tail, All-permutation, Global, Each, Line, drop_all, drop_more, take_more}
+use Rattle.fb_types.proofs.Common.{◌≡◌, ℕ, zero, suc, ◌+◌, ◌<◌, ◌≤◌, nat_le, Bool, true, false, Some, List, [], ◌∷◌, ◌++◌, length, get_or, take, drop, map, refl, sym, ap, ap₂, ◌∙◌, subst, ⊎_elim, arith, All, Bor, IsPermutation, append-nil, append_assoc, nat_lt, slice_get, cases_lt, cond-true, cond-false, le-leb, lt-leb, lt-ltb, le-ltb, ltb-true, ltb-false, All-nil, All-cons, All-head, All-tail, All-permutation, Global, Each, drop_all, drop_more, take_more}
+use Rattle.fb_types.specs.declared.run.Line.{Line}
 use Rattle.std.proofs.Common.{filter, Vec}
 use Rattle.std.proofs.lemmas.List.Elements.{All-from_recursion, recursion_from_All}
 use Rattle.std.specs.List.Sorted.{IsPartitionedBy, IsPartitionPoint}

@@ -1,4 +1,6 @@
-use Rattle.fb_types.proofs.Common.{◌<◌, [], All, map, refl, sym, ap, subst, ◌∙◌, append-nil, arith, nil_from_length, on_ok_weaker, system_of, found, message_key, or_else, Message, Arrival}
+use Rattle.fb_types.proofs.Common.{◌<◌, [], All, map, refl, sym, ap, subst, ◌∙◌, append-nil, arith, nil_from_length, on_ok_weaker, system_of, found, message_key, or_else}
+use Rattle.fb_types.specs.declared.run.Message.{Message}
+use Rattle.fb_types.specs.declared.run.Event.TheVariants.{Arrival}
 use Rattle.fb_resource.specs.Posts.{IsMessage, IsPut, arriving, key_of}
 use Rattle.fb_resource.specs.Waiting.{meaning}
 use Rattle.fb_resource.proofs.lemmas.PostLaws.{next_of, order_put}

@@ -1,4 +1,6 @@
-use Rattle.fb_types.proofs.Common.{◌≡◌, ◌++◌, ◌∷◌, ◌<◌, [], All, map, vec_len, sym, ap, subst, ◌∙◌, append_assoc, append-nil, arith, eqb-true, nil_from_length, system_of, found, message_key, or_else, Message, Arrival}
+use Rattle.fb_types.proofs.Common.{◌≡◌, ◌++◌, ◌∷◌, ◌<◌, [], All, map, vec_len, sym, ap, subst, ◌∙◌, append_assoc, append-nil, arith, eqb-true, nil_from_length, system_of, found, message_key, or_else}
+use Rattle.fb_types.specs.declared.run.Message.{Message}
+use Rattle.fb_types.specs.declared.run.Event.TheVariants.{Arrival}
 use Rattle.std.specs.Vec.Iter.{drain_items}
 use Rattle.fb_resource.specs.Posts.{IsMessage, IsPut, arriving, key_of}
 use Rattle.fb_resource.specs.Waiting.{meaning}

@@ -1,4 +1,6 @@
-use Rattle.fb_types.proofs.Common.{◌≡◌, ◌++◌, ◌<◌, ℕ, All, map, found, or_else, Key, Message}
+use Rattle.fb_types.proofs.Common.{◌≡◌, ◌++◌, ◌<◌, ℕ, All, map, found, or_else}
+use Rattle.fb_types.specs.declared.key.Key.{Key}
+use Rattle.fb_types.specs.declared.run.Message.{Message}
 use Rattle.std.specs.Vec.Iter.{drain_items, DrainKeeps}
 use Rattle.fb_resource.specs.Posts.{arriving}
 use Rattle.fb_resource.specs.Waiting.{IsInOrder, meaning}

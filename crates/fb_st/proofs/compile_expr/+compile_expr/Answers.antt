@@ -1,4 +1,5 @@
-use Rattle.fb_types.proofs.Common.{◌≡◌, Some, refl, sym, ◌∙◌, ap, subst, rules, to_z-of_z, IfOk, IfOk-weaker, Binary, expr_of, function_named, Function}
+use Rattle.fb_types.proofs.Common.{◌≡◌, Some, refl, sym, ◌∙◌, ap, subst, rules, to_z-of_z, IfOk, IfOk-weaker, Binary, expr_of, function_named}
+use Rattle.fb_types.specs.declared.function.Function.{Function}
 use mir.Syntax.{w128}
 use mir.Val.{SFits}
 use Rattle.fb_types.specs.Syntax.{Expr}

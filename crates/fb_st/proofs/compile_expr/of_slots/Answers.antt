@@ -1,4 +1,5 @@
-use Rattle.fb_types.proofs.Common.{◌≡◌, ◌∙◌, ℕ, refl, sym, ap, BinaryOperator}
+use Rattle.fb_types.proofs.Common.{◌≡◌, ◌∙◌, ℕ, refl, sym, ap}
+use Rattle.fb_types.specs.declared.text.BinaryOperator.{BinaryOperator}
 use Rattle.fb_types.specs.declared.text.BinaryOperator.TheVariants.{Add, Subtract, Multiply, Divide, Modulo}
 use Rattle.fb_st.specs.Compiled.{Number, Binary, Slot, number_said}
 use Rattle.fb_st.specs.declared.compiled.NumberExpr.{fold-roll-NumberExpr}

@@ -1,4 +1,6 @@
-use Rattle.fb_types.proofs.Common.{◌≡◌, List, map, sym, ◌∙◌, ap, subst, IfOk, Case, For, If, Repeat, Stmt, While, expr_of, step_of, stmt_of, Branch, Choice}
+use Rattle.fb_types.proofs.Common.{◌≡◌, List, map, sym, ◌∙◌, ap, subst, IfOk, Case, For, If, Repeat, Stmt, While, expr_of, step_of, stmt_of}
+use Rattle.fb_types.specs.declared.text.Branch.{Branch}
+use Rattle.fb_types.specs.declared.text.Choice.{Choice}
 use Rattle.fb_types.specs.declared.text.Stmt as read
 use Rattle.fb_st.specs.Flows.{all_of, branch_of, branches_of, choice_of, choices_of}
 use Rattle.fb_st.specs.Made.{SaysAll, SaysBranches, SaysChoices, SaysCount, SaysStmt}

@@ -1,4 +1,7 @@
-use Rattle.fb_types.proofs.Common.{◌≡◌, ◌++◌, ◌∷◌, [], List, map, Result, Ok, length-append, arith, sym, ap, ◌∙◌, err_from_is_err_and, expr_of, exprs, Values, value_of, values_of as values_of_all, and_then, unary_value, binary_value, value_if_known, function_named, Expr, Reason, Value}
+use Rattle.fb_types.proofs.Common.{◌≡◌, ◌++◌, ◌∷◌, [], List, map, Result, Ok, length-append, arith, sym, ap, ◌∙◌, err_from_is_err_and, expr_of, exprs, Values, value_of, values_of as values_of_all, and_then, unary_value, binary_value, value_if_known, function_named}
+use Rattle.fb_types.specs.declared.text.Expr.{Expr}
+use Rattle.fb_types.specs.declared.value.Reason.{Reason}
+use Rattle.fb_types.specs.declared.value.Value.{Value}
 use Rattle.fb_st.specs.Required.{both}
 use Rattle.fb_st.specs.Frames.{values_of}
 use Rattle.fb_st.proofs.lemmas.Arguments.{argument_done, with_one, one_stops, with_two, two_stop, with_three, three_stop, third_stops}

@@ -1,4 +1,5 @@
-use Rattle.fb_types.proofs.Common.{◌≡◌, ◌*◌, ◌+◌, max, map, drop, length, List, ◌++◌, Ok, expr_of, exprs, values_of as values_of_all, and_then, Value}
+use Rattle.fb_types.proofs.Common.{◌≡◌, ◌*◌, ◌+◌, max, map, drop, length, List, ◌++◌, Ok, expr_of, exprs, values_of as values_of_all, and_then}
+use Rattle.fb_types.specs.declared.value.Value.{Value}
 use denote.Param.Weighed.{most}
 use Rattle.fb_types.proofs.text.Expr.TheLaws as expr
 use Rattle.fb_st.specs.Frames.{values_of}

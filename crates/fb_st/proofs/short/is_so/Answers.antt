@@ -1,4 +1,5 @@
-use Rattle.fb_types.proofs.Common.{◌≡◌, ◌∙◌, ℤ, sym, ap, to_z-of_z, int_lt, BinaryOperator}
+use Rattle.fb_types.proofs.Common.{◌≡◌, ◌∙◌, ℤ, sym, ap, to_z-of_z, int_lt}
+use Rattle.fb_types.specs.declared.text.BinaryOperator.{BinaryOperator}
 use Rattle.fb_st.specs.Compiled.{compared_by}
 use Rattle.fb_st.proofs.short.is_so.Goals as goal
 

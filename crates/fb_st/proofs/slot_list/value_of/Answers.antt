@@ -1,4 +1,5 @@
-use Rattle.fb_types.proofs.Common.{◌≡◌, ◌∙◌, ◌==◌, ℤ, Bool, not, sym, ap, rules, arith, nat_tests, ints, Ty}
+use Rattle.fb_types.proofs.Common.{◌≡◌, ◌∙◌, ◌==◌, ℤ, Bool, not, sym, ap, rules, arith, nat_tests, ints}
+use Rattle.fb_types.specs.declared.value.Ty.{Ty}
 use mir.Syntax.{w64}
 use mir.Val.{SFits, of_z}
 use Rattle.fb_types.specs.declared.value.Value.TheVariants as value

@@ -1,4 +1,5 @@
-use Rattle.fb_types.proofs.Common.{sym, ◌∙◌, find, at_drop_all, same_name, Algorithm}
+use Rattle.fb_types.proofs.Common.{sym, ◌∙◌, find, at_drop_all, same_name}
+use Rattle.fb_types.specs.declared.library.Algorithm.{Algorithm}
 use Rattle.fb_types.proofs.lemmas.lists.LoopSteps.{found_here, found_later}
 use Rattle.fb_stop.proofs.before.algorithm_named.Goals as goal
 

@@ -1,4 +1,6 @@
-use Rattle.fb_types.proofs.Common.{◌≡◌, ◌∙◌, List, sym, ap, subst, find, same_name, Action, Algorithm, body_of}
+use Rattle.fb_types.proofs.Common.{◌≡◌, ◌∙◌, List, sym, ap, subst, find, same_name, body_of}
+use Rattle.fb_types.specs.declared.library.Action.{Action}
+use Rattle.fb_types.specs.declared.library.Algorithm.{Algorithm}
 use Rattle.fb_st.specs.Frames.{Declared, declared_in, types_in, values_of}
 use Rattle.fb_st.specs.Known.{AllKnown}
 use Rattle.fb_ecc.specs.Sound.{declared_by}

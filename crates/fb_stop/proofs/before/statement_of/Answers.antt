@@ -1,4 +1,5 @@
-use Rattle.fb_types.proofs.Common.{◌∙◌, sym, ap, Reason}
+use Rattle.fb_types.proofs.Common.{◌∙◌, sym, ap}
+use Rattle.fb_types.specs.declared.value.Reason.{Reason}
 use denote.Enum.Bare.{same_false, same_true}
 use Rattle.fb_types.specs.contracts.value.Reason.{the_type}
 use Rattle.fb_stop.proofs.before.statement_of.Goals as goal

@@ -1,5 +1,10 @@
 -- A copy of the variables of a block, and the state and the algorithm of an action.
-use Rattle.fb_types.proofs.Common.{◌≡◌, ◌∙◌, ◌∷◌, ◌++◌, [], ℕ, Bool, true, false, cond, List, Option, Some, None, map, refl, sym, ap, slice_get, option_and_then, option_map, unwrap_or, find, fun_ext, map-append, slice_get-map, named, variable_names, variables_of, actions_of, algorithm_of, zero_value, Name, same_name, Stmts, no_stmt, body_of, Action, Algorithm, BasicType, Variable, Value}
+use Rattle.fb_types.proofs.Common.{◌≡◌, ◌∙◌, ◌∷◌, ◌++◌, [], ℕ, Bool, true, false, cond, List, Option, Some, None, map, refl, sym, ap, slice_get, option_and_then, option_map, unwrap_or, find, fun_ext, map-append, slice_get-map, named, variable_names, variables_of, actions_of, algorithm_of, zero_value, Name, same_name, Stmts, no_stmt, body_of}
+use Rattle.fb_types.specs.declared.library.Action.{Action}
+use Rattle.fb_types.specs.declared.library.Algorithm.{Algorithm}
+use Rattle.fb_types.specs.declared.library.BasicType.{BasicType}
+use Rattle.fb_types.specs.declared.library.Variable.{Variable}
+use Rattle.fb_types.specs.declared.value.Value.{Value}
 use Rattle.fb_types.specs.declared.library.State.{State}
 use Rattle.fb_types.proofs.lemmas.names.NameLaws.{same_from_same_name}
 use Rattle.fb_st.specs.Frames.{Declared, declared_in, names_of, values_of}

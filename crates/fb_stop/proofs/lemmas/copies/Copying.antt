@@ -1,5 +1,8 @@
 -- Lists of copies.
-use Rattle.fb_types.proofs.Common.{◌≡◌, ℕ, ◌+◌, List, [], ◌∷◌, ◌++◌, length, length-append, Option, Some, refl, sym, ap, subst, ◌∙◌, slice_get, slice_set, Basic, Inputs, system_of, path_at, State, BasicType, Line, Target}
+use Rattle.fb_types.proofs.Common.{◌≡◌, ℕ, ◌+◌, List, [], ◌∷◌, ◌++◌, length, length-append, Option, Some, refl, sym, ap, subst, ◌∙◌, slice_get, slice_set, Basic, Inputs, system_of, path_at, State}
+use Rattle.fb_types.specs.declared.library.BasicType.{BasicType}
+use Rattle.fb_types.specs.declared.run.Line.{Line}
+use Rattle.fb_types.specs.declared.run.Target.{Target}
 use Rattle.fb_types.proofs.lemmas.lists.ByIndex.{slice_get-push}
 use Rattle.fb_ecc.specs.declared.state.BasicState.{BasicState}
 use Rattle.fb_stop.specs.Copies.{AreCopies, FollowsAt, HasFollowed, IsCopy, IsFollowed}

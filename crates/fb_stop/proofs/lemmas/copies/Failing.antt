@@ -1,5 +1,11 @@
 -- Which transition's trial fails.
-use Rattle.fb_types.proofs.Common.{◌≡◌, ℕ, ℤ, zero, suc, ◌-◌, ◌<◌, Bool, true, false, List, [], ◌∷◌, take, Option, Some, None, Result, Ok, Err, refl, sym, ap, subst, ◌∙◌, arith, pos, neg_ℤ, ◌+ℤ◌, ◌-ℤ◌, if◌then◌else◌, Name, Binary, expr_of, Values, and_then, binary_value, function_named, truth, unary_value, value_if_known, value_of, values_of, whole, NoneClears, Fails, by_condition, is_true, trial_of, Function, Transition, BinaryOperator, UnaryOperator, Reason, Value}
+use Rattle.fb_types.proofs.Common.{◌≡◌, ℕ, ℤ, zero, suc, ◌-◌, ◌<◌, Bool, true, false, List, [], ◌∷◌, take, Option, Some, None, Result, Ok, Err, refl, sym, ap, subst, ◌∙◌, arith, pos, neg_ℤ, ◌+ℤ◌, ◌-ℤ◌, if◌then◌else◌, Name, Binary, expr_of, Values, and_then, binary_value, function_named, truth, unary_value, value_if_known, value_of, values_of, whole, NoneClears, Fails, by_condition, is_true, trial_of}
+use Rattle.fb_types.specs.declared.function.Function.{Function}
+use Rattle.fb_types.specs.declared.library.Transition.{Transition}
+use Rattle.fb_types.specs.declared.text.BinaryOperator.{BinaryOperator}
+use Rattle.fb_types.specs.declared.text.UnaryOperator.{UnaryOperator}
+use Rattle.fb_types.specs.declared.value.Reason.{Reason}
+use Rattle.fb_types.specs.declared.value.Value.{Value}
 use Rattle.std.specs.Prelude.{◌*ℤ◌, int_div}
 use Rattle.fb_types.specs.Syntax.{Expr, Whole, Truth, Variable, Unary, Call, Exprs, no_expr, then_exprs}
 use Rattle.fb_types.specs.Values.{absolute, function_value, judged, modulus, quotient, same_whole, within_signed}

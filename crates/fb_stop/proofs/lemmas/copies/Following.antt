@@ -1,5 +1,11 @@
 -- A copy of a basic block reacts as the block itself.
-use Rattle.fb_types.proofs.Common.{◌≡◌, ℕ, suc, Bool, true, false, cond, List, [], map, Option, Some, None, refl, sym, ap, subst, ◌∙◌, fun_ext, Basic, Bound, bound, inputs_with, outputs_with, ChartReacts, Position, Inputs, system_of, Name, Path, Port, event_at, line_of, pair_up, path_at, port_of, ports_at, World, state_of, with_values, InState, State, Stimulated, Expired, Arrived, Raised, System, Effect, begun, world_of, Values, Key, BasicType, Ports, Line, Target, Reason}
+use Rattle.fb_types.proofs.Common.{◌≡◌, ℕ, suc, Bool, true, false, cond, List, [], map, Option, Some, None, refl, sym, ap, subst, ◌∙◌, fun_ext, Basic, Bound, bound, inputs_with, outputs_with, ChartReacts, Position, Inputs, system_of, Name, Path, Port, event_at, line_of, pair_up, path_at, port_of, ports_at, World, state_of, with_values, InState, State, Stimulated, Expired, Arrived, Raised, System, Effect, begun, world_of, Values}
+use Rattle.fb_types.specs.declared.key.Key.{Key}
+use Rattle.fb_types.specs.declared.library.BasicType.{BasicType}
+use Rattle.fb_types.specs.declared.library.Ports.{Ports}
+use Rattle.fb_types.specs.declared.run.Line.{Line}
+use Rattle.fb_types.specs.declared.run.Target.{Target}
+use Rattle.fb_types.specs.declared.value.Reason.{Reason}
 use Rattle.fb_types.specs.States.{Event as AnEvent}
 use Rattle.fb_types.specs.States as model
 use Rattle.fb_types.proofs.lemmas.determined.ChartLaws.{chart-one}

@@ -1,5 +1,8 @@
 -- The site at which the reaction of a copy stops.
-use Rattle.fb_types.proofs.Common.{◌≡◌, ℕ, ◌<◌, List, length, Option, Some, None, sym, ap, subst, ◌∙◌, slice_get, same_Some, slice_get_within, Basic, Inputs, system_of, path_at, BasicType, Line, Target}
+use Rattle.fb_types.proofs.Common.{◌≡◌, ℕ, ◌<◌, List, length, Option, Some, None, sym, ap, subst, ◌∙◌, slice_get, same_Some, slice_get_within, Basic, Inputs, system_of, path_at}
+use Rattle.fb_types.specs.declared.library.BasicType.{BasicType}
+use Rattle.fb_types.specs.declared.run.Line.{Line}
+use Rattle.fb_types.specs.declared.run.Target.{Target}
 use Rattle.fb_ecc.specs.declared.state.BasicState.{BasicState}
 use Rattle.fb_stop.specs.Copies.{HasLocated, IsLocated, Stopping}
 use Rattle.fb_stop.specs.declared.found.EventSite.{EventSite}

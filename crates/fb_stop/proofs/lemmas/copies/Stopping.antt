@@ -1,5 +1,8 @@
 -- Chains of states that stop, put together from their links.
-use Rattle.fb_types.proofs.Common.{◌≡◌, ℕ, zero, suc, ◌+◌, List, [], ◌∷◌, ◌++◌, take, drop, Option, Some, None, refl, sym, ap, subst, ◌∙◌, arith, slice_get, Name, Went, Left, Returned, Stopped, Position, Moving, Trial, Clears, NoneClears, Fails, Acts, ChartReacts, Enters, Links, Performs, actions_of, at_point, emitting, trial_at, Action, BasicType, Reason}
+use Rattle.fb_types.proofs.Common.{◌≡◌, ℕ, zero, suc, ◌+◌, List, [], ◌∷◌, ◌++◌, take, drop, Option, Some, None, refl, sym, ap, subst, ◌∙◌, arith, slice_get, Name, Went, Left, Returned, Stopped, Position, Moving, Trial, Clears, NoneClears, Fails, Acts, ChartReacts, Enters, Links, Performs, actions_of, at_point, emitting, trial_at}
+use Rattle.fb_types.specs.declared.library.Action.{Action}
+use Rattle.fb_types.specs.declared.library.BasicType.{BasicType}
+use Rattle.fb_types.specs.declared.value.Reason.{Reason}
 use Rattle.fb_ecc.specs.Indexes.{state_at}
 use Rattle.fb_ecc.specs.Links.{Chain}
 use Rattle.fb_ecc.proofs.lemmas.Actions.{no_next_acts}

@@ -1,5 +1,7 @@
 -- A run with the statement to blame is a run as the definitions have it.
-use Rattle.fb_types.proofs.Common.{◌≡◌, ℕ, ℤ, zero, suc, Bool, true, false, not, Option, Some, Result, Ok, Err, ap, ◌+ℤ◌, Name, with_value, Stmt, Empty, Exit, Return, Assign, If, Case, For, While, Repeat, Stmts, no_stmt, then_stmts, Choices, no_choice, then_choices, Branches, no_branch, then_branches, Values, Types, value_of, truth_of, and_then, whole, Point, label_fits, passed, Value, Reason}
+use Rattle.fb_types.proofs.Common.{◌≡◌, ℕ, ℤ, zero, suc, Bool, true, false, not, Option, Some, Result, Ok, Err, ap, ◌+ℤ◌, Name, with_value, Stmt, Empty, Exit, Return, Assign, If, Case, For, While, Repeat, Stmts, no_stmt, then_stmts, Choices, no_choice, then_choices, Branches, no_branch, then_branches, Values, Types, value_of, truth_of, and_then, whole, Point, label_fits, passed}
+use Rattle.fb_types.specs.declared.value.Value.{Value}
+use Rattle.fb_types.specs.declared.value.Reason.{Reason}
 use Rattle.fb_types.specs.Bodies as bodies
 use Rattle.fb_types.specs.declared.value.Value.TheVariants as value
 use Rattle.fb_stop.specs.Numbers.{next, after, after_all, after_choices, after_branches}

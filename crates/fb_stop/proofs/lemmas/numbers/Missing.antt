@@ -1,5 +1,11 @@
 -- Where no operation is answered, no expression of the statement of the number lacks a value for the reason.
-use Rattle.fb_types.proofs.Common.{◌≡◌, ◌∙◌, ◌<◌, ◌≤◌, ◌⊎◌, inl, inr, ℕ, max, min, arith, List, Option, Some, IfNone, take, length, refl, sym, ap, subst, ◌-◌, ◌^◌, slice_get, slice_get_within, Name, Stmts, stmt_of, Values, Branch, out-Branch, Choice, out-Choice, Expr, Label, Stmt-F, Reason}
+use Rattle.fb_types.proofs.Common.{◌≡◌, ◌∙◌, ◌<◌, ◌≤◌, ◌⊎◌, inl, inr, ℕ, max, min, arith, List, Option, Some, IfNone, take, length, refl, sym, ap, subst, ◌-◌, ◌^◌, slice_get, slice_get_within, Name, Stmts, stmt_of, Values}
+use Rattle.fb_types.specs.declared.text.Branch.{Branch, out-Branch}
+use Rattle.fb_types.specs.declared.text.Choice.{Choice, out-Choice}
+use Rattle.fb_types.specs.declared.text.Expr.{Expr}
+use Rattle.fb_types.specs.declared.text.Label.{Label}
+use Rattle.fb_types.specs.declared.text.Stmt.TheOpen.{Stmt-F}
+use Rattle.fb_types.specs.declared.value.Reason.{Reason}
 use Rattle.fb_types.specs.Syntax.{Expr as Said}
 use Rattle.fb_types.specs.declared.text.Stmt as read
 use Rattle.fb_types.specs.declared.text.Stmt.TheVariants as variants

@@ -1,5 +1,12 @@
 -- Where no statement or no operation is said: then no step was left.
-use Rattle.fb_types.proofs.Common.{◌≡◌, ◌∙◌, ◌∷◌, ◌-◌, ◌<◌, ◌≤◌, [], ℕ, zero, suc, Bool, true, false, cond, List, Option, Some, None, Result, Ok, Err, map, length, refl, sym, ap, subst, inl, inr, arith, IfNone, option_map, slice_get, unwrap_or, if◌then◌else◌, slice_get-map, filter, find, list_all, among, named, types_of, End, Point, RunsAll, RunsBody, Went, Left, Returned, Stopped, ended, Acts, Fails, Halts, Moving, NoneClears, Performs, Position, actions_of, algorithm_of, at_point, by_condition, emitting, is_true, leaving, trial_of, Name, same_name, Stmts, body_of, expr_of, no_stmt, Types, Values, and_then, truth, value_of, Action, Algorithm, BasicType, Transition, Expr, Reason, Value}
+use Rattle.fb_types.proofs.Common.{◌≡◌, ◌∙◌, ◌∷◌, ◌-◌, ◌<◌, ◌≤◌, [], ℕ, zero, suc, Bool, true, false, cond, List, Option, Some, None, Result, Ok, Err, map, length, refl, sym, ap, subst, inl, inr, arith, IfNone, option_map, slice_get, unwrap_or, if◌then◌else◌, slice_get-map, filter, find, list_all, among, named, types_of, End, Point, RunsAll, RunsBody, Went, Left, Returned, Stopped, ended, Acts, Fails, Halts, Moving, NoneClears, Performs, Position, actions_of, algorithm_of, at_point, by_condition, emitting, is_true, leaving, trial_of, Name, same_name, Stmts, body_of, expr_of, no_stmt, Types, Values, and_then, truth, value_of}
+use Rattle.fb_types.specs.declared.library.Action.{Action}
+use Rattle.fb_types.specs.declared.library.Algorithm.{Algorithm}
+use Rattle.fb_types.specs.declared.library.BasicType.{BasicType}
+use Rattle.fb_types.specs.declared.library.Transition.{Transition}
+use Rattle.fb_types.specs.declared.text.Expr.{Expr}
+use Rattle.fb_types.specs.declared.value.Reason.{Reason}
+use Rattle.fb_types.specs.declared.value.Value.{Value}
 use Rattle.fb_types.specs.Charts.{guard_value, is_present}
 use Rattle.fb_types.specs.declared.library.Condition.{Condition}
 use Rattle.fb_types.specs.declared.library.State.{State}

@@ -1,5 +1,8 @@
 -- A number that a text reaches is that of one statement alone: numbers rise from statement to statement.
-use Rattle.fb_types.proofs.Common.{◌≡◌, ◌∙◌, ◌∷◌, ◌<◌, ◌≤◌, ◌⊎◌, inl, inr, [], ℕ, zero, suc, min, max, arith, List, Some, take, length, refl, sym, ap, subst, ◌-◌, ◌^◌, slice_get, slice_get_within, Stmt, Empty, Exit, Return, Assign, If, Case, For, While, Repeat, Stmts, no_stmt, then_stmts, Choices, no_choice, then_choices, Branches, no_branch, then_branches, stmt_of, Branch, Choice, Label}
+use Rattle.fb_types.proofs.Common.{◌≡◌, ◌∙◌, ◌∷◌, ◌<◌, ◌≤◌, ◌⊎◌, inl, inr, [], ℕ, zero, suc, min, max, arith, List, Some, take, length, refl, sym, ap, subst, ◌-◌, ◌^◌, slice_get, slice_get_within, Stmt, Empty, Exit, Return, Assign, If, Case, For, While, Repeat, Stmts, no_stmt, then_stmts, Choices, no_choice, then_choices, Branches, no_branch, then_branches, stmt_of}
+use Rattle.fb_types.specs.declared.text.Branch.{Branch}
+use Rattle.fb_types.specs.declared.text.Choice.{Choice}
+use Rattle.fb_types.specs.declared.text.Label.{Label}
 use Rattle.fb_types.specs.Syntax.{Expr as Said}
 use Rattle.fb_types.specs.declared.text.Stmt as read
 use Rattle.fb_st.specs.Flows.{all_of, branch_of, branches_of, choice_of, choices_of}

@@ -1,5 +1,10 @@
 -- Runs of statements and iterations, put together from their parts, as the proofs of fb_st do it.
-use Rattle.fb_types.proofs.Common.{◌≡◌, ℕ, ℤ, zero, suc, ◌+◌, ◌<◌, Bool, true, false, not, List, Option, Some, drop, length, get_or, Result, Ok, Err, refl, sym, ◌∙◌, ap, subst, Name, with_value, Stmt, Case, For, Stmts, Branches, expr_of, stmt_of, Values, Types, truth_of, and_then, value_of, whole, fits, Point, label_fits, Label, Choice, out-Choice, Branch, out-Branch, Value, Reason}
+use Rattle.fb_types.proofs.Common.{◌≡◌, ℕ, ℤ, zero, suc, ◌+◌, ◌<◌, Bool, true, false, not, List, Option, Some, drop, length, get_or, Result, Ok, Err, refl, sym, ◌∙◌, ap, subst, Name, with_value, Stmt, Case, For, Stmts, Branches, expr_of, stmt_of, Values, Types, truth_of, and_then, value_of, whole, fits, Point, label_fits}
+use Rattle.fb_types.specs.declared.text.Label.{Label}
+use Rattle.fb_types.specs.declared.text.Choice.{Choice, out-Choice}
+use Rattle.fb_types.specs.declared.text.Branch.{Branch, out-Branch}
+use Rattle.fb_types.specs.declared.value.Value.{Value}
+use Rattle.fb_types.specs.declared.value.Reason.{Reason}
 use Rattle.fb_types.specs.Syntax.{Expr}
 use Rattle.fb_types.specs.declared.text.Stmt as read
 use Rattle.fb_types.specs.declared.value.Reason.TheVariants as reason

@@ -1,5 +1,9 @@
 -- The first part without a value gives the reason of the whole.
-use Rattle.fb_types.proofs.Common.{ℤ, Bool, ◌≡◌, ◌<◌, ℕ, zero, suc, List, [], ◌∷◌, Option, Some, None, Result, Ok, Err, IfNone, ◌⊎◌, inl, inr, map, refl, sym, ◌∙◌, ap, subst, arith, slice_get, Name, expr_of, exprs, Values, and_then, binary_value, function_named, unary_value, value_if_known, value_of, values_of, BinaryOperator, UnaryOperator, Reason, Value}
+use Rattle.fb_types.proofs.Common.{ℤ, Bool, ◌≡◌, ◌<◌, ℕ, zero, suc, List, [], ◌∷◌, Option, Some, None, Result, Ok, Err, IfNone, ◌⊎◌, inl, inr, map, refl, sym, ◌∙◌, ap, subst, arith, slice_get, Name, expr_of, exprs, Values, and_then, binary_value, function_named, unary_value, value_if_known, value_of, values_of}
+use Rattle.fb_types.specs.declared.text.BinaryOperator.{BinaryOperator}
+use Rattle.fb_types.specs.declared.text.UnaryOperator.{UnaryOperator}
+use Rattle.fb_types.specs.declared.value.Reason.{Reason}
+use Rattle.fb_types.specs.declared.value.Value.{Value}
 use Rattle.fb_types.specs.Syntax.{Unary}
 use Rattle.fb_types.specs.declared.text.Expr as read
 use Rattle.fb_types.specs.declared.text.Expr.{fold-roll-Expr}

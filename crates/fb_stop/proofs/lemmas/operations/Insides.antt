@@ -1,5 +1,11 @@
 -- What is inside an action and a guard: the algorithm, its statement, and the operation.
-use Rattle.fb_types.proofs.Common.{◌≡◌, ◌∙◌, ◌∷◌, [], ℕ, zero, suc, Bool, true, false, cond, List, Option, Some, None, IfSome, take, length, sym, ap, subst, slice_get, option_map, unwrap_or, filter, find, slice_get-map, types_of, actions_of, leaving, Name, same_name, Types, Values, Action, Algorithm, BasicType, Transition, Expr, Reason}
+use Rattle.fb_types.proofs.Common.{◌≡◌, ◌∙◌, ◌∷◌, [], ℕ, zero, suc, Bool, true, false, cond, List, Option, Some, None, IfSome, take, length, sym, ap, subst, slice_get, option_map, unwrap_or, filter, find, slice_get-map, types_of, actions_of, leaving, Name, same_name, Types, Values}
+use Rattle.fb_types.specs.declared.library.Action.{Action}
+use Rattle.fb_types.specs.declared.library.Algorithm.{Algorithm}
+use Rattle.fb_types.specs.declared.library.BasicType.{BasicType}
+use Rattle.fb_types.specs.declared.library.Transition.{Transition}
+use Rattle.fb_types.specs.declared.text.Expr.{Expr}
+use Rattle.fb_types.specs.declared.value.Reason.{Reason}
 use Rattle.fb_types.specs.declared.library.State.{State}
 use Rattle.fb_st.specs.Frames.{declared_in, types_in, values_of}
 use Rattle.fb_st.specs.declared.frame.Slot.{Slot}

@@ -1,5 +1,8 @@
 -- Where an expression has no value, put together from its parts.
-use Rattle.fb_types.proofs.Common.{◌≡◌, ◌∙◌, ◌+◌, ◌<◌, ℕ, List, Option, Some, None, IfSome, map, take, drop, length, get_or, sym, ap, subst, Values, BinaryOperator, UnaryOperator, Reason}
+use Rattle.fb_types.proofs.Common.{◌≡◌, ◌∙◌, ◌+◌, ◌<◌, ℕ, List, Option, Some, None, IfSome, map, take, drop, length, get_or, sym, ap, subst, Values}
+use Rattle.fb_types.specs.declared.text.BinaryOperator.{BinaryOperator}
+use Rattle.fb_types.specs.declared.text.UnaryOperator.{UnaryOperator}
+use Rattle.fb_types.specs.declared.value.Reason.{Reason}
 use Rattle.fb_types.specs.declared.text.Expr as read
 use Rattle.fb_st.proofs.lemmas.Runs.{cut_at}
 use Rattle.fb_stop.specs.Numbers.{next}

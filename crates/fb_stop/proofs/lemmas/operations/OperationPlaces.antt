@@ -1,5 +1,9 @@
 -- Where the operation of a statement is, put together on the way to it.
-use Rattle.fb_types.proofs.Common.{◌≡◌, ◌∙◌, ◌∷◌, ◌++◌, ◌+◌, ◌<◌, ◌≤◌, [], ℕ, zero, suc, arith, List, Option, Some, None, take, length, get_or, refl, sym, ap, subst, slice_get, IfSome, take_more, Values, stmt_of, Branch, out-Branch, Choice, out-Choice, Expr, Reason}
+use Rattle.fb_types.proofs.Common.{◌≡◌, ◌∙◌, ◌∷◌, ◌++◌, ◌+◌, ◌<◌, ◌≤◌, [], ℕ, zero, suc, arith, List, Option, Some, None, take, length, get_or, refl, sym, ap, subst, slice_get, IfSome, take_more, Values, stmt_of}
+use Rattle.fb_types.specs.declared.text.Branch.{Branch, out-Branch}
+use Rattle.fb_types.specs.declared.text.Choice.{Choice, out-Choice}
+use Rattle.fb_types.specs.declared.text.Expr.{Expr}
+use Rattle.fb_types.specs.declared.value.Reason.{Reason}
 use Rattle.fb_types.specs.declared.text.Stmt as read
 use Rattle.fb_st.specs.Flows.{all_of, branch_of, branches_of, choice_of, choices_of}
 use Rattle.fb_stop.specs.Numbers.{next, after, after_all, after_branches, after_choices}

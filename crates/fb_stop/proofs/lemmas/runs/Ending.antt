@@ -1,5 +1,6 @@
 -- How a run that was looked at event by event ends.
-use Rattle.fb_types.proofs.Common.{◌≡◌, ◌<◌, ℕ, List, [], ◌∷◌, Some, None, refl, sym, ap, subst, ◌∙◌, option_map, Inputs, system_of, stimuli_of, NoneBelow, Precedes, Each, AtHorizon, Ending, RestsAt, Taken, TakesLeast, ending_by, ending_of, last, opening, Config, Key}
+use Rattle.fb_types.proofs.Common.{◌≡◌, ◌<◌, ℕ, List, [], ◌∷◌, Some, None, refl, sym, ap, subst, ◌∙◌, option_map, Inputs, system_of, stimuli_of, NoneBelow, Precedes, Each, AtHorizon, Ending, RestsAt, Taken, TakesLeast, ending_by, ending_of, last, opening, Config}
+use Rattle.fb_types.specs.declared.key.Key.{Key}
 use Rattle.fb_types.specs.declared.run.Event.{Event}
 use Rattle.fb_agenda.specs.Agendas.{Contents, waiting}
 use Rattle.fb_net.specs.Events.{event_of}

@@ -1,5 +1,7 @@
 -- How the steps of a tick add up.
-use Rattle.fb_types.proofs.Common.{◌≡◌, ◌<◌, ◌∷◌, ◌++◌, ◌∙◌, ℕ, Bool, true, false, List, [], Option, Some, None, length, ◌-◌, ◌+◌, ◌^◌, min, get_or, refl, sym, ap, subst, arith, slice_get, slice_set, option_map, length-set, slice_get_read, Inputs, system_of, stimuli_of, Precedes, Taken, after, last, opening, Config, Meter, State, System, begun, Key, Reason}
+use Rattle.fb_types.proofs.Common.{◌≡◌, ◌<◌, ◌∷◌, ◌++◌, ◌∙◌, ℕ, Bool, true, false, List, [], Option, Some, None, length, ◌-◌, ◌+◌, ◌^◌, min, get_or, refl, sym, ap, subst, arith, slice_get, slice_set, option_map, length-set, slice_get_read, Inputs, system_of, stimuli_of, Precedes, Taken, after, last, opening, Config, Meter, State, System, begun}
+use Rattle.fb_types.specs.declared.key.Key.{Key}
+use Rattle.fb_types.specs.declared.value.Reason.{Reason}
 use Rattle.fb_types.specs.States.{Event}
 use Rattle.fb_types.specs.States as model
 use Rattle.fb_types.proofs.lemmas.lists.ByIndex.{element_at}

@@ -1,5 +1,13 @@
 -- The copies after an event, and where it stops.
-use Rattle.fb_types.proofs.Common.{◌≡◌, ◌≢◌, ℕ, zero, suc, ◌<◌, ⊎_elim, Bool, true, false, cond, List, [], ◌∷◌, length, map, Option, Some, None, refl, sym, ap, subst, ◌∙◌, arith, IfNone, IfSome, slice_get, slice_set, cases_eq, length-set, same_Some, slice_get_within, Basic, Composite, Event, Kind, bound, inputs_with, Inputs, system_of, Port, ChartReacts, event_at, line_of, path_at, port_of, ports_at, EventPort, Ports, Steps, Block, Meter, State, System, Effect, Takes, agenda_after, begun, Key, BasicType, Line, Target, Reason}
+use Rattle.fb_types.proofs.Common.{◌≡◌, ◌≢◌, ℕ, zero, suc, ◌<◌, ⊎_elim, Bool, true, false, cond, List, [], ◌∷◌, length, map, Option, Some, None, refl, sym, ap, subst, ◌∙◌, arith, IfNone, IfSome, slice_get, slice_set, cases_eq, length-set, same_Some, slice_get_within, Basic, Composite, Event, Kind, bound, inputs_with, Inputs, system_of, Port, ChartReacts, event_at, line_of, path_at, port_of, ports_at, Block, Meter, State, System, Effect, Takes, agenda_after, begun}
+use Rattle.fb_types.specs.declared.library.EventPort.{EventPort}
+use Rattle.fb_types.specs.declared.library.Ports.{Ports}
+use Rattle.fb_types.specs.declared.value.Reason.TheVariants.{Steps}
+use Rattle.fb_types.specs.declared.key.Key.{Key}
+use Rattle.fb_types.specs.declared.library.BasicType.{BasicType}
+use Rattle.fb_types.specs.declared.run.Line.{Line}
+use Rattle.fb_types.specs.declared.run.Target.{Target}
+use Rattle.fb_types.specs.declared.value.Reason.{Reason}
 use Rattle.fb_types.proofs.lemmas.lists.ByIndex.{element_at}
 use Rattle.fb_net.specs.Worlds.{BasicRepresents}
 use Rattle.fb_net.proofs.lemmas.values.Sampling.{ports-of_kind}

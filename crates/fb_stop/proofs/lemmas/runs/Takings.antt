@@ -1,5 +1,11 @@
 -- What taking one event does to the memory of a basic block.
-use Rattle.fb_types.proofs.Common.{◌≡◌, ℕ, zero, suc, Bool, true, false, cond, List, [], ◌∷◌, map, Option, Some, None, refl, sym, ap, subst, ◌∙◌, if◌then◌else◌, same_Some, Basic, Composite, Event, Kind, bound, inputs_with, is_event_input, ports_of, ChartReacts, Position, Path, Port, same_path, Outcome, Reacts, ReactsAt, World, answered, crossing_in, crossing_out, emissions, expires, memory_of, remembered, sampled, settled, silent, start_of, state_of, taking, with_values, Block, InState, Meter, State, Stimulated, Expired, Arrived, Raised, path_of, System, Effect, Takes, TakesWith, begun, effect_of, world_of, Values, EventKind, Key, BasicType, Ports, Reason, Steps}
+use Rattle.fb_types.proofs.Common.{◌≡◌, ℕ, zero, suc, Bool, true, false, cond, List, [], ◌∷◌, map, Option, Some, None, refl, sym, ap, subst, ◌∙◌, if◌then◌else◌, same_Some, Basic, Composite, Event, Kind, bound, inputs_with, is_event_input, ports_of, ChartReacts, Position, Path, Port, same_path, Outcome, Reacts, ReactsAt, World, answered, crossing_in, crossing_out, emissions, expires, memory_of, remembered, sampled, settled, silent, start_of, state_of, taking, with_values, Block, InState, Meter, State, Stimulated, Expired, Arrived, Raised, path_of, System, Effect, Takes, TakesWith, begun, effect_of, world_of, Values}
+use Rattle.fb_types.specs.declared.event_kind.EventKind.{EventKind}
+use Rattle.fb_types.specs.declared.key.Key.{Key}
+use Rattle.fb_types.specs.declared.library.BasicType.{BasicType}
+use Rattle.fb_types.specs.declared.library.Ports.{Ports}
+use Rattle.fb_types.specs.declared.value.Reason.{Reason}
+use Rattle.fb_types.specs.declared.value.Reason.TheVariants.{Steps}
 use Rattle.fb_types.specs.EventBlocks as blocks
 use Rattle.fb_types.specs.Posted.{emission_line}
 use Rattle.fb_types.specs.States.{Event as AnEvent, Line, Memory}

@@ -1,4 +1,6 @@
-use Rattle.fb_types.proofs.Common.{List, subst, ◌≡◌, Branch, Choice}
+use Rattle.fb_types.proofs.Common.{List, subst, ◌≡◌}
+use Rattle.fb_types.specs.declared.text.Branch.{Branch}
+use Rattle.fb_types.specs.declared.text.Choice.{Choice}
 use Rattle.fb_types.specs.declared.text.Stmt.{Stmt}
 use Rattle.fb_st.specs.Flows.{all_of, branches_of, choices_of}
 use Rattle.fb_st.proofs.lemmas.Runs.{nothing_left}

@@ -1,4 +1,5 @@
-use Rattle.fb_types.proofs.Common.{◌≡◌, ◌∙◌, List, ap, map, subst, Expr}
+use Rattle.fb_types.proofs.Common.{◌≡◌, ◌∙◌, List, ap, map, subst}
+use Rattle.fb_types.specs.declared.text.Expr.{Expr}
 use Rattle.fb_st.proofs.lemmas.Runs.{nothing_left}
 use Rattle.fb_stop.specs.Numbers.{next}
 use Rattle.fb_stop.specs.Tokens.{past, past_each}

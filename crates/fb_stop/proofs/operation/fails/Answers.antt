@@ -1,4 +1,6 @@
-use Rattle.fb_types.proofs.Common.{◌≡◌, ◌∙◌, Result, Ok, Err, sym, ap, false≢true, Reason, Value}
+use Rattle.fb_types.proofs.Common.{◌≡◌, ◌∙◌, Result, Ok, Err, sym, ap, false≢true}
+use Rattle.fb_types.specs.declared.value.Reason.{Reason}
+use Rattle.fb_types.specs.declared.value.Value.{Value}
 use denote.Enum.Bare.{same_false, same_true}
 use Rattle.fb_types.specs.contracts.value.Reason.{the_type}
 use Rattle.fb_stop.proofs.operation.fails.Goals as goal

@@ -1,4 +1,5 @@
-use Rattle.fb_types.proofs.Common.{◌≡◌, ◌∙◌, ◌<◌, ℕ, List, Some, length, sym, ap, subst, below_more, arith, slice_get, slice_get-get_or, slice_get_within, Expr}
+use Rattle.fb_types.proofs.Common.{◌≡◌, ◌∙◌, ◌<◌, ℕ, List, Some, length, sym, ap, subst, below_more, arith, slice_get, slice_get-get_or, slice_get_within}
+use Rattle.fb_types.specs.declared.text.Expr.{Expr}
 use Rattle.fb_st.specs.Frames.{values_of}
 use Rattle.fb_stop.specs.Operations.{HasValue}
 use Rattle.fb_stop.proofs.operation.first_without.Goals as goal

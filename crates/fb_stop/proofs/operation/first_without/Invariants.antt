@@ -1,4 +1,5 @@
-use Rattle.fb_types.proofs.Common.{◌≡◌, ◌<◌, ℕ, Some, slice_get, Expr}
+use Rattle.fb_types.proofs.Common.{◌≡◌, ◌<◌, ℕ, Some, slice_get}
+use Rattle.fb_types.specs.declared.text.Expr.{Expr}
 use Rattle.fb_st.specs.Frames.{values_of}
 use Rattle.fb_stop.specs.Operations.{HasValue}
 use Rattle.fb_stop.proofs.operation.first_without.Given as goal

@@ -1,4 +1,6 @@
-use Rattle.fb_types.proofs.Common.{◌≡◌, ◌∙◌, Result, Ok, Err, sym, false≢true, Reason, Value}
+use Rattle.fb_types.proofs.Common.{◌≡◌, ◌∙◌, Result, Ok, Err, sym, false≢true}
+use Rattle.fb_types.specs.declared.value.Reason.{Reason}
+use Rattle.fb_types.specs.declared.value.Value.{Value}
 use Rattle.fb_stop.proofs.operation.has_value.Goals as goal
 
 not_both : (v : Value) (r : Reason) → ◌≡◌ {A = Result Value Reason} (Ok v) (Err r) → ⊥

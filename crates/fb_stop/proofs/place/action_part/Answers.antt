@@ -1,4 +1,5 @@
-use Rattle.fb_types.proofs.Common.{Option, refl, sym, subst, Name, Action}
+use Rattle.fb_types.proofs.Common.{Option, refl, sym, subst, Name}
+use Rattle.fb_types.specs.declared.library.Action.{Action}
 use Rattle.fb_types.specs.declared.library.State.{State}
 use Rattle.fb_read_positions.specs.declared.position.BasicPart.{BasicPart}
 use Rattle.fb_read_positions.specs.declared.position.BasicPart.TheVariants as part

@@ -1,4 +1,5 @@
-use Rattle.fb_types.proofs.Common.{◌≡◌, ◌∙◌, ℕ, List, Some, sym, ap, subst, slice_get, slice_get-get_or, Algorithm}
+use Rattle.fb_types.proofs.Common.{◌≡◌, ◌∙◌, ℕ, List, Some, sym, ap, subst, slice_get, slice_get-get_or}
+use Rattle.fb_types.specs.declared.library.Algorithm.{Algorithm}
 use Rattle.fb_stop.proofs.place.algorithm_index.Goals as goal
 
 pub returns-then-is : goal.returns-then-is

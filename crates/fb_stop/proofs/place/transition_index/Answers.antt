@@ -1,4 +1,5 @@
-use Rattle.fb_types.proofs.Common.{◌≡◌, ◌≢◌, ◌<◌, ◌+◌, ◌-◌, ◌∙◌, ℕ, Bool, true, false, cond, List, Some, length, take, get_or, sym, ap, subst, arith, slice_get, filter, slice_get-get_or, same_name, Transition}
+use Rattle.fb_types.proofs.Common.{◌≡◌, ◌≢◌, ◌<◌, ◌+◌, ◌-◌, ◌∙◌, ℕ, Bool, true, false, cond, List, Some, length, take, get_or, sym, ap, subst, arith, slice_get, filter, slice_get-get_or, same_name}
+use Rattle.fb_types.specs.declared.library.Transition.{Transition}
 use Rattle.std.proofs.lemmas.List.Filters.{length-filter_more}
 use Rattle.fb_stop.proofs.place.transition_index.Goals as goal
 use Rattle.fb_stop.proofs.place.transition_index.Goals.{then-is+else-left-eq0, else-is}

@@ -1,4 +1,7 @@
-use Rattle.fb_types.proofs.Common.{◌≡◌, ◌<◌, ◌∷◌, ◌∙◌, [], ℕ, List, length, Some, Err, refl, sym, ap, subst, arith, IfSome, slice_get, Values, Acts, Moving, Position, actions_of, Action, Halt, Reason}
+use Rattle.fb_types.proofs.Common.{◌≡◌, ◌<◌, ◌∷◌, ◌∙◌, [], ℕ, List, length, Some, Err, refl, sym, ap, subst, arith, IfSome, slice_get, Values, Acts, Moving, Position, actions_of}
+use Rattle.fb_types.specs.declared.library.Action.{Action}
+use Rattle.fb_types.specs.declared.run.Halt.{Halt}
+use Rattle.fb_types.specs.declared.value.Reason.{Reason}
 use Rattle.fb_types.specs.declared.run.Halt.TheVariants as halt
 use Rattle.fb_types.proofs.lemmas.lists.ByIndex.{element_at}
 use Rattle.fb_ecc.specs.Indexes.{Ended, index, state_at}

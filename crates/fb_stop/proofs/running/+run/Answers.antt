@@ -1,4 +1,6 @@
-use Rattle.fb_types.proofs.Common.{List, subst, ◌≡◌, ℕ, sym, ◌∙◌, ap, not, Bool, ℤ, refl, Result, Ok, Err, Some, false, true, arith, err_from_is_err_and, Name, Stmt, Stmts, Assign, If, Case, For, While, Repeat, expr_of, stmt_of, step_of, Types, Values, whole, Point, passed, Branch, Choice}
+use Rattle.fb_types.proofs.Common.{List, subst, ◌≡◌, ℕ, sym, ◌∙◌, ap, not, Bool, ℤ, refl, Result, Ok, Err, Some, false, true, arith, err_from_is_err_and, Name, Stmt, Stmts, Assign, If, Case, For, While, Repeat, expr_of, stmt_of, step_of, Types, Values, whole, Point, passed}
+use Rattle.fb_types.specs.declared.text.Branch.{Branch}
+use Rattle.fb_types.specs.declared.text.Choice.{Choice}
 use Rattle.fb_types.specs.declared.text.Stmt as read
 use Rattle.fb_st.specs.declared.meter.Flow.TheVariants as flow
 use Rattle.fb_st.specs.Frames.{Declared, declared_in, types_in, values_of}

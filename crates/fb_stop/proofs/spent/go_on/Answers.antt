@@ -1,4 +1,5 @@
-use Rattle.fb_types.proofs.Common.{◌∷◌, ◌++◌, ◌∙◌, [], Option, None, refl, subst, arith, Taken, after, opening, system_of, stimuli_of, Reason}
+use Rattle.fb_types.proofs.Common.{◌∷◌, ◌++◌, ◌∙◌, [], Option, None, refl, subst, arith, Taken, after, opening, system_of, stimuli_of}
+use Rattle.fb_types.specs.declared.value.Reason.{Reason}
 use Rattle.fb_net.specs.Events.{event_of}
 use Rattle.fb_sim_machine.proofs.lemmas.AgendaIs.{all_falls, at_left, machine_left, takes_least}
 use Rattle.fb_sim_machine.proofs.lemmas.JoinedRuns.{reaches_more, reaches_none}

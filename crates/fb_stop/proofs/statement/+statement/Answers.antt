@@ -1,4 +1,7 @@
-use Rattle.fb_types.proofs.Common.{◌≡◌, ◌∙◌, ◌<◌, ℕ, List, Some, arith, sym, ap, subst, slice_get, slice_get-get_or, Branch, Choice, Stmt-F}
+use Rattle.fb_types.proofs.Common.{◌≡◌, ◌∙◌, ◌<◌, ℕ, List, Some, arith, sym, ap, subst, slice_get, slice_get-get_or}
+use Rattle.fb_types.specs.declared.text.Branch.{Branch}
+use Rattle.fb_types.specs.declared.text.Choice.{Choice}
+use Rattle.fb_types.specs.declared.text.Stmt.TheOpen.{Stmt-F}
 use Rattle.fb_types.specs.declared.text.Stmt as read
 use Rattle.fb_types.specs.declared.text.Stmt.TheViews.{out-Stmt}
 use Rattle.fb_st.specs.Flows.{all_of, branches_of, choices_of}

@@ -1,4 +1,5 @@
-use Rattle.fb_types.proofs.Common.{◌≡◌, ◌∙◌, ℕ, Option, None, Some, IfSome, sym, ap, subst, Expr}
+use Rattle.fb_types.proofs.Common.{◌≡◌, ◌∙◌, ℕ, Option, None, Some, IfSome, sym, ap, subst}
+use Rattle.fb_types.specs.declared.text.Expr.{Expr}
 use Rattle.fb_types.specs.declared.text.Stmt as read
 use Rattle.fb_st.specs.Frames.{values_of}
 use Rattle.fb_stop.specs.Numbers.{next}

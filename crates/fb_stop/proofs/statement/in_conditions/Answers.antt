@@ -1,4 +1,5 @@
-use Rattle.fb_types.proofs.Common.{◌≡◌, ◌∙◌, ◌<◌, ℕ, List, Some, length, sym, ap, subst, below_more, arith, slice_get, slice_get-get_or, slice_get_within, Choice, out-Choice}
+use Rattle.fb_types.proofs.Common.{◌≡◌, ◌∙◌, ◌<◌, ℕ, List, Some, length, sym, ap, subst, below_more, arith, slice_get, slice_get-get_or, slice_get_within}
+use Rattle.fb_types.specs.declared.text.Choice.{Choice, out-Choice}
 use Rattle.fb_st.specs.Frames.{values_of}
 use Rattle.fb_stop.specs.Operations.{IsOtherwise}
 use Rattle.fb_stop.proofs.statement.in_conditions.Goals as goal

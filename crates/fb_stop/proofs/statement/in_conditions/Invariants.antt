@@ -1,4 +1,5 @@
-use Rattle.fb_types.proofs.Common.{◌≡◌, ◌<◌, ℕ, Some, slice_get, Choice, out-Choice}
+use Rattle.fb_types.proofs.Common.{◌≡◌, ◌<◌, ℕ, Some, slice_get}
+use Rattle.fb_types.specs.declared.text.Choice.{Choice, out-Choice}
 use Rattle.fb_st.specs.Frames.{values_of}
 use Rattle.fb_stop.specs.Operations.{IsOtherwise}
 use Rattle.fb_stop.proofs.statement.in_conditions.Given as goal

@@ -1,4 +1,5 @@
-use Rattle.fb_types.proofs.Common.{◌∙◌, ap, subst, Stmt-F}
+use Rattle.fb_types.proofs.Common.{◌∙◌, ap, subst}
+use Rattle.fb_types.specs.declared.text.Stmt.TheOpen.{Stmt-F}
 use Rattle.fb_types.specs.declared.text.Stmt as read
 use Rattle.fb_types.specs.declared.text.Stmt.TheViews.{out-Stmt}
 use Rattle.fb_st.specs.Frames.{values_of}

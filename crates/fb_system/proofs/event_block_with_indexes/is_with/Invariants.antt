@@ -1,4 +1,5 @@
-use Rattle.fb_types.proofs.Common.{◌≡◌, ◌&&◌, drop, list_any, among, same_name, EventPort}
+use Rattle.fb_types.proofs.Common.{◌≡◌, ◌&&◌, drop, list_any, among, same_name}
+use Rattle.fb_types.specs.declared.library.EventPort.{EventPort}
 use Rattle.fb_system.proofs.event_block_with_indexes.is_with.Given as goal
 
 abbrev pub invariant-loop-port : goal.invariant-loop-port

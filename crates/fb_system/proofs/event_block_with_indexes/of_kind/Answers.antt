@@ -1,4 +1,5 @@
-use Rattle.fb_types.proofs.Common.{subst, IfOk, Ports}
+use Rattle.fb_types.proofs.Common.{subst, IfOk}
+use Rattle.fb_types.specs.declared.library.Ports.{Ports}
 use Rattle.fb_system.specs.IndexLists.{AreWithIndexes}
 use Rattle.fb_system.proofs.event_block_with_indexes.of_kind.Goals as goal
 

@@ -1,4 +1,6 @@
-use Rattle.fb_types.proofs.Common.{List, ◌++◌, [], ◌∷◌, map, take, sym, ap, ◌∙◌, arith, take_at_read, map-append, take_all, initial_of, Variable, Value}
+use Rattle.fb_types.proofs.Common.{List, ◌++◌, [], ◌∷◌, map, take, sym, ap, ◌∙◌, arith, take_at_read, map-append, take_all, initial_of}
+use Rattle.fb_types.specs.declared.library.Variable.{Variable}
+use Rattle.fb_types.specs.declared.value.Value.{Value}
 use Rattle.fb_system.proofs.initial_values.first_values.Goals as goal
 
 pub loop-variable-preserved : goal.loop-variable-preserved

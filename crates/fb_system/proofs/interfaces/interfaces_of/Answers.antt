@@ -1,4 +1,5 @@
-use Rattle.fb_types.proofs.Common.{List, subst, BlockType}
+use Rattle.fb_types.proofs.Common.{List, subst}
+use Rattle.fb_types.specs.declared.library.BlockType.{BlockType}
 use Rattle.fb_system.specs.Tables.{AreOfBlocks}
 use Rattle.fb_system.proofs.lemmas.types.BlockNames.{blocks_are}
 use Rattle.fb_system.proofs.interfaces.interfaces_of.Goals as goal

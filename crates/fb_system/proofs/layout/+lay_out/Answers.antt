@@ -1,4 +1,5 @@
-use Rattle.fb_types.proofs.Common.{◌≡◌, ◌+◌, ◌-◌, ◌≤◌, suc, length, rules, Some, Option, refl, sym, ◌∙◌, ap, subst, arith, slice_get, Network}
+use Rattle.fb_types.proofs.Common.{◌≡◌, ◌+◌, ◌-◌, ◌≤◌, suc, length, rules, Some, Option, refl, sym, ◌∙◌, ap, subst, arith, slice_get}
+use Rattle.fb_types.specs.declared.library.Network.{Network}
 use Rattle.fb_check_names.specs.declared.numbers.NetworkNumbers.{NetworkNumbers}
 use Rattle.fb_system.specs.declared.layout.Layer.{Layer as Laid}
 use Rattle.fb_system.specs.Layers.{layer, layer_inside, network_inside, Layer}

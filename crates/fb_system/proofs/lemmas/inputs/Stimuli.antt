@@ -1,6 +1,8 @@
 -- The stimuli by number, for the inputs that a system represents.
 use Rattle.fb_system.proofs.lemmas.Common.{◌≡◌, ℕ, ◌<◌, false, List, [], ◌∷◌, map, length, Option, Some, None, refl, sym, ◌∙◌, ap, subst, arith, option_map, slice_get, unwrap_or, length-map, same_Some, slice_get-map, slice_get_within, Name, Path, Kind, event_names, ports, ports_of, kind_at, paths_of, Inputs, system_of, path_at, ports_at, EventPort, Instance, Library, Ports, AreNumbers, path_of, inputs_of, AreTables, Whole}
-use Rattle.fb_types.proofs.Common.{All, event_at, stimulus_of, Stimulus, InputValue}
+use Rattle.fb_types.proofs.Common.{All, event_at, stimulus_of}
+use Rattle.fb_types.specs.declared.deploy.Stimulus.{Stimulus}
+use Rattle.fb_types.specs.declared.run.InputValue.{InputValue}
 use Rattle.std.specs.Borrow.{Bor}
 use Rattle.fb_system.specs.Rows.{AreRows, IsRow, set_at}
 use Rattle.fb_system.specs.declared.rows.StimulusRow.{StimulusRow}

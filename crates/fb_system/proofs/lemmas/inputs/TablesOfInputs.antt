@@ -1,6 +1,9 @@
 -- What the tables say of the inputs that a system represents.
 use Rattle.fb_system.proofs.lemmas.Common.{◌≡◌, ℕ, ◌<◌, ◌≤◌, ◌+◌, List, [], length, get_or, Option, Some, None, refl, sym, ◌∙◌, ap, subst, inl, inr, IfSome, IsTrue, ◌↔◌, option_map, slice_get, length-map, slice_get-get_or, kind_at, paths_of, source_of, targets_of, Inputs, system_of, NameTwice, NameUnknown, Plan, Library, Ports, Target, InstanceVariable, kind_of_number, TypeNumber, AreComponents, AreNumbers, path_of, route_to, NetlistTarget, IsLinked, inputs_of, AreTables, Whole}
-use Rattle.fb_types.proofs.Common.{Ok, IfOk, Result, cases_lt, latency_at, AreAccepted, inputs, TooHigh, port_of, path_text, Link, ResourceEntry, Stimulus, ArePortsOfKinds}
+use Rattle.fb_types.proofs.Common.{Ok, IfOk, Result, cases_lt, latency_at, AreAccepted, inputs, TooHigh, port_of, path_text, ArePortsOfKinds}
+use Rattle.fb_types.specs.declared.deploy.Link.{Link}
+use Rattle.fb_types.specs.declared.deploy.ResourceEntry.{ResourceEntry}
+use Rattle.fb_types.specs.declared.deploy.Stimulus.{Stimulus}
 use Rattle.fb_types.specs.Flat.{instance_at, link_between, number_of}
 use Rattle.fb_types.specs.declared.library.Instance.{Instance}
 use Rattle.fb_system.specs.Layouts.{IsParent}

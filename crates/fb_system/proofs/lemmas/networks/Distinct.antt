@@ -1,5 +1,8 @@
 -- The paths of an application differ, if the names in each network do.
-use Rattle.fb_types.proofs.Common.{◌≡◌, ◌⊎◌, ℕ, zero, suc, ◌+◌, false, List, [], ◌∷◌, ◌++◌, map, length, Option, Some, None, Contains, refl, sym, ◌∙◌, ap, subst, inl, inr, arith, append_assoc, slice_get, option_map, position, flat_map, false_from_ne_true, length-append, Contains-append_left, Contains-append_cases, Name, Path, same_path, inside, paths_inside, Twice, OwnedNetwork, networks, instance_names, Library, Instance, Network}
+use Rattle.fb_types.proofs.Common.{◌≡◌, ◌⊎◌, ℕ, zero, suc, ◌+◌, false, List, [], ◌∷◌, ◌++◌, map, length, Option, Some, None, Contains, refl, sym, ◌∙◌, ap, subst, inl, inr, arith, append_assoc, slice_get, option_map, position, flat_map, false_from_ne_true, length-append, Contains-append_left, Contains-append_cases, Name, Path, same_path, inside, paths_inside, Twice, OwnedNetwork, networks, instance_names}
+use Rattle.fb_types.specs.declared.library.Library.{Library}
+use Rattle.fb_types.specs.declared.library.Instance.{Instance}
+use Rattle.fb_types.specs.declared.library.Network.{Network}
 use Rattle.fb_types.proofs.lemmas.names.PathLaws.{same_path_is, same_path_itself}
 use Rattle.fb_types.proofs.lemmas.lists.Positions.{position-first, position-later}
 use Rattle.fb_types.proofs.lemmas.lists.ByIndex.{element_of_index}

@@ -1,5 +1,11 @@
 -- What the numbers of a connection's end represent, in the network at a path.
-use Rattle.fb_types.proofs.Common.{◌≡◌, ◌&&◌, ℕ, suc, true, false, List, [], ◌∷◌, map, length, Option, Some, None, refl, sym, ◌∙◌, ap, subst, inl, inr, arith, slice_get, option_map, option_and_then, position, nat_eq, cases_eq, ne_eqb, eq-eqb, false_from_ne_true, true≢false, same_Some, Name, Path, Port, same_name, same_path, same_port, Kind, Basic, Event, Composite, ports_of, kind_at, kind_of_instance, network_at, instance_in, port_in, Twice, instance_names, Library, CompositeType, Instance, Network, PortName, Ports}
+use Rattle.fb_types.proofs.Common.{◌≡◌, ◌&&◌, ℕ, suc, true, false, List, [], ◌∷◌, map, length, Option, Some, None, refl, sym, ◌∙◌, ap, subst, inl, inr, arith, slice_get, option_map, option_and_then, position, nat_eq, cases_eq, ne_eqb, eq-eqb, false_from_ne_true, true≢false, same_Some, Name, Path, Port, same_name, same_path, same_port, Kind, Basic, Event, Composite, ports_of, kind_at, kind_of_instance, network_at, instance_in, port_in, Twice, instance_names}
+use Rattle.fb_types.specs.declared.library.Library.{Library}
+use Rattle.fb_types.specs.declared.library.CompositeType.{CompositeType}
+use Rattle.fb_types.specs.declared.library.Instance.{Instance}
+use Rattle.fb_types.specs.declared.library.Network.{Network}
+use Rattle.fb_types.specs.declared.library.PortName.{PortName}
+use Rattle.fb_types.specs.declared.library.Ports.{Ports}
 use Rattle.fb_types.proofs.lemmas.names.NameLaws.{same_from_same_name, same_name-itself}
 use Rattle.fb_types.proofs.lemmas.lists.Positions.{named-position, position_is, position_of_once}
 use Rattle.fb_types.proofs.lemmas.names.PathLaws.{same_path_is, same_path_itself}

@@ -1,6 +1,7 @@
 -- Where connections lead, and where they come from.
 use Rattle.fb_system.proofs.lemmas.Common.{◌≡◌, ℕ, false, List, [], ◌∷◌, map, Option, Some, None, Contains, refl, sym, ◌∙◌, ap, subst, slice_get, option_map, filter, false_from_ne_true, same_Some, Name, Path, Port, Kind, ports_of, kind_at, network_at, parent, targets_of, source_of, NameTwice, OwnedNetwork, event_ins, event_outs, data_ins, data_outs, Library, Network, Ports, Plan, ConnectionEnd, NetworkNumbers, same_end, IsEndOf, IsWired, side}
-use Rattle.fb_types.proofs.Common.{same_port, port_in, pairs_in, first_of, events_inside, data_inside, Connection}
+use Rattle.fb_types.proofs.Common.{same_port, port_in, pairs_in, first_of, events_inside, data_inside}
+use Rattle.fb_types.specs.declared.library.Connection.{Connection}
 use Rattle.fb_types.proofs.lemmas.names.PathLaws.{same_port_is}
 use Rattle.fb_check_names.specs.declared.numbers.NumberedConnection.{NumberedConnection}
 use Rattle.fb_check_names.specs.Numbers.{both_ends, data_wire, end_number, event_wire}

@@ -1,5 +1,10 @@
 -- What the numbers of resources and links represent.
-use Rattle.fb_types.proofs.Common.{◌≡◌, ℕ, zero, suc, ◌<◌, ◌+◌, Bool, true, false, cond, nat_eq, ◌&&◌, List, [], ◌∷◌, length, map, get_or, Option, Some, None, refl, sym, ◌∙◌, ap, inl, arith, position, slice_get, unwrap_or, option_map, true≢false, false_from_ne_true, nat_tests, slice_get-map, slice_get-get_or, same_Some, Name, same_name, holder, resource_names_of, NameTwice, Twice, Library, Instance, Plan, Link, ResourceEntry}
+use Rattle.fb_types.proofs.Common.{◌≡◌, ℕ, zero, suc, ◌<◌, ◌+◌, Bool, true, false, cond, nat_eq, ◌&&◌, List, [], ◌∷◌, length, map, get_or, Option, Some, None, refl, sym, ◌∙◌, ap, inl, arith, position, slice_get, unwrap_or, option_map, true≢false, false_from_ne_true, nat_tests, slice_get-map, slice_get-get_or, same_Some, Name, same_name, holder, resource_names_of, NameTwice, Twice}
+use Rattle.fb_types.specs.declared.library.Library.{Library}
+use Rattle.fb_types.specs.declared.library.Instance.{Instance}
+use Rattle.fb_types.specs.declared.deploy.Plan.{Plan}
+use Rattle.fb_types.specs.declared.deploy.Link.{Link}
+use Rattle.fb_types.specs.declared.deploy.ResourceEntry.{ResourceEntry}
 use Rattle.fb_types.specs.Flat.{resource_named, name_of_resource}
 use Rattle.fb_types.proofs.lemmas.names.NameLaws.{same_name-Decides, same_from_same_name}
 use Rattle.fb_types.proofs.lemmas.lists.Positions.{position-cons, position_is, position_of_once}

@@ -1,5 +1,7 @@
 -- Whether both ends of a connection are in the same resource.
-use Rattle.fb_types.proofs.Common.{◌≡◌, ℕ, ◌<◌, ◌+◌, Bool, Option, Some, None, length, sym, subst, ◌∙◌, IfSome, IsTrue, ◌↔◌, nat_eq, option_map, slice_get, eq-eqb, eqb-true, path_at, port_of, System, InstanceVariable, Target}
+use Rattle.fb_types.proofs.Common.{◌≡◌, ℕ, ◌<◌, ◌+◌, Bool, Option, Some, None, length, sym, subst, ◌∙◌, IfSome, IsTrue, ◌↔◌, nat_eq, option_map, slice_get, eq-eqb, eqb-true, path_at, port_of, System}
+use Rattle.fb_types.specs.declared.run.InstanceVariable.{InstanceVariable}
+use Rattle.fb_types.specs.declared.run.Target.{Target}
 use Rattle.fb_system.specs.Ends.{ComesFrom, IsSourceOf, LeadsTo}
 use Rattle.fb_system.specs.Ports.{AreTogether, IsSource, IsTarget, link_of}
 use Rattle.fb_system.specs.declared.netlist_target.NetlistTarget.{NetlistTarget}

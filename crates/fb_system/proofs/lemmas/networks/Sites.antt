@@ -1,5 +1,10 @@
 -- Networks at their paths: which composite contains them, and how deep they are.
-use Rattle.fb_types.proofs.Common.{◌≡◌, ◌⊎◌, ℕ, zero, suc, ◌+◌, ◌<◌, List, [], ◌∷◌, ◌++◌, map, Option, Some, None, Contains, refl, sym, ◌∙◌, ap, subst, inl, inr, arith, slice_get, option_map, option_and_then, unwrap_or, position, flat_map, codes, Contains-append_left, Contains-append_right, Name, Path, same_name, instance_in, inside, network_at, instance_at, parent, resource_names_of, TooHigh, Twice, OwnedNetwork, NameTwice, networks, instance_names, name_spaces, block_type_names, port_names, basics, algorithm_names, state_names, with_lists, interfaces, parameter_lists, path_text, Library, CompositeType, Instance, Network, Plan}
+use Rattle.fb_types.proofs.Common.{◌≡◌, ◌⊎◌, ℕ, zero, suc, ◌+◌, ◌<◌, List, [], ◌∷◌, ◌++◌, map, Option, Some, None, Contains, refl, sym, ◌∙◌, ap, subst, inl, inr, arith, slice_get, option_map, option_and_then, unwrap_or, position, flat_map, codes, Contains-append_left, Contains-append_right, Name, Path, same_name, instance_in, inside, network_at, instance_at, parent, resource_names_of, TooHigh, Twice, OwnedNetwork, NameTwice, networks, instance_names, name_spaces, block_type_names, port_names, basics, algorithm_names, state_names, with_lists, interfaces, parameter_lists, path_text}
+use Rattle.fb_types.specs.declared.library.Library.{Library}
+use Rattle.fb_types.specs.declared.library.CompositeType.{CompositeType}
+use Rattle.fb_types.specs.declared.library.Instance.{Instance}
+use Rattle.fb_types.specs.declared.library.Network.{Network}
+use Rattle.fb_types.specs.declared.deploy.Plan.{Plan}
 use Rattle.fb_types.specs.Joined.{Holds, Descends}
 use Rattle.fb_types.specs.declared.library.BlockType.TheVariants as block
 use Rattle.fb_types.proofs.lemmas.lists.Elements.{Contains-map}

@@ -1,5 +1,7 @@
 -- The resource that holds an instance is one of the deployment.
-use Rattle.fb_types.proofs.Common.{◌≡◌, ℕ, ◌<◌, Bool, true, false, cond, List, [], ◌∷◌, length, Some, None, refl, sym, subst, arith, nat_lt, position, unwrap_or, position_or_len, ltb-true, length-map, among, holder, resource_of, Inputs, system_of, IsWithinLimits, Name, Path, Plan, ResourceEntry}
+use Rattle.fb_types.proofs.Common.{◌≡◌, ℕ, ◌<◌, Bool, true, false, cond, List, [], ◌∷◌, length, Some, None, refl, sym, subst, arith, nat_lt, position, unwrap_or, position_or_len, ltb-true, length-map, among, holder, resource_of, Inputs, system_of, IsWithinLimits, Name, Path}
+use Rattle.fb_types.specs.declared.deploy.Plan.{Plan}
+use Rattle.fb_types.specs.declared.deploy.ResourceEntry.{ResourceEntry}
 
 -- ---- An index that is sought
 

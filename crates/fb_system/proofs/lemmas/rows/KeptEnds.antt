@@ -1,5 +1,7 @@
 -- Rows of event ports and of sources: what is read from them.
-use Rattle.fb_types.proofs.Common.{◌≡◌, ℕ, Option, Some, Bor, sym, subst, IfSome, Inputs, system_of, System, InstanceVariable, Target}
+use Rattle.fb_types.proofs.Common.{◌≡◌, ℕ, Option, Some, Bor, sym, subst, IfSome, Inputs, system_of, System}
+use Rattle.fb_types.specs.declared.run.InstanceVariable.{InstanceVariable}
+use Rattle.fb_types.specs.declared.run.Target.{Target}
 use Rattle.fb_system.specs.Ends.{ComesFrom, LeadsTo}
 use Rattle.fb_system.specs.PortRows.{IsPortRow}
 use Rattle.fb_system.specs.declared.ends.SourceRow.{SourceRow}

@@ -1,5 +1,6 @@
 -- Rows with the heads of lines: what is read from them, and what they are made of.
-use Rattle.fb_types.proofs.Common.{◌≡◌, ℕ, ◌^◌, ◌<◌, List, [], ◌∷◌, ◌++◌, length, get_or, Option, Some, None, Bor, refl, sym, ◌∙◌, ap, subst, append-nil, append_assoc, codes, slice_get, IfNone, IfSome, same_Some, slice_get-get_or, slice_get-map, slice_get_within, Name, System, Variable}
+use Rattle.fb_types.proofs.Common.{◌≡◌, ℕ, ◌^◌, ◌<◌, List, [], ◌∷◌, ◌++◌, length, get_or, Option, Some, None, Bor, refl, sym, ◌∙◌, ap, subst, append-nil, append_assoc, codes, slice_get, IfNone, IfSome, same_Some, slice_get-get_or, slice_get-map, slice_get_within, Name, System}
+use Rattle.fb_types.specs.declared.library.Variable.{Variable}
 use Rattle.fb_system.specs.Heads.{IsHead, IsRowAt, first_text}
 use Rattle.fb_system.specs.IndexLists.{AreIndexes, variable_at}
 use Rattle.fb_system.specs.declared.heads.Head.{Head}

@@ -1,6 +1,11 @@
 -- The indexes of the variables WITH an event of an event block, one more variable at a time, and the entries of all
 -- event blocks.
-use Rattle.fb_types.proofs.Common.{◌≡◌, ℕ, ◌<◌, ◌+◌, Bool, true, false, cond, ◌&&◌, List, [], ◌∷◌, ◌++◌, length, take, get_or, Option, Some, refl, sym, ◌∙◌, ap, subst, length-append, append-nil, slice_get, unwrap_or, option_map, filter, list_any, map-append, All-push, slice_get-get_or, slice_get-map, slice_get_read, slice_get_within, same_Some, get_or_from_slice_get, Name, same_name, among, variable_names, variables_with, ports_of_event_block, kind_index, event_at, EventKind, Restart, EventPort, Variable, Ports}
+use Rattle.fb_types.proofs.Common.{◌≡◌, ℕ, ◌<◌, ◌+◌, Bool, true, false, cond, ◌&&◌, List, [], ◌∷◌, ◌++◌, length, take, get_or, Option, Some, refl, sym, ◌∙◌, ap, subst, length-append, append-nil, slice_get, unwrap_or, option_map, filter, list_any, map-append, All-push, slice_get-get_or, slice_get-map, slice_get_read, slice_get_within, same_Some, get_or_from_slice_get, Name, same_name, among, variable_names, variables_with, ports_of_event_block, kind_index, event_at}
+use Rattle.fb_types.specs.declared.event_kind.EventKind.{EventKind}
+use Rattle.fb_types.specs.declared.event_kind.EventKind.TheVariants.{Restart}
+use Rattle.fb_types.specs.declared.library.EventPort.{EventPort}
+use Rattle.fb_types.specs.declared.library.Variable.{Variable}
+use Rattle.fb_types.specs.declared.library.Ports.{Ports}
 use Rattle.std.proofs.lemmas.List.Elements.{filter-append}
 use Rattle.fb_types.proofs.lemmas.events.AllKinds.{kinds, kind_stands}
 use Rattle.fb_types.proofs.lemmas.lists.LoopSteps.{map_take_more}

@@ -1,5 +1,7 @@
 -- The indexes of the variables that a WITH list names, and those of the variables WITH an event.
-use Rattle.fb_types.proofs.Common.{◌≡◌, ℕ, zero, suc, ◌<◌, ◌+◌, Bool, true, false, ◌&&◌, ◌||◌, List, [], ◌∷◌, length, map, get_or, Option, Some, None, Contains, Bor, refl, sym, ◌∙◌, ap, subst, inl, inr, arith, IsPermutation, slice_get, unwrap_or, option_map, position, Decides, filter, list_any, nat_cmp, BTreeMap, false_from_ne_true, length-map, Contains-get_or, slice_get-map, slice_get_within, same_Some, Name, same_name, among, event_names, variable_names, variables_with, Twice, EventPort, Variable}
+use Rattle.fb_types.proofs.Common.{◌≡◌, ℕ, zero, suc, ◌<◌, ◌+◌, Bool, true, false, ◌&&◌, ◌||◌, List, [], ◌∷◌, length, map, get_or, Option, Some, None, Contains, Bor, refl, sym, ◌∙◌, ap, subst, inl, inr, arith, IsPermutation, slice_get, unwrap_or, option_map, position, Decides, filter, list_any, nat_cmp, BTreeMap, false_from_ne_true, length-map, Contains-get_or, slice_get-map, slice_get_within, same_Some, Name, same_name, among, event_names, variable_names, variables_with, Twice}
+use Rattle.fb_types.specs.declared.library.EventPort.{EventPort}
+use Rattle.fb_types.specs.declared.library.Variable.{Variable}
 use Rattle.std.specs.Prelude.{IsSorted}
 use Rattle.std.specs.List.Sorted.{IsNonDecreasing}
 use Rattle.std.proofs.lemmas.List.Elements.{filter_agree}

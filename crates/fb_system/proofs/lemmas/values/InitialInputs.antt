@@ -1,6 +1,7 @@
 -- The initial values of the variables of an instance, for the inputs that a system represents.
 use Rattle.fb_system.proofs.lemmas.Common.{◌≡◌, ℕ, List, [], map, Option, Some, None, refl, sym, ◌∙◌, ap, subst, option_and_then, Path, Kind, initial_of, ports, ports_of, variable_names, instance_at, kind_at, kind_of_instance, Inputs, system_of, path_at, ports_at, Twice, data_ins, Instance, Library, Ports, each_or_none, parameter_numbers, index_of, path_of, parameter_names, inputs_of, Whole}
-use Rattle.fb_types.proofs.Common.{AreAccepted, Parameter}
+use Rattle.fb_types.proofs.Common.{AreAccepted}
+use Rattle.fb_types.specs.declared.library.Parameter.{Parameter}
 use Rattle.fb_types.specs.Flat.{initial_at}
 use Rattle.fb_system.specs.Begins.{begins_with}
 use Rattle.fb_system.proofs.lemmas.values.InitialValues.{inputs_begin, outputs_begin}

@@ -1,6 +1,12 @@
 -- Initial values of the variables of an instance of an accepted system: the inputs with the parameters, the outputs as
 -- they are declared.
-use Rattle.fb_types.proofs.Common.{◌≡◌, ℕ, suc, ◌+◌, List, [], ◌∷◌, ◌++◌, length, map, Option, Some, None, Contains, refl, sym, ◌∙◌, ap, subst, inl, inr, append-nil, slice_get, option_and_then, map-append, Contains-append_right, Name, Path, Kind, Basic, Event, Composite, named, initial_of, ports_of, variable_names, zero_value, variables_in, instance_at, kind_of_instance, Twice, NameTwice, NameUnknown, Plan, Instance, Library, Parameter, Variable, Value}
+use Rattle.fb_types.proofs.Common.{◌≡◌, ℕ, suc, ◌+◌, List, [], ◌∷◌, ◌++◌, length, map, Option, Some, None, Contains, refl, sym, ◌∙◌, ap, subst, inl, inr, append-nil, slice_get, option_and_then, map-append, Contains-append_right, Name, Path, Kind, Basic, Event, Composite, named, initial_of, ports_of, variable_names, zero_value, variables_in, instance_at, kind_of_instance, Twice, NameTwice, NameUnknown}
+use Rattle.fb_types.specs.declared.deploy.Plan.{Plan}
+use Rattle.fb_types.specs.declared.library.Instance.{Instance}
+use Rattle.fb_types.specs.declared.library.Library.{Library}
+use Rattle.fb_types.specs.declared.library.Parameter.{Parameter}
+use Rattle.fb_types.specs.declared.library.Variable.{Variable}
+use Rattle.fb_types.specs.declared.value.Value.{Value}
 use Rattle.fb_types.specs.Flat.{declared_initial, initial_at}
 use Rattle.fb_types.proofs.lemmas.lists.Positions.{named_of_once, slice_get-Contains}
 use Rattle.fb_types.proofs.lemmas.lists.Elements.{Contains-nil, Contains-cons_cases}

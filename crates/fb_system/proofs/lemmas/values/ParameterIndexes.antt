@@ -1,5 +1,9 @@
 -- Parameters that are put at the indexes of the inputs that they set, one after another.
-use Rattle.fb_types.proofs.Common.{◌≡◌, ℕ, zero, suc, ◌<◌, ◌+◌, List, [], ◌∷◌, ◌++◌, length, take, map, get_or, Option, Some, None, Contains, refl, sym, ◌∙◌, ap, subst, inl, inr, arith, slice_get, take_more, length-map, slice_get-get_or, slice_get_read, slice_get_within, Name, initial_of, named, variable_names, Twice, data_ins, Parameter, Ports, Variable, Value}
+use Rattle.fb_types.proofs.Common.{◌≡◌, ℕ, zero, suc, ◌<◌, ◌+◌, List, [], ◌∷◌, ◌++◌, length, take, map, get_or, Option, Some, None, Contains, refl, sym, ◌∙◌, ap, subst, inl, inr, arith, slice_get, take_more, length-map, slice_get-get_or, slice_get_read, slice_get_within, Name, initial_of, named, variable_names, Twice, data_ins}
+use Rattle.fb_types.specs.declared.library.Parameter.{Parameter}
+use Rattle.fb_types.specs.declared.library.Ports.{Ports}
+use Rattle.fb_types.specs.declared.library.Variable.{Variable}
+use Rattle.fb_types.specs.declared.value.Value.{Value}
 use Rattle.std.proofs.Math.ListN.{set}
 use Rattle.fb_types.proofs.lemmas.lists.LoopSteps.{twice_of_part}
 use Rattle.fb_types.proofs.lemmas.lists.Positions.{position_is, slice_get-Contains}

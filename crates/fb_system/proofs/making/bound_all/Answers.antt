@@ -1,4 +1,6 @@
-use Rattle.fb_types.proofs.Common.{rules, subst, ports_of, IsNarrow, kind_of, BlockType, Ports}
+use Rattle.fb_types.proofs.Common.{rules, subst, ports_of, IsNarrow, kind_of}
+use Rattle.fb_types.specs.declared.library.BlockType.{BlockType}
+use Rattle.fb_types.specs.declared.library.Ports.{Ports}
 use Rattle.fb_types.proofs.lemmas.lists.LoopSteps.{all_next, all_of_taken}
 use Rattle.fb_system.proofs.making.bound_all.Goals as goal
 

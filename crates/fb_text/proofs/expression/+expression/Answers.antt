@@ -1,4 +1,5 @@
-use Rattle.fb_types.proofs.Common.{refl, List, map, Expr}
+use Rattle.fb_types.proofs.Common.{refl, List, map}
+use Rattle.fb_types.specs.declared.text.Expr.{Expr}
 use Rattle.fb_text.specs.Expressions.{arguments_text, expression_text}
 use Rattle.fb_text.proofs.lemmas.Adding.{all_added, argument_added}
 use Rattle.fb_text.proofs.expression.+expression.Goals as goal

@@ -1,5 +1,6 @@
 -- The pieces of a line, and what follows each.
-use Rattle.fb_types.proofs.Common.{◌≡◌, refl, append_assoc, ℕ, List, [], ◌∷◌, ◌++◌, codes, if◌then◌else◌, System, tick_and_resource_text, path_text, values_text, Form}
+use Rattle.fb_types.proofs.Common.{◌≡◌, refl, append_assoc, ℕ, List, [], ◌∷◌, ◌++◌, codes, if◌then◌else◌, System, tick_and_resource_text, path_text, values_text}
+use Rattle.fb_types.specs.declared.run.Form.{Form}
 use Rattle.fb_types.specs.States.{Line}
 use Rattle.fb_types.specs.Text.{key_text}
 

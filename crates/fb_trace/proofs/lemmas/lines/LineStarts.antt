@@ -1,5 +1,9 @@
 -- A line as its key, its tick, the row of its head, its first value and the others.
-use Rattle.fb_types.proofs.Common.{◌≡◌, ℕ, ◌-◌, ◌≤◌, List, [], ◌∷◌, ◌++◌, length, length-drop, drop, take, map, refl, sym, ap, ◌∙◌, append_assoc, append-nil, arith, take_all, codes, decimal, if◌then◌else◌, slice_get, unwrap_or, Name, line_of, pair_up, path_at, System, line_text, path_text, tick_and_resource_text, values_text, Variable, Form, One, Value}
+use Rattle.fb_types.proofs.Common.{◌≡◌, ℕ, ◌-◌, ◌≤◌, List, [], ◌∷◌, ◌++◌, length, length-drop, drop, take, map, refl, sym, ap, ◌∙◌, append_assoc, append-nil, arith, take_all, codes, decimal, if◌then◌else◌, slice_get, unwrap_or, Name, line_of, pair_up, path_at, System, line_text, path_text, tick_and_resource_text, values_text}
+use Rattle.fb_types.specs.declared.library.Variable.{Variable}
+use Rattle.fb_types.specs.declared.run.Form.{Form}
+use Rattle.fb_types.specs.declared.run.Form.TheVariants.{One}
+use Rattle.fb_types.specs.declared.value.Value.{Value}
 use Rattle.fb_types.specs.States.{Line}
 use Rattle.fb_types.specs.Text.{key_text}
 use Rattle.fb_types.specs.declared.run.Line as run

@@ -1,5 +1,7 @@
 -- The text of lines with marks, run by run.
-use Rattle.fb_types.proofs.Common.{◌≡◌, ℕ, ◌+◌, List, [], ◌∷◌, ◌++◌, length, refl, sym, ap, ◌∙◌, subst, arith, append_assoc, append-nil, length-append, Inputs, system_of, Form, Line}
+use Rattle.fb_types.proofs.Common.{◌≡◌, ℕ, ◌+◌, List, [], ◌∷◌, ◌++◌, length, refl, sym, ap, ◌∙◌, subst, arith, append_assoc, append-nil, length-append, Inputs, system_of}
+use Rattle.fb_types.specs.declared.run.Form.{Form}
+use Rattle.fb_types.specs.declared.run.Line.{Line}
 use Rattle.fb_trace.specs.Marks.{IsRun, AreMarked, text_of_lines}
 use Rattle.fb_trace.specs.declared.marks.Mark.{Mark}
 use Rattle.fb_trace.proofs.lemmas.lines.Texts.{text-append}

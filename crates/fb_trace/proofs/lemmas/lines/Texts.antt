@@ -1,5 +1,6 @@
 -- The text of lines, one after another.
-use Rattle.fb_types.proofs.Common.{◌≡◌, ℕ, ◌+◌, ◌<◌, List, [], ◌∷◌, ◌++◌, take, drop, length, get_or, map, ap, sym, ◌∙◌, refl, append_assoc, append-nil, take-append-drop, arith, Bor, take_more, get_or-map, length-map, map-append, System, line_of, line_text, lines_text, Form}
+use Rattle.fb_types.proofs.Common.{◌≡◌, ℕ, ◌+◌, ◌<◌, List, [], ◌∷◌, ◌++◌, take, drop, length, get_or, map, ap, sym, ◌∙◌, refl, append_assoc, append-nil, take-append-drop, arith, Bor, take_more, get_or-map, length-map, map-append, System, line_of, line_text, lines_text}
+use Rattle.fb_types.specs.declared.run.Form.{Form}
 use Rattle.fb_types.specs.States.{Line}
 use Rattle.fb_types.specs.declared.run.Line as run
 use Rattle.fb_trace.specs.Fronts.{joint}

@@ -1,5 +1,7 @@
 -- The text of values, one after another.
-use Rattle.fb_types.proofs.Common.{◌≡◌, ℕ, ◌+◌, ◌<◌, List, [], ◌∷◌, ◌++◌, take, drop, length, get_or, ap, sym, ◌∙◌, refl, append_assoc, take-append-drop, append-nil, min, zero, suc, arith, codes, map, take_more, get_or-map, length-map, slice_get-map, slice_get-get_or, Name, Bound, pair_up, value_text, values_text, Variable, Value}
+use Rattle.fb_types.proofs.Common.{◌≡◌, ℕ, ◌+◌, ◌<◌, List, [], ◌∷◌, ◌++◌, take, drop, length, get_or, ap, sym, ◌∙◌, refl, append_assoc, take-append-drop, append-nil, min, zero, suc, arith, codes, map, take_more, get_or-map, length-map, slice_get-map, slice_get-get_or, Name, Bound, pair_up, value_text, values_text}
+use Rattle.fb_types.specs.declared.library.Variable.{Variable}
+use Rattle.fb_types.specs.declared.value.Value.{Value}
 use Rattle.fb_system.specs.IndexLists.{variable_at}
 
 -- a variable and its value, as a line has them

@@ -1,5 +1,6 @@
 -- Merged lines are, as the system names them, a merge of the definitions.
-use Rattle.fb_types.proofs.Common.{◌≡◌, ℕ, zero, suc, ◌<◌, ◌==◌, Bool, true, false, cond, Some, List, [], ◌∷◌, length, map, refl, sym, ap, ◌∙◌, arith, slice_get, Global, Each, line_of, machine, System, Line}
+use Rattle.fb_types.proofs.Common.{◌≡◌, ℕ, zero, suc, ◌<◌, ◌==◌, Bool, true, false, cond, Some, List, [], ◌∷◌, length, map, refl, sym, ap, ◌∙◌, arith, slice_get, Global, Each, line_of, machine, System}
+use Rattle.fb_types.specs.declared.run.Line.{Line}
 use Rattle.std.proofs.Common.{filter, Vec}
 use Rattle.fb_types.specs.Merges as merges
 use Rattle.fb_types.specs.States as model

@@ -1,5 +1,6 @@
 -- The lists one after another, and what a stable sort by tick makes of them.
-use Rattle.fb_types.proofs.Common.{◌≡◌, ℕ, zero, suc, ◌+◌, ◌<◌, ◌≤◌, ◌==◌, Bool, List, [], ◌∷◌, ◌++◌, length, refl, sym, ap, ◌∙◌, subst, ⊎_elim, arith, All, IsPermutation, Some, append-nil, append_assoc, eq-eqb, ne_eqb, cases_eq, cond-true, cond-false, slice_get, if◌then◌else◌, All-permutation, Global, Each, Line}
+use Rattle.fb_types.proofs.Common.{◌≡◌, ℕ, zero, suc, ◌+◌, ◌<◌, ◌≤◌, ◌==◌, Bool, List, [], ◌∷◌, ◌++◌, length, refl, sym, ap, ◌∙◌, subst, ⊎_elim, arith, All, IsPermutation, Some, append-nil, append_assoc, eq-eqb, ne_eqb, cases_eq, cond-true, cond-false, slice_get, if◌then◌else◌, All-permutation, Global, Each}
+use Rattle.fb_types.specs.declared.run.Line.{Line}
 use Rattle.std.proofs.Common.{filter, Vec}
 use Rattle.std.proofs.lemmas.List.Elements.{All-from_recursion, recursion_from_All}
 use Rattle.fb_types.proofs.lemmas.lists.EachLaws.{each_map, each_append}

@@ -1,4 +1,5 @@
-use Rattle.fb_types.proofs.Common.{◌≡◌, ◌≤◌, ◌++◌, List, [], ◌∷◌, ◌∙◌, get_or, length, refl, ap, append-nil, codes, decimal, arith, system_of, value_text, Value}
+use Rattle.fb_types.proofs.Common.{◌≡◌, ◌≤◌, ◌++◌, List, [], ◌∷◌, ◌∙◌, get_or, length, refl, ap, append-nil, codes, decimal, arith, system_of, value_text}
+use Rattle.fb_types.specs.declared.value.Value.{Value}
 use Rattle.fb_system.specs.Heads.{head_text}
 use Rattle.fb_trace.specs.Starts.{first_value, head_of_line}
 use Rattle.fb_trace.proofs.lemmas.lines.LineStarts.{by_head_alone}

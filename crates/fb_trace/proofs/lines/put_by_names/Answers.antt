@@ -1,4 +1,5 @@
-use Rattle.fb_types.proofs.Common.{[], ap, sym, ◌∙◌, decimal, unwrap_or-slice_get, system_of, line_of, One}
+use Rattle.fb_types.proofs.Common.{[], ap, sym, ◌∙◌, decimal, unwrap_or-slice_get, system_of, line_of}
+use Rattle.fb_types.specs.declared.run.Form.TheVariants.{One}
 use Rattle.fb_trace.specs.Progress.{Puts}
 use Rattle.fb_trace.proofs.lemmas.lines.LineParts.{after_event, after_values, until_event}
 use Rattle.fb_trace.proofs.lemmas.lines.PutPieces.{Fails-after, Fails-before, Fails-first, Gathers-passed, Puts-appended, Puts-more}

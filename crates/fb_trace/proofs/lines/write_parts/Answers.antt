@@ -1,4 +1,5 @@
-use Rattle.fb_types.proofs.Common.{◌+◌, ◌≤◌, List, Bor, take, drop, map, length, arith, length-map, take_all, system_of, line_of, lines_text, Line}
+use Rattle.fb_types.proofs.Common.{◌+◌, ◌≤◌, List, Bor, take, drop, map, length, arith, length-map, take_all, system_of, line_of, lines_text}
+use Rattle.fb_types.specs.declared.run.Line.{Line}
 use Rattle.fb_trace.specs.Fronts.{joint}
 use Rattle.fb_trace.proofs.lemmas.lines.WriterEnds.{part_flushed, part_passed, whole_flushed}
 use Rattle.fb_trace.proofs.lemmas.lines.PutPieces.{Puts-more, Fails-before, Fails-after}

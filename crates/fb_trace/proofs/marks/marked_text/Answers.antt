@@ -1,4 +1,5 @@
-use Rattle.fb_types.proofs.Common.{◌+◌, List, sym, subst, All, arith, system_of, Line}
+use Rattle.fb_types.proofs.Common.{◌+◌, List, sym, subst, All, arith, system_of}
+use Rattle.fb_types.specs.declared.run.Line.{Line}
 use Rattle.std.proofs.lemmas.List.Elements.{All-drop}
 use Rattle.fb_system.specs.Lines.{BelongsTo}
 use Rattle.fb_trace.specs.Marks.{IsRun}

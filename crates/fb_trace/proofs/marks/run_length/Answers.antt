@@ -1,4 +1,5 @@
-use Rattle.fb_types.proofs.Common.{◌≡◌, ℕ, List, [], ◌∷◌, ◌++◌, get_or, take, sym, subst, arith, take_more, Line}
+use Rattle.fb_types.proofs.Common.{◌≡◌, ℕ, List, [], ◌∷◌, ◌++◌, get_or, take, sym, subst, arith, take_more}
+use Rattle.fb_types.specs.declared.run.Line.{Line}
 use Rattle.fb_types.proofs.lemmas.lists.EachLaws.{each_append}
 use Rattle.fb_trace.specs.Marks.{IsRun}
 use Rattle.fb_trace.specs.Merging.{tick_of}

@@ -1,4 +1,5 @@
-use Rattle.fb_types.proofs.Common.{◌≡◌, ◌+◌, ◌++◌, get_or, length, map, take, drop, arith, length_push, length-map, take_all, pair_up, values_text, Variable}
+use Rattle.fb_types.proofs.Common.{◌≡◌, ◌+◌, ◌++◌, get_or, length, map, take, drop, arith, length_push, length-map, take_all, pair_up, values_text}
+use Rattle.fb_types.specs.declared.library.Variable.{Variable}
 use Rattle.std.proofs.lemmas.Slice.Zip.{zip_turn, zip_end}
 use Rattle.fb_system.specs.IndexLists.{variable_at}
 use Rattle.fb_trace.proofs.lemmas.lines.PutPieces.{Puts-more, Fails-before, Fails-after, Gathers-passed}

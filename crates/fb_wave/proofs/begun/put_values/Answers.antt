@@ -1,4 +1,6 @@
-use Rattle.fb_types.proofs.Common.{◌≡◌, ℕ, zero, suc, ◌<◌, List, [], ◌∷◌, length, map, get_or, sym, ap, ◌∙◌, arith, variable_names, Name, Variable, Value}
+use Rattle.fb_types.proofs.Common.{◌≡◌, ℕ, zero, suc, ◌<◌, List, [], ◌∷◌, length, map, get_or, sym, ap, ◌∙◌, arith, variable_names, Name}
+use Rattle.fb_types.specs.declared.library.Variable.{Variable}
+use Rattle.fb_types.specs.declared.value.Value.{Value}
 use Rattle.fb_wave.specs.Scopes.{carried_declarations, variable_begun, variable_declarations}
 use Rattle.fb_wave.proofs.lemmas.Declaring.{variables_go}
 use Rattle.fb_wave.proofs.lemmas.Listing.{going_on, gone_all}

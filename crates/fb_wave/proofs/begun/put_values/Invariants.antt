@@ -1,4 +1,5 @@
-use Rattle.fb_types.proofs.Common.{◌≡◌, ◌+◌, map, variable_names, Name, Value}
+use Rattle.fb_types.proofs.Common.{◌≡◌, ◌+◌, map, variable_names, Name}
+use Rattle.fb_types.specs.declared.value.Value.{Value}
 use Rattle.fb_wave.specs.Scopes.{variable_begun, variable_declarations}
 use Rattle.fb_wave.proofs.lemmas.Listing.{SoFar}
 use Rattle.fb_wave.proofs.begun.put_values.Given as goal

@@ -1,4 +1,5 @@
-use Rattle.fb_types.proofs.Common.{sym, subst, Form}
+use Rattle.fb_types.proofs.Common.{sym, subst}
+use Rattle.fb_types.specs.declared.run.Form.{Form}
 use Rattle.fb_wave.specs.Lines.{HasNoHead}
 use Rattle.fb_wave.proofs.lemmas.Unlined.{no_a, no_b, no_class}
 use Rattle.fb_wave.proofs.line.parts_of.Goals as goal

@@ -1,4 +1,6 @@
-use Rattle.fb_types.proofs.Common.{List, ap, subst, ◌∙◌, system_of, path_at, Ports, Variable}
+use Rattle.fb_types.proofs.Common.{List, ap, subst, ◌∙◌, system_of, path_at}
+use Rattle.fb_types.specs.declared.library.Ports.{Ports}
+use Rattle.fb_types.specs.declared.library.Variable.{Variable}
 use Rattle.fb_wave.specs.Reading.{AreRead, AreUnread}
 use Rattle.fb_wave.specs.Lines.{AreNoValuesOf, AreValuesOf}
 use Rattle.fb_wave.proofs.lemmas.Gluing.{input_values, none_read, output_values, some_read}

@@ -1,4 +1,5 @@
-use Rattle.fb_types.proofs.Common.{List, Option, subst, IfNone, IfSome, system_of, Value}
+use Rattle.fb_types.proofs.Common.{List, Option, subst, IfNone, IfSome, system_of}
+use Rattle.fb_types.specs.declared.value.Value.{Value}
 use Rattle.fb_wave.specs.Lines.{AreNoValuesOf, AreValuesOf}
 use Rattle.fb_wave.proofs.lemmas.Gluing.{line_read}
 use Rattle.fb_wave.proofs.lemmas.Unlined.{headless, portless, tickless, valueless}

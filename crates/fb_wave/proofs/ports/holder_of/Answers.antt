@@ -1,4 +1,5 @@
-use Rattle.fb_types.proofs.Common.{◌<◌, ℕ, length, sym, subst, arith, length-map, system_of, path_at, ResourceEntry}
+use Rattle.fb_types.proofs.Common.{◌<◌, ℕ, length, sym, subst, arith, length-map, system_of, path_at}
+use Rattle.fb_types.specs.declared.deploy.ResourceEntry.{ResourceEntry}
 use Rattle.fb_wave.proofs.lemmas.Bounds.{resource_named}
 use Rattle.fb_wave.proofs.ports.holder_of.Goals as goal
 

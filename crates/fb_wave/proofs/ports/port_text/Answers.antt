@@ -1,4 +1,5 @@
-use Rattle.fb_types.proofs.Common.{◌<◌, length, sym, subst, Ports}
+use Rattle.fb_types.proofs.Common.{◌<◌, length, sym, subst}
+use Rattle.fb_types.specs.declared.library.Ports.{Ports}
 use Rattle.fb_wave.specs.Ports.{events}
 use Rattle.fb_wave.proofs.ports.port_text.Goals as goal
 

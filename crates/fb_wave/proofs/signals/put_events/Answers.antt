@@ -1,4 +1,5 @@
-use Rattle.fb_types.proofs.Common.{ℕ, ◌++◌, ap, ◌∙◌, arith, Name, EventPort}
+use Rattle.fb_types.proofs.Common.{ℕ, ◌++◌, ap, ◌∙◌, arith, Name}
+use Rattle.fb_types.specs.declared.library.EventPort.{EventPort}
 use Rattle.fb_wave.specs.Scopes.{event_in, event_declarations}
 use Rattle.fb_wave.proofs.lemmas.Declaring.{events_go}
 use Rattle.fb_wave.proofs.lemmas.Listing.{going_on, gone_all}

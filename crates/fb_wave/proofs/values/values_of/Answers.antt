@@ -1,4 +1,5 @@
-use Rattle.fb_types.proofs.Common.{◌≡◌, ◌+◌, ◌<◌, [], ◌∷◌, length, get_or, sym, subst, ◌∙◌, arith, both_ways, Decides-eqb, get_or_default, slice_eq-Decides, Variable}
+use Rattle.fb_types.proofs.Common.{◌≡◌, ◌+◌, ◌<◌, [], ◌∷◌, length, get_or, sym, subst, ◌∙◌, arith, both_ways, Decides-eqb, get_or_default, slice_eq-Decides}
+use Rattle.fb_types.specs.declared.library.Variable.{Variable}
 use Rattle.fb_wave.specs.Reading.{IsBound, IsUnbound}
 use Rattle.fb_wave.proofs.lemmas.Valued.{AreSoFar, all_read, more_left, one_more, unbound_so_far}
 use Rattle.fb_wave.proofs.values.values_of.Goals as goal

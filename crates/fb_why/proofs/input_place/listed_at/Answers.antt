@@ -1,4 +1,5 @@
-use Rattle.fb_types.proofs.Common.{◌≡◌, ℕ, ◌+◌, ◌-◌, ◌<◌, ◌≤◌, List, [], ◌∷◌, drop, get_or, length, Some, None, refl, sym, ap, ◌∙◌, arith, lt-ltb, le-ltb, at_drop_all, at_drop_more, ResourceEntry}
+use Rattle.fb_types.proofs.Common.{◌≡◌, ℕ, ◌+◌, ◌-◌, ◌<◌, ◌≤◌, List, [], ◌∷◌, drop, get_or, length, Some, None, refl, sym, ap, ◌∙◌, arith, lt-ltb, le-ltb, at_drop_all, at_drop_more}
+use Rattle.fb_types.specs.declared.deploy.ResourceEntry.{ResourceEntry}
 use Rattle.fb_why.specs.InputPlaces.{listed, listed_at}
 use Rattle.fb_why.proofs.input_place.listed_at.Goals as goal
 

@@ -1,4 +1,5 @@
-use Rattle.fb_types.proofs.Common.{rules, ◌≡◌, inl, arith, common_steps, Library}
+use Rattle.fb_types.proofs.Common.{rules, ◌≡◌, inl, arith, common_steps}
+use Rattle.fb_types.specs.declared.library.Library.{Library}
 use Rattle.std.proofs.lemmas.Option.{MatchOption-at_some, MatchOption-at_none}
 use Rattle.fb_read.specs.Errors.{fault_number}
 use Rattle.fb_read.specs.Whole.{IsLibraryText}

@@ -1,4 +1,5 @@
-use Rattle.fb_types.proofs.Common.{◌≡◌, ◌+◌, ◌<◌, ◌≤◌, true, false, None, Some, slice_get, refl, sym, ap, subst, ◌∙◌, arith, ltb-true, ltb-false, same_Some, slice_get_read, StopMark}
+use Rattle.fb_types.proofs.Common.{◌≡◌, ◌+◌, ◌<◌, ◌≤◌, true, false, None, Some, slice_get, refl, sym, ap, subst, ◌∙◌, arith, ltb-true, ltb-false, same_Some, slice_get_read}
+use Rattle.fb_types.specs.declared.run.StopMark.{StopMark}
 use Rattle.fb_window.proofs.lemmas.lines.FoundLines.{FirstOf, first_live, first_new, first_kept, none_found}
 use Rattle.fb_window.proofs.ends.first_stop.Goals as goal
 use Rattle.fb_window.proofs.ends.first_stop.Goals.{in-Some+then-is_less, in-Some-first, in-None, in-Some+else-is_less, in_default}

@@ -1,4 +1,5 @@
-use Rattle.fb_types.proofs.Common.{◌≡◌, ◌<◌, Some, StopMark}
+use Rattle.fb_types.proofs.Common.{◌≡◌, ◌<◌, Some}
+use Rattle.fb_types.specs.declared.run.StopMark.{StopMark}
 use Rattle.fb_window.proofs.lemmas.lines.FoundLines.{FirstOf}
 use Rattle.fb_window.proofs.ends.first_stop.Given as goal
 

@@ -1,5 +1,8 @@
 -- The greatest legal bounds, from the numbers that the resources give.
-use Rattle.fb_types.proofs.Common.{◌≡◌, ℕ, ◌+◌, ◌-◌, ◌<◌, ◌≤◌, ◌⊎◌, min, max, Option, Some, None, List, [], length, set, replicate, refl, sym, ap, ◌∙◌, subst, inl, inr, ⊎_elim, arith, slice_get, slice_index, cases_lt, cases_eq, get_or-set_same, get_or-set_other, length-set, same_Some, slice_get_within, found, message_key, System, Machine, waiting, machine, count_of, Core, IsFloor, IsLegal, floor, floor_of, Key, Entry, Reason}
+use Rattle.fb_types.proofs.Common.{◌≡◌, ℕ, ◌+◌, ◌-◌, ◌<◌, ◌≤◌, ◌⊎◌, min, max, Option, Some, None, List, [], length, set, replicate, refl, sym, ap, ◌∙◌, subst, inl, inr, ⊎_elim, arith, slice_get, slice_index, cases_lt, cases_eq, get_or-set_same, get_or-set_other, length-set, same_Some, slice_get_within, found, message_key, System, Machine, waiting, machine, count_of, Core, IsFloor, IsLegal, floor, floor_of}
+use Rattle.fb_types.specs.declared.key.Key.{Key}
+use Rattle.fb_types.specs.declared.latency.Entry.{Entry}
+use Rattle.fb_types.specs.declared.value.Reason.{Reason}
 use Rattle.std.proofs.lemmas.List.{get_or-replicate}
 use Rattle.fb_types.specs.Parts.{IsArrival}
 use Rattle.fb_types.proofs.lemmas.lists.Lookups.{none_since, none_some, option_cases}

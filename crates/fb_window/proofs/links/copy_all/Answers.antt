@@ -1,4 +1,5 @@
-use Rattle.fb_types.proofs.Common.{◌+◌, List, sym, ap, subst, ◌∙◌, latency_at, system_of, Entry}
+use Rattle.fb_types.proofs.Common.{◌+◌, List, sym, ap, subst, ◌∙◌, latency_at, system_of}
+use Rattle.fb_types.specs.declared.latency.Entry.{Entry}
 use Rattle.fb_window.specs.LinkRows.{AreRowsOf, IsLink}
 use Rattle.fb_window.specs.declared.links.LinkRow.{LinkRow}
 use Rattle.fb_window.proofs.lemmas.messages.LinkLemmas.{rows_more}

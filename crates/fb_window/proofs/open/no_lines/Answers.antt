@@ -1,4 +1,5 @@
-use Rattle.fb_types.proofs.Common.{◌≡◌, List, [], All, length, sym, ap, subst, ◌∙◌, Vec, All-push, Line}
+use Rattle.fb_types.proofs.Common.{◌≡◌, List, [], All, length, sym, ap, subst, ◌∙◌, Vec, All-push}
+use Rattle.fb_types.specs.declared.run.Line.{Line}
 use Rattle.fb_laws.proofs.lemmas.lists.Indexes.{push_counted}
 use Rattle.fb_window.proofs.open.no_lines.Goals as goal
 

@@ -1,4 +1,6 @@
-use Rattle.fb_types.proofs.Common.{List, ap, sym, ◌∙◌, system_of, EventPort, Ports}
+use Rattle.fb_types.proofs.Common.{List, ap, sym, ◌∙◌, system_of}
+use Rattle.fb_types.specs.declared.library.EventPort.{EventPort}
+use Rattle.fb_types.specs.declared.library.Ports.{Ports}
 use Rattle.fbsim_command.specs.Known.{events_of, numbered}
 use Rattle.fbsim_command.proofs.lemmas.rules.SomeNumber.{event-there}
 use Rattle.fbsim_command.proofs.known.any_event.Goals as goal

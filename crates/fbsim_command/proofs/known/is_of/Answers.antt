@@ -1,4 +1,5 @@
-use Rattle.fb_types.proofs.Common.{◌≡◌, ◌<◌, ◌∙◌, ℕ, ap, length, rules, sym, subst, system_of, path_at, Ports}
+use Rattle.fb_types.proofs.Common.{◌≡◌, ◌<◌, ◌∙◌, ℕ, ap, length, rules, sym, subst, system_of, path_at}
+use Rattle.fb_types.specs.declared.library.Ports.{Ports}
 use Rattle.fb_expect.specs.Patterns.{is_at}
 use Rattle.fb_wave.proofs.lemmas.Bounds.{resource_named}
 use Rattle.fbsim_command.specs.Known.{events_of, variables_of}

@@ -1,6 +1,7 @@
 -- How a call for a graph ends.
 use Rattle.fbsim_command.proofs.lemmas.Common.{◌≡◌, ℕ, List, Option, Some, None, Result, Ok, Err, refl, sym, ◌∙◌, ap, subst, inl, inr, Vec, IfOk, option_map, Inputs, Library, IsErrAnd, ReadError, Given, Declares, IsRefusal, IsRightly, RunError, WritesPart, failure_of, numbered_input, End, Held, Failure, Refused, RefusedTrace, File, Write, Memory, Line, BadOption}
-use Rattle.fb_types.proofs.Common.{option_and_then, Plan}
+use Rattle.fb_types.proofs.Common.{option_and_then}
+use Rattle.fb_types.specs.declared.deploy.Plan.{Plan}
 use Rattle.clap.specs.Words.{Text}
 use Rattle.fb_draw.specs.Drawings.{graph_text}
 use Rattle.fb_inputs.specs.Words.{name}

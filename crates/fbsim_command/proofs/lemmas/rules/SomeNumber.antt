@@ -1,5 +1,6 @@
 -- Whether a test holds for some number below another.
-use Rattle.fb_types.proofs.Common.{List, [], ◌∷◌, length, get_or, map, drop, ◌≡◌, ℕ, zero, suc, ◌+◌, ◌<◌, Bool, true, false, refl, sym, ap, ◌∙◌, subst, arith, inl, inr, ◌&&◌, ◌||◌, list_any, cases_eq, drop_more, Name, System, Variable}
+use Rattle.fb_types.proofs.Common.{List, [], ◌∷◌, length, get_or, map, drop, ◌≡◌, ℕ, zero, suc, ◌+◌, ◌<◌, Bool, true, false, refl, sym, ap, ◌∙◌, subst, arith, inl, inr, ◌&&◌, ◌||◌, list_any, cases_eq, drop_more, Name, System}
+use Rattle.fb_types.specs.declared.library.Variable.{Variable}
 use Rattle.fb_system.specs.IndexLists.{AreIndexes, variable_at}
 use Rattle.fb_expect.specs.Patterns as patterns
 use Rattle.fb_expect.specs.declared.pattern.Condition.{Condition}

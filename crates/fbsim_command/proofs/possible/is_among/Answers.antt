@@ -1,4 +1,5 @@
-use Rattle.fb_types.proofs.Common.{sym, ap, ◌∙◌, Name, same_name, Variable}
+use Rattle.fb_types.proofs.Common.{sym, ap, ◌∙◌, Name, same_name}
+use Rattle.fb_types.specs.declared.library.Variable.{Variable}
 use Rattle.fbsim_command.proofs.lemmas.rules.SomeNumber.{index-found, index-passed}
 use Rattle.fbsim_command.proofs.possible.is_among.Goals as goal
 

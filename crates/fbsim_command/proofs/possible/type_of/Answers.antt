@@ -1,4 +1,5 @@
-use Rattle.fb_types.proofs.Common.{◌∙◌, Some, ap, sym, same_name, Variable}
+use Rattle.fb_types.proofs.Common.{◌∙◌, Some, ap, sym, same_name}
+use Rattle.fb_types.specs.declared.library.Variable.{Variable}
 use Rattle.fbsim_command.proofs.lemmas.TypeOf.{type-found, type-none, type-passed}
 use Rattle.fbsim_command.proofs.possible.type_of.Goals as goal
 

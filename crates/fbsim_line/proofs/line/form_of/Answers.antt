@@ -1,4 +1,5 @@
-use Rattle.fb_types.proofs.Common.{rules, ◌≡◌, sym, ◌∙◌, codes, Some, None, One, Two}
+use Rattle.fb_types.proofs.Common.{rules, ◌≡◌, sym, ◌∙◌, codes, Some, None}
+use Rattle.fb_types.specs.declared.run.Form.TheVariants.{One, Two}
 use Rattle.clap.specs.Words.{found_of, first_value, rows_of}
 use Rattle.clap.proofs.WalkLemmas.{first_value-rows}
 use Rattle.fbsim_line.specs.Line.{word_of}

@@ -1,4 +1,6 @@
-use Rattle.fb_types.proofs.Common.{◌≡◌, ap, arith, subst, OnOk, Key, Given}
+use Rattle.fb_types.proofs.Common.{◌≡◌, ap, arith, subst, OnOk}
+use Rattle.fb_types.specs.declared.key.Key.{Key}
+use Rattle.fb_types.specs.declared.run.Event.TheVariants.{Given}
 use Rattle.fb_agenda.specs.Agendas.{IsPut, local_events}
 use Rattle.fb_agenda.proofs.lemmas.QueueAndOthers.{contents, put_later_apart, put_later_waits}
 use Rattle.fb_agenda.proofs.agenda.Agenda.put_given.Goals as goal

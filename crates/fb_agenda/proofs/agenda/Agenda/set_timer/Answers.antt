@@ -1,4 +1,5 @@
-use Rattle.fb_types.proofs.Common.{◌∙◌, Some, cond, ap, on_ok_weaker, same_key, timer_key, is_timer_of, Timer}
+use Rattle.fb_types.proofs.Common.{◌∙◌, Some, cond, ap, on_ok_weaker, same_key, timer_key, is_timer_of}
+use Rattle.fb_types.specs.declared.run.Event.TheVariants.{Timer}
 use Rattle.fb_agenda.specs.Agendas.{waiting}
 use Rattle.fb_agenda.proofs.lemmas.Timers.{changed_is, on_ok_both, timed_after, timed_without}
 use Rattle.fb_agenda.proofs.agenda.Agenda.set_timer.Goals as goal

@@ -1,4 +1,6 @@
-use Rattle.fb_types.proofs.Common.{◌≡◌, ◌-◌, deque_len, List, map, refl, sym, subst, ◌∙◌, arith, eqb-true, ltb-true, local_key, Key, Target}
+use Rattle.fb_types.proofs.Common.{◌≡◌, ◌-◌, deque_len, List, map, refl, sym, subst, ◌∙◌, arith, eqb-true, ltb-true, local_key}
+use Rattle.fb_types.specs.declared.key.Key.{Key}
+use Rattle.fb_types.specs.declared.run.Target.{Target}
 use Rattle.std.specs.List.{AllByRecursion}
 use Rattle.fb_agenda.specs.Agendas.{IsAt, IsQueue, MayFollow, keyed, local_events}
 use Rattle.fb_agenda.proofs.lemmas.Lists.{when_true}

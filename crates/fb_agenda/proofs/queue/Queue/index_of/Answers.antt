@@ -1,4 +1,5 @@
-use Rattle.fb_types.proofs.Common.{◌≡◌, ◌<◌, ◌≤◌, length, get_or, true, false, sym, ap, subst, ◌∙◌, arith, is_eq, same_key, Key}
+use Rattle.fb_types.proofs.Common.{◌≡◌, ◌<◌, ◌≤◌, length, get_or, true, false, sym, ap, subst, ◌∙◌, arith, is_eq, same_key}
+use Rattle.fb_types.specs.declared.key.Key.{Key}
 use Rattle.fb_types.proofs.lemmas.events.KeyLaws.{same_key_is}
 use Rattle.fb_agenda.proofs.lemmas.Moments.{either_tick}
 use Rattle.fb_agenda.proofs.lemmas.Queueing.{absent_all, indexed, numbers_length}

@@ -1,4 +1,5 @@
-use Rattle.fb_types.proofs.Common.{[], List, Option, None, Some, sym, ◌∙◌, ap, option_copied, Name, EventPort}
+use Rattle.fb_types.proofs.Common.{[], List, Option, None, Some, sym, ◌∙◌, ap, option_copied, Name}
+use Rattle.fb_types.specs.declared.library.EventPort.{EventPort}
 use Rattle.fb_check.proofs.networks.interfaces.variables_with.Goals as goal
 
 pub returns-in-Some : goal.returns-in-Some

@@ -1,4 +1,5 @@
-use Rattle.fb_types.proofs.Common.{Contains, map, subst, List, take_all, Link}
+use Rattle.fb_types.proofs.Common.{Contains, map, subst, List, take_all}
+use Rattle.fb_types.specs.declared.deploy.Link.{Link}
 use Rattle.fb_check.specs.networks.Links.{names_of_link}
 use Rattle.fb_check.proofs.lemmas.networks.SetsOfSeen.{Has, elements_more, pair_cmp, pair_cmp-exact, pair_view}
 use Rattle.fb_check.proofs.lemmas.networks.NoLink.{ways_from}

@@ -1,4 +1,5 @@
-use Rattle.fb_types.proofs.Common.{◌++◌, ◌∷◌, [], map, sym, ◌∙◌, ap, take_all, Instance}
+use Rattle.fb_types.proofs.Common.{◌++◌, ◌∷◌, [], map, sym, ◌∙◌, ap, take_all}
+use Rattle.fb_types.specs.declared.library.Instance.{Instance}
 use Rattle.fb_types.proofs.lemmas.lists.LoopSteps.{map_take_more}
 use Rattle.fb_check.specs.networks.Mapping.{holder_in}
 use Rattle.fb_check.proofs.networks.mapping.holders_of.Goals as goal

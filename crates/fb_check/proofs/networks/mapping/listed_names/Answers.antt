@@ -1,4 +1,5 @@
-use Rattle.fb_types.proofs.Common.{◌++◌, sym, ◌∙◌, ap, flat_map, take_all, ResourceEntry}
+use Rattle.fb_types.proofs.Common.{◌++◌, sym, ◌∙◌, ap, flat_map, take_all}
+use Rattle.fb_types.specs.declared.deploy.ResourceEntry.{ResourceEntry}
 use Rattle.std.proofs.lemmas.List.{map-id}
 use Rattle.fb_check.proofs.lemmas.networks.Lists.{flat_more}
 use Rattle.fb_check.proofs.networks.mapping.listed_names.Goals as goal

@@ -1,4 +1,5 @@
-use Rattle.fb_types.proofs.Common.{◌≡◌, take, flat_map, ResourceEntry}
+use Rattle.fb_types.proofs.Common.{◌≡◌, take, flat_map}
+use Rattle.fb_types.specs.declared.deploy.ResourceEntry.{ResourceEntry}
 use Rattle.fb_check_names.specs.Indexes.{names_in}
 use Rattle.fb_check.proofs.networks.mapping.listed_names.Given as goal
 

@@ -1,4 +1,5 @@
-use Rattle.fb_types.proofs.Common.{Bool, false, not, Option, None, Some, sym, ◌∙◌, ap, fits, Ty}
+use Rattle.fb_types.proofs.Common.{Bool, false, not, Option, None, Some, sym, ◌∙◌, ap, fits}
+use Rattle.fb_types.specs.declared.value.Ty.{Ty}
 use Rattle.fb_check.proofs.lemmas.networks.Valued.{not_not}
 use Rattle.fb_check.proofs.networks.parameters.is_right.Goals as goal
 

@@ -1,4 +1,6 @@
-use Rattle.fb_types.proofs.Common.{◌≡◌, ℕ, List, Some, None, sym, ◌∙◌, ap, slice_get, Instance, Network}
+use Rattle.fb_types.proofs.Common.{◌≡◌, ℕ, List, Some, None, sym, ◌∙◌, ap, slice_get}
+use Rattle.fb_types.specs.declared.library.Instance.{Instance}
+use Rattle.fb_types.specs.declared.library.Network.{Network}
 use Rattle.fb_check_names.proofs.lemmas.Listing.{each_done_of, each_more}
 use Rattle.fb_check.specs.networks.Parameters.{kind_wrong_parameters}
 use Rattle.fb_check.proofs.lemmas.networks.SearchLoops.{at_element}

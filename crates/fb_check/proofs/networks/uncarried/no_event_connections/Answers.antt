@@ -1,4 +1,5 @@
-use Rattle.fb_types.proofs.Common.{◌≡◌, ◌++◌, ℕ, nat_eq, true, List, Contains, refl, sym, ◌∙◌, ap, subst, arith, Contains-get_or, Connection, nat_tests}
+use Rattle.fb_types.proofs.Common.{◌≡◌, ◌++◌, ℕ, nat_eq, true, List, Contains, refl, sym, ◌∙◌, ap, subst, arith, Contains-get_or, nat_tests}
+use Rattle.fb_types.specs.declared.library.Connection.{Connection}
 use Rattle.fb_check_names.specs.Listed.{each_at}
 use Rattle.fb_check_names.proofs.lemmas.Listing.{added_unless, each_done, each_more}
 use Rattle.fb_check.specs.networks.NoEvent.{is_served, no_event_at}

@@ -1,4 +1,6 @@
-use Rattle.fb_types.proofs.Common.{◌≡◌, Option, None, Some, sym, ◌∙◌, ap, option_and_then, option_map, Kind, ports_of, type_at, kind_of, Ports, Ty}
+use Rattle.fb_types.proofs.Common.{◌≡◌, Option, None, Some, sym, ◌∙◌, ap, option_and_then, option_map, Kind, ports_of, type_at, kind_of}
+use Rattle.fb_types.specs.declared.library.Ports.{Ports}
+use Rattle.fb_types.specs.declared.value.Ty.{Ty}
 use Rattle.fb_check_names.specs.Numbers.{kind_of_number}
 use Rattle.fb_check.proofs.networks.variables.input_type.Goals as goal
 

@@ -1,4 +1,5 @@
-use Rattle.fb_types.proofs.Common.{sym, ◌∙◌, ap, option_map, slice_get_past, Variable}
+use Rattle.fb_types.proofs.Common.{sym, ◌∙◌, ap, option_map, slice_get_past}
+use Rattle.fb_types.specs.declared.library.Variable.{Variable}
 use Rattle.fb_check.proofs.lemmas.networks.SearchLoops.{at_element}
 use Rattle.fb_check.proofs.networks.variables.type_at.Goals as goal
 

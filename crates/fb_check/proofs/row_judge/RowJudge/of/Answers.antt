@@ -1,4 +1,8 @@
-use Rattle.fb_types.proofs.Common.{◌≡◌, List, map, refl, subst, sym, inl, inr, ports_of, ArePortsOfKinds, kind_of, AreAccepted, Inputs, NameTwice, NameUnknown, Plan, BlockType, Connection, Library}
+use Rattle.fb_types.proofs.Common.{◌≡◌, List, map, refl, subst, sym, inl, inr, ports_of, ArePortsOfKinds, kind_of, AreAccepted, Inputs, NameTwice, NameUnknown}
+use Rattle.fb_types.specs.declared.deploy.Plan.{Plan}
+use Rattle.fb_types.specs.declared.library.BlockType.{BlockType}
+use Rattle.fb_types.specs.declared.library.Connection.{Connection}
+use Rattle.fb_types.specs.declared.library.Library.{Library}
 use Rattle.fb_check.specs.Directory.{AreInputs, AreTargets}
 use Rattle.fb_check.proofs.lemmas.FilledByName.{event_inputs}
 use Rattle.fb_check.proofs.row_judge.RowJudge.of.Goals as goal

@@ -1,4 +1,5 @@
-use Rattle.fb_types.proofs.Common.{subst, BlockType}
+use Rattle.fb_types.proofs.Common.{subst}
+use Rattle.fb_types.specs.declared.library.BlockType.{BlockType}
 use Rattle.fb_check.specs.types.Insides.{AreInside}
 use Rattle.fb_check.proofs.lemmas.types.NumberedKinds.{inside_numbers}
 use Rattle.fb_check.proofs.types.kinds_wrong.push_in_block.Goals as goal

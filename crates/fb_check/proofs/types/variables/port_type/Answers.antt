@@ -1,4 +1,5 @@
-use Rattle.fb_types.proofs.Common.{List, sym, ◌∙◌, ap, Variable}
+use Rattle.fb_types.proofs.Common.{List, sym, ◌∙◌, ap}
+use Rattle.fb_types.specs.declared.library.Variable.{Variable}
 use Rattle.fb_types.specs.Blocks.{type_named}
 use Rattle.fb_check.proofs.lemmas.types.VariableTypes.{type_back, type_front}
 use Rattle.fb_check.proofs.types.variables.port_type.Goals as goal

@@ -1,4 +1,5 @@
-use Rattle.fb_types.proofs.Common.{◌≡◌, ◌<◌, ◌+◌, ◌^◌, ℕ, List, length, ◌∙◌, ap, arith, EventPort}
+use Rattle.fb_types.proofs.Common.{◌≡◌, ◌<◌, ◌+◌, ◌^◌, ℕ, List, length, ◌∙◌, ap, arith}
+use Rattle.fb_types.specs.declared.library.EventPort.{EventPort}
 use Rattle.fb_ecc.specs.Located.{slots_with_each}
 use Rattle.fb_ecc.proofs.chart.Chart.of.Goals as goal
 

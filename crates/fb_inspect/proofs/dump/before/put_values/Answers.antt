@@ -1,4 +1,5 @@
-use Rattle.fb_types.proofs.Common.{◌<◌, ◌++◌, List, ℕ, length, ap, sym, ◌∙◌, arith, Name, Value}
+use Rattle.fb_types.proofs.Common.{◌<◌, ◌++◌, List, ℕ, length, ap, sym, ◌∙◌, arith, Name}
+use Rattle.fb_types.specs.declared.value.Value.{Value}
 use Rattle.fb_coverage.proofs.lemmas.Listed.{listed_done, listed_next}
 use Rattle.fb_inspect.specs.dump.Inner.{internal_begun, internal_code, value_by}
 use Rattle.fb_inspect.proofs.dump.before.put_values.Goals as goal

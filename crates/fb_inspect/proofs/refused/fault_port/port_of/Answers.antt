@@ -1,4 +1,6 @@
-use Rattle.fb_types.proofs.Common.{List, refl, ap, subst, ◌∙◌, system_of, event_at, EventPort, Ports}
+use Rattle.fb_types.proofs.Common.{List, refl, ap, subst, ◌∙◌, system_of, event_at}
+use Rattle.fb_types.specs.declared.library.EventPort.{EventPort}
+use Rattle.fb_types.specs.declared.library.Ports.{Ports}
 use Rattle.fb_wave.specs.Ports.{events}
 use Rattle.fb_inspect.specs.refused.LineFaults.{IsNoEvent, path_and, sign_text}
 use Rattle.fb_inspect.proofs.lemmas.words.PortWords.{path_is, renamed}

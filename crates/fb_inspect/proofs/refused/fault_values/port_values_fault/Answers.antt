@@ -1,4 +1,5 @@
-use Rattle.fb_types.proofs.Common.{ap, sym, ◌∙◌, system_of, path_at, ports_at, Ports}
+use Rattle.fb_types.proofs.Common.{ap, sym, ◌∙◌, system_of, path_at, ports_at}
+use Rattle.fb_types.specs.declared.library.Ports.{Ports}
 use Rattle.fb_inspect.specs.refused.LineFaults.{variables}
 use Rattle.fb_inspect.proofs.lemmas.words.BoundValues.{port_fault}
 use Rattle.fb_inspect.proofs.lemmas.words.PortWords.{inputs_of, outputs_of}

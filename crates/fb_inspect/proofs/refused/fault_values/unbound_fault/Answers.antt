@@ -1,4 +1,5 @@
-use Rattle.fb_types.proofs.Common.{◌≡◌, ◌<◌, List, ℕ, get_or, length, refl, sym, subst, ◌∙◌, Decides-eqb, slice_eq-Decides, Variable}
+use Rattle.fb_types.proofs.Common.{◌≡◌, ◌<◌, List, ℕ, get_or, length, refl, sym, subst, ◌∙◌, Decides-eqb, slice_eq-Decides}
+use Rattle.fb_types.specs.declared.library.Variable.{Variable}
 use Rattle.fb_wave.specs.Reading.{IsNoValue}
 use Rattle.fb_inspect.specs.refused.LineFaults.{IsNamed}
 use Rattle.fb_inspect.proofs.lemmas.words.BoundValues.{no_value_at, same_variable}

@@ -1,4 +1,5 @@
-use Rattle.fb_types.proofs.Common.{◌≡◌, ◌+◌, ◌<◌, [], ◌∷◌, ◌++◌, length, get_or, refl, sym, subst, ◌∙◌, arith, both_ways, Decides-eqb, get_or_default, slice_eq-Decides, Variable}
+use Rattle.fb_types.proofs.Common.{◌≡◌, ◌+◌, ◌<◌, [], ◌∷◌, ◌++◌, length, get_or, refl, sym, subst, ◌∙◌, arith, both_ways, Decides-eqb, get_or_default, slice_eq-Decides}
+use Rattle.fb_types.specs.declared.library.Variable.{Variable}
 use Rattle.fb_wave.specs.Reading.{IsBound, IsUnbound}
 use Rattle.fb_wave.proofs.lemmas.Valued.{all_read, none_so_far, one_more}
 use Rattle.fb_inspect.proofs.lemmas.words.BoundValues.{has_first, unbound_at}

@@ -1,4 +1,5 @@
-use Rattle.fb_types.proofs.Common.{List, Value}
+use Rattle.fb_types.proofs.Common.{List}
+use Rattle.fb_types.specs.declared.value.Value.{Value}
 use Rattle.fb_wave.proofs.lemmas.Valued.{AreSoFar}
 use Rattle.fb_inspect.proofs.refused.fault_values.value_fault.Given as goal
 

@@ -1,4 +1,5 @@
-use Rattle.fb_types.proofs.Common.{◌<◌, ◌++◌, List, length, ap, ◌∙◌, arith, take_all, variable_names, Variable}
+use Rattle.fb_types.proofs.Common.{◌<◌, ◌++◌, List, length, ap, ◌∙◌, arith, take_all, variable_names}
+use Rattle.fb_types.specs.declared.library.Variable.{Variable}
 use Rattle.fb_inspect.proofs.lemmas.walk.Opened.{names_next}
 use Rattle.fb_inspect.proofs.walk.blocks.add_own.Goals as goal
 

@@ -1,4 +1,5 @@
-use Rattle.fb_types.proofs.Common.{◌∷◌, ◌++◌, [], List, ap, map, sym, ◌∙◌, take_all, Name, Values, Value}
+use Rattle.fb_types.proofs.Common.{◌∷◌, ◌++◌, [], List, ap, map, sym, ◌∙◌, take_all, Name, Values}
+use Rattle.fb_types.specs.declared.value.Value.{Value}
 use Rattle.fb_types.proofs.lemmas.lists.LoopSteps.{map_take_more}
 use Rattle.fb_st.specs.Frames.{values_of}
 use Rattle.fb_inspect.proofs.walk.blocks.keep_values.Goals as goal

@@ -1,4 +1,5 @@
-use Rattle.fb_types.proofs.Common.{Some, ◌∙◌, ap, subst, Event, system_of, path_at, opening_block, EventKind}
+use Rattle.fb_types.proofs.Common.{Some, ◌∙◌, ap, subst, Event, system_of, path_at, opening_block}
+use Rattle.fb_types.specs.declared.event_kind.EventKind.{EventKind}
 use Rattle.fb_net.specs.Blocks as net
 use Rattle.fb_net.specs.Worlds.{Represents}
 use Rattle.fb_net.specs.declared.block.Block.{Block}

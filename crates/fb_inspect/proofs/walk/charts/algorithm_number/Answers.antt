@@ -1,4 +1,5 @@
-use Rattle.fb_types.proofs.Common.{◌≡◌, ◌<◌, ℕ, List, Bool, below_more, get_or, length, sym, ap, ◌∙◌, arith, get_or_default, Name, same_name, Algorithm}
+use Rattle.fb_types.proofs.Common.{◌≡◌, ◌<◌, ℕ, List, Bool, below_more, get_or, length, sym, ap, ◌∙◌, arith, get_or_default, Name, same_name}
+use Rattle.fb_types.specs.declared.library.Algorithm.{Algorithm}
 use Rattle.fb_inspect.proofs.lemmas.words.NamesApart.{first_passing, none_passing}
 use Rattle.fb_inspect.proofs.walk.charts.algorithm_number.Goals as goal
 

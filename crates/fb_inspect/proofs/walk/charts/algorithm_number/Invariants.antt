@@ -1,4 +1,5 @@
-use Rattle.fb_types.proofs.Common.{◌≡◌, ◌<◌, ℕ, false, get_or, same_name, Algorithm}
+use Rattle.fb_types.proofs.Common.{◌≡◌, ◌<◌, ℕ, false, get_or, same_name}
+use Rattle.fb_types.specs.declared.library.Algorithm.{Algorithm}
 use Rattle.fb_inspect.proofs.walk.charts.algorithm_number.Given as goal
 
 -- None of the first ones has the name.

@@ -1,4 +1,5 @@
-use Rattle.fb_types.proofs.Common.{◌≡◌, List, Some, None, sym, ◌∙◌, ap, slice_get, Action}
+use Rattle.fb_types.proofs.Common.{◌≡◌, List, Some, None, sym, ◌∙◌, ap, slice_get}
+use Rattle.fb_types.specs.declared.library.Action.{Action}
 use Rattle.fb_inspect.proofs.lemmas.reactions.Actions.{actions_here}
 use Rattle.fb_inspect.proofs.walk.charts.algorithm_of.Goals as goal
 

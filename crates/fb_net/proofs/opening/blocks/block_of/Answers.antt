@@ -1,4 +1,5 @@
-use Rattle.fb_types.proofs.Common.{◌≡◌, Some, sym, ◌∙◌, ap, option_map, slice_get, kind_of, Library}
+use Rattle.fb_types.proofs.Common.{◌≡◌, Some, sym, ◌∙◌, ap, option_map, slice_get, kind_of}
+use Rattle.fb_types.specs.declared.library.Library.{Library}
 use Rattle.fb_types.specs.declared.library.BlockType.TheVariants as block
 use Rattle.fb_net.proofs.lemmas.opening.BlockOpened.{typed}
 use Rattle.fb_net.proofs.opening.blocks.block_of.Goals as goal

@@ -1,4 +1,5 @@
-use Rattle.fb_types.proofs.Common.{◌∙◌, List, ap, refl, get_or_from_slice_get, on_ok_weaker, slice_get, system_of, Value}
+use Rattle.fb_types.proofs.Common.{◌∙◌, List, ap, refl, get_or_from_slice_get, on_ok_weaker, slice_get, system_of}
+use Rattle.fb_types.specs.declared.value.Value.{Value}
 use Rattle.fb_net.proofs.lemmas.opening.OpeningCopies.{set_keeps, set_starts, side_keeps, side_starts_so, starts_there}
 use Rattle.fb_net.proofs.opening.copies.hold_side.Goals as goal
 

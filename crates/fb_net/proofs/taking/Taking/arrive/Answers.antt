@@ -1,4 +1,5 @@
-use Rattle.fb_types.proofs.Common.{◌≡◌, Err, refl, sym, ap, ◌∙◌, arith, Some, slice_get, err_from_is_err_and, on_ok_weaker, Basic, Composite, kind_of, system_of, path_at, Library}
+use Rattle.fb_types.proofs.Common.{◌≡◌, Err, refl, sym, ap, ◌∙◌, arith, Some, slice_get, err_from_is_err_and, on_ok_weaker, Basic, Composite, kind_of, system_of, path_at}
+use Rattle.fb_types.specs.declared.library.Library.{Library}
 use Rattle.std.specs.Option.{option_map}
 use Rattle.fb_types.specs.declared.library.BlockType.TheVariants as block
 use Rattle.fb_types.specs.declared.run.Halt.TheVariants as halt

@@ -1,4 +1,5 @@
-use Rattle.fb_types.proofs.Common.{◌<◌, cond, [], ◌∷◌, length, refl, sym, ap, subst, ◌∙◌, on_ok_weaker, system_of, path_at, ports_at, Keep}
+use Rattle.fb_types.proofs.Common.{◌<◌, cond, [], ◌∷◌, length, refl, sym, ap, subst, ◌∙◌, on_ok_weaker, system_of, path_at, ports_at}
+use Rattle.fb_types.specs.declared.run.TimerAsk.TheVariants.{Keep}
 use Rattle.fb_net.specs.Emitting.{bare}
 use Rattle.fb_net.specs.Samples.{names_in}
 use Rattle.fb_net.proofs.lemmas.taking.Arriving.{event-reacts}

@@ -1,4 +1,6 @@
-use Rattle.fb_types.proofs.Common.{◌≡◌, List, ap, map, sym, Inputs, system_of, port_of, Stimulated, Given, InputValue}
+use Rattle.fb_types.proofs.Common.{◌≡◌, List, ap, map, sym, Inputs, system_of, port_of, Stimulated}
+use Rattle.fb_types.specs.declared.run.Event.TheVariants.{Given}
+use Rattle.fb_types.specs.declared.run.InputValue.{InputValue}
 use Rattle.fb_types.specs.declared.run.GivenRow.{GivenRow}
 use Rattle.fb_system.specs.Stimuli.{set_of}
 use Rattle.fb_net.specs.Events.{event_of}

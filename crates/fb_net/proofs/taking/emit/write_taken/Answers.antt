@@ -1,4 +1,5 @@
-use Rattle.fb_types.proofs.Common.{◌++◌, ◌∷◌, [], List, true, All, map, sym, subst, ap, ◌∙◌, map-append, All-push, system_of, line_of, Line}
+use Rattle.fb_types.proofs.Common.{◌++◌, ◌∷◌, [], List, true, All, map, sym, subst, ap, ◌∙◌, map-append, All-push, system_of, line_of}
+use Rattle.fb_types.specs.declared.run.Line.{Line}
 use Rattle.fb_system.specs.Lines.{BelongsTo}
 use Rattle.fb_net.proofs.taking.emit.write_taken.Goals as goal
 

@@ -1,4 +1,5 @@
-use Rattle.fb_types.proofs.Common.{List, Ok, ap, sym, arith, err_from_is_err_and, Instance}
+use Rattle.fb_types.proofs.Common.{List, Ok, ap, sym, arith, err_from_is_err_and}
+use Rattle.fb_types.specs.declared.library.Instance.{Instance}
 use Rattle.fb_read.specs.Network.{network}
 use Rattle.fb_read.specs.Nodes.{network_of}
 use Rattle.fb_read.proofs.lemmas.rules.Counts.{instances-count}

@@ -1,4 +1,5 @@
-use Rattle.fb_types.proofs.Common.{Some, None, sym, ◌∙◌, ap, slice_get, option_copied, event_block_named, Ports}
+use Rattle.fb_types.proofs.Common.{Some, None, sym, ◌∙◌, ap, slice_get, option_copied, event_block_named}
+use Rattle.fb_types.specs.declared.library.Ports.{Ports}
 use Rattle.fb_read_positions.proofs.lemmas.TypePorts.{event_ports_are, declared_ports_are}
 use Rattle.fb_read_positions.proofs.lookup.BlockTypes.ports_named.Goals as goal
 

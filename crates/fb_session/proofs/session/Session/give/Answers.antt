@@ -1,4 +1,5 @@
-use Rattle.fb_types.proofs.Common.{refl, subst, sym, ◌≡◌, ◌<◌, ◌≤◌, IsGood, Library}
+use Rattle.fb_types.proofs.Common.{refl, subst, sym, ◌≡◌, ◌<◌, ◌≤◌, IsGood}
+use Rattle.fb_types.specs.declared.library.Library.{Library}
 use Rattle.fb_check.specs.Directory.{IsTaken}
 use Rattle.fb_check.proofs.lemmas.GoodStimuli.{good_from}
 use Rattle.fb_session.specs.Pasts.{StandsBy, Talk}

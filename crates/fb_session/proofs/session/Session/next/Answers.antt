@@ -1,4 +1,5 @@
-use Rattle.fb_types.proofs.Common.{All, List, Ok, arith, refl, subst, sym, system_of, Line}
+use Rattle.fb_types.proofs.Common.{All, List, Ok, arith, refl, subst, sym, system_of}
+use Rattle.fb_types.specs.declared.run.Line.{Line}
 use Rattle.fb_system.specs.Lines.{BelongsTo}
 use Rattle.fb_session.specs.Going.{TakesOne}
 use Rattle.fb_session.specs.Pasts.{StandsBy, Talk, now}

@@ -1,4 +1,5 @@
-use Rattle.fb_types.proofs.Common.{◌<◌, ◌≤◌, List, append-nil, ap, arith, length, map, subst, sym, ◌∙◌, All-nil, system_of, Taken, opening, stimulus_of, Stimulus}
+use Rattle.fb_types.proofs.Common.{◌<◌, ◌≤◌, List, append-nil, ap, arith, length, map, subst, sym, ◌∙◌, All-nil, system_of, Taken, opening, stimulus_of}
+use Rattle.fb_types.specs.declared.deploy.Stimulus.{Stimulus}
 use Rattle.fb_sim_machine.specs.Machines.{IsAt}
 use Rattle.fb_session.specs.Pasts.{IsRow}
 use Rattle.fb_session.proofs.session.Session.open.Goals as goal

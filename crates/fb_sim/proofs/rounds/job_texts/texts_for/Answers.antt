@@ -1,4 +1,5 @@
-use Rattle.fb_types.proofs.Common.{◌≡◌, ℕ, List, Option, Some, ◌∷◌, length, refl, ap, subst, sym, ◌∙◌, arith, IfSome, slice_get, into_iter_items, slice_get_read, Line}
+use Rattle.fb_types.proofs.Common.{◌≡◌, ℕ, List, Option, Some, ◌∷◌, length, refl, ap, subst, sym, ◌∙◌, arith, IfSome, slice_get, into_iter_items, slice_get_read}
+use Rattle.fb_types.specs.declared.run.Line.{Line}
 use Rattle.fb_trace.specs.Marks.{IsMarkedText}
 use Rattle.fb_trace.specs.declared.marks.MarkedText.{MarkedText}
 use Rattle.fb_sim.proofs.lemmas.text.TextsAre.{AreMade, one_made}

@@ -1,4 +1,6 @@
-use Rattle.fb_types.proofs.Common.{◌≤◌, ◌-◌, List, drop, length, Inputs, Form, Line}
+use Rattle.fb_types.proofs.Common.{◌≤◌, ◌-◌, List, drop, length, Inputs}
+use Rattle.fb_types.specs.declared.run.Form.{Form}
+use Rattle.fb_types.specs.declared.run.Line.{Line}
 use Rattle.fb_trace.specs.Marks.{AreMarked}
 use Rattle.fb_sim.proofs.lemmas.text.Cutting.{IsPassing}
 use Rattle.fb_sim.proofs.rounds.join_texts.passed.Given as goal

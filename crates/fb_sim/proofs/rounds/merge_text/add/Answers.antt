@@ -1,4 +1,5 @@
-use Rattle.fb_types.proofs.Common.{◌≡◌, ◌++◌, List, Bor, [], ◌∷◌, length, map, sym, ap, ◌∙◌, append-nil, eqb-true, map_push, nil_from_length, Line}
+use Rattle.fb_types.proofs.Common.{◌≡◌, ◌++◌, List, Bor, [], ◌∷◌, length, map, sym, ap, ◌∙◌, append-nil, eqb-true, map_push, nil_from_length}
+use Rattle.fb_types.specs.declared.run.Line.{Line}
 use Rattle.fb_trace.specs.Fronts.{joint}
 use Rattle.fb_trace.proofs.lemmas.lines.Texts.{joint-append}
 use Rattle.fb_sim.proofs.rounds.merge_text.add.Goals as goal

@@ -1,4 +1,5 @@
-use Rattle.fb_types.proofs.Common.{◌≡◌, ◌+◌, ◌++◌, List, [], ◌∷◌, length, map, take, sym, ap, ◌∙◌, Bor, append_assoc, arith, eqb-true, eqb-false, map_push, nil_from_length, take_more, Line}
+use Rattle.fb_types.proofs.Common.{◌≡◌, ◌+◌, ◌++◌, List, [], ◌∷◌, length, map, take, sym, ap, ◌∙◌, Bor, append_assoc, arith, eqb-true, eqb-false, map_push, nil_from_length, take_more}
+use Rattle.fb_types.specs.declared.run.Line.{Line}
 use Rattle.fb_trace.specs.Fronts.{all_early, all_late, early, joint, late}
 use Rattle.fb_trace.proofs.lemmas.order.EarlyLines.{early_more, late_kept, late_passed}
 use Rattle.fb_sim.proofs.rounds.merge_text.take_early.Goals as goal

@@ -1,4 +1,5 @@
-use Rattle.fb_types.proofs.Common.{◌∷◌, [], Result, Ok, Err, arith, ap, subst, OnErr, OnOk, stimulus_key, Given}
+use Rattle.fb_types.proofs.Common.{◌∷◌, [], Result, Ok, Err, arith, ap, subst, OnErr, OnOk, stimulus_key}
+use Rattle.fb_types.specs.declared.run.Event.TheVariants.{Given}
 use Rattle.fb_types.specs.Keys.{with_all}
 use Rattle.fb_agenda.specs.Agendas.{Contents}
 use Rattle.fb_net.specs.Events.{event_of}

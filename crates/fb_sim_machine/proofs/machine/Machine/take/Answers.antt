@@ -1,4 +1,5 @@
-use Rattle.fb_types.proofs.Common.{◌<◌, Bool, All, length, refl, sym, ap, subst, ◌∙◌, arith, All-nil, slice_get_read, Message}
+use Rattle.fb_types.proofs.Common.{◌<◌, Bool, All, length, refl, sym, ap, subst, ◌∙◌, arith, All-nil, slice_get_read}
+use Rattle.fb_types.specs.declared.run.Message.{Message}
 use Rattle.fb_net.specs.Events.{event_of}
 use Rattle.fb_resource.specs.Posts.{IsMessage}
 use Rattle.fb_resource.specs.Takings.{AreReady, IsTakenHere, with_least_event}

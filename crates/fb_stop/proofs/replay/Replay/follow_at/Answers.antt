@@ -1,4 +1,6 @@
-use Rattle.fb_types.proofs.Common.{◌≡◌, ◌<◌, ◌∙◌, List, length, Some, refl, sym, ap, subst, arith, slice_get, slice_get_read, on_ok_weaker, system_of, Line, Value}
+use Rattle.fb_types.proofs.Common.{◌≡◌, ◌<◌, ◌∙◌, List, length, Some, refl, sym, ap, subst, arith, slice_get, slice_get_read, on_ok_weaker, system_of}
+use Rattle.fb_types.specs.declared.run.Line.{Line}
+use Rattle.fb_types.specs.declared.value.Value.{Value}
 use Rattle.fb_stop.specs.Copies.{HasFollowed}
 use Rattle.fb_stop.specs.Found.{ArrivesAt}
 use Rattle.fb_stop.specs.declared.found.EventSite.{EventSite}

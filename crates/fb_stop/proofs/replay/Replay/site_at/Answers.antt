@@ -1,4 +1,6 @@
-use Rattle.fb_types.proofs.Common.{◌≡◌, ◌∙◌, ℕ, List, length, Option, None, Some, refl, sym, ap, subst, IfSome, slice_get, slice_get_read, Line, Value}
+use Rattle.fb_types.proofs.Common.{◌≡◌, ◌∙◌, ℕ, List, length, Option, None, Some, refl, sym, ap, subst, IfSome, slice_get, slice_get_read}
+use Rattle.fb_types.specs.declared.run.Line.{Line}
+use Rattle.fb_types.specs.declared.value.Value.{Value}
 use Rattle.fb_stop.specs.Copies.{HasLocated, IsSiteBy, Stopping}
 use Rattle.fb_stop.specs.declared.found.StopSite.TheVariants.{InReaction}
 use Rattle.fb_stop.specs.declared.site.ReactionStop.{ReactionStop}

@@ -1,4 +1,5 @@
-use Rattle.fb_types.proofs.Common.{◌≡◌, ◌<◌, ◌++◌, ◌∙◌, List, length, map, refl, ap, arith, slice_get_read, system_of, without, line_of, Line}
+use Rattle.fb_types.proofs.Common.{◌≡◌, ◌<◌, ◌++◌, ◌∙◌, List, length, map, refl, ap, arith, slice_get_read, system_of, without, line_of}
+use Rattle.fb_types.specs.declared.run.Line.{Line}
 use Rattle.fb_types.proofs.lemmas.lists.ByIndex.{element_at}
 use Rattle.fb_net.specs.Events.{event_of}
 use Rattle.fb_stop.proofs.lemmas.runs.Stepping.{copies_after, has_stepped, is_site, left_is, stopping_if}

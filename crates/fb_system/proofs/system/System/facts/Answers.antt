@@ -1,4 +1,5 @@
-use Rattle.fb_types.proofs.Common.{subst, IsWithinLimits, Plan}
+use Rattle.fb_types.proofs.Common.{subst, IsWithinLimits}
+use Rattle.fb_types.specs.declared.deploy.Plan.{Plan}
 use Rattle.fb_system.proofs.lemmas.inputs.TablesOfInputs.{accepted_seen, few_of, numbered_seen, plan_seen}
 use Rattle.fb_system.proofs.system.System.facts.Goals as goal
 

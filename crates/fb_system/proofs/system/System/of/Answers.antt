@@ -1,4 +1,5 @@
-use Rattle.fb_types.proofs.Common.{◌≡◌, ◌∙◌, ArePortsOfKinds, Library}
+use Rattle.fb_types.proofs.Common.{◌≡◌, ◌∙◌, ArePortsOfKinds}
+use Rattle.fb_types.specs.declared.library.Library.{Library}
 use Rattle.fb_system.specs.Linking.{IsLinked}
 use Rattle.fb_system.proofs.lemmas.inputs.TablesOfInputs.{few_of, low_of, made, ok_read, ok_seen, once_of, view_made}
 use Rattle.fb_system.proofs.system.System.of.Goals as goal

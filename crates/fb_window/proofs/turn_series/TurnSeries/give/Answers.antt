@@ -1,4 +1,5 @@
-use Rattle.fb_types.proofs.Common.{rules, ◌≡◌, ◌<◌, ◌++◌, All, List, [], ◌∷◌, Some, length, refl, sym, ap, subst, ◌∙◌, append_assoc, append-nil, arith, slice_get, into_iter_items, slice_get_read, Inputs, system_of, path_at, Message}
+use Rattle.fb_types.proofs.Common.{rules, ◌≡◌, ◌<◌, ◌++◌, All, List, [], ◌∷◌, Some, length, refl, sym, ap, subst, ◌∙◌, append_assoc, append-nil, arith, slice_get, into_iter_items, slice_get_read, Inputs, system_of, path_at}
+use Rattle.fb_types.specs.declared.run.Message.{Message}
 use Rattle.fb_types.proofs.lemmas.lists.ByIndex.{all_at}
 use Rattle.fb_laws.proofs.lemmas.soundness.Accepting.{sound_of}
 use Rattle.fb_link.proofs.lemmas.Lists.{next_of}

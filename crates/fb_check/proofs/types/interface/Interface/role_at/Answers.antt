@@ -1,4 +1,5 @@
-use Rattle.fb_types.proofs.Common.{◌≡◌, ◌-◌, ℕ, length, Some, None, sym, ◌∙◌, ap, arith, refl, slice_get, option_map, slice_get_read, slice_get_past, Variable}
+use Rattle.fb_types.proofs.Common.{◌≡◌, ◌-◌, ℕ, length, Some, None, sym, ◌∙◌, ap, arith, refl, slice_get, option_map, slice_get_read, slice_get_past}
+use Rattle.fb_types.specs.declared.library.Variable.{Variable}
 use Rattle.fb_check.specs.types.Roles.{Declared}
 use Rattle.fb_check.specs.declared.types.interface.Role.TheVariants.{Internal}
 use Rattle.fb_check.proofs.lemmas.types.Roles.{role_at, IsPast, at_event_input, at_event_output, is_past, at_input, at_output, at_internal, not_there}

@@ -1,4 +1,6 @@
-use Rattle.fb_types.proofs.Common.{◌++◌, List, Option, ◌∙◌, ap, unwrap_or, Variable, Ty}
+use Rattle.fb_types.proofs.Common.{◌++◌, List, Option, ◌∙◌, ap, unwrap_or}
+use Rattle.fb_types.specs.declared.library.Variable.{Variable}
+use Rattle.fb_types.specs.declared.value.Ty.{Ty}
 use Rattle.fb_types.specs.declared.value.Ty.TheVariants.{Bool as Boolean}
 use Rattle.fb_types.specs.Blocks.{type_named}
 use Rattle.fb_check.proofs.lemmas.types.VariableTypes.{type_or_boolean}

@@ -1,4 +1,5 @@
-use Rattle.fb_types.proofs.Common.{◌<◌, ◌++◌, [], ◌∷◌, List, length, take, sym, ap, subst, ◌∙◌, arith, take_all, take_more, system_of, Line}
+use Rattle.fb_types.proofs.Common.{◌<◌, ◌++◌, [], ◌∷◌, List, length, take, sym, ap, subst, ◌∙◌, arith, take_all, take_more, system_of}
+use Rattle.fb_types.specs.declared.run.Line.{Line}
 use Rattle.fb_inspect.specs.dump.Dumping.{ShowsLines}
 use Rattle.fb_inspect.proofs.lemmas.dump.Growing.{lines_then}
 use Rattle.fb_inspect.proofs.dump.port_dump.PortDump.show_lines.Goals as goal

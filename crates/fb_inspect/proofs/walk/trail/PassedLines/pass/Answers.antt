@@ -1,4 +1,6 @@
-use Rattle.fb_types.proofs.Common.{◌≡◌, ◌∷◌, [], ◌++◌, Bool, true, List, refl, sym, ap, ◌∙◌, Line, Value}
+use Rattle.fb_types.proofs.Common.{◌≡◌, ◌∷◌, [], ◌++◌, Bool, true, List, refl, sym, ap, ◌∙◌}
+use Rattle.fb_types.specs.declared.run.Line.{Line}
+use Rattle.fb_types.specs.declared.value.Value.{Value}
 use Rattle.fb_inspect.specs.walk.Moves.{lines_kept}
 use Rattle.fb_inspect.proofs.walk.trail.PassedLines.pass.Goals as goal
 

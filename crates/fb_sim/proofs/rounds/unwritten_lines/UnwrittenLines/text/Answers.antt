@@ -1,4 +1,5 @@
-use Rattle.fb_types.proofs.Common.{map, Vec, Line}
+use Rattle.fb_types.proofs.Common.{map, Vec}
+use Rattle.fb_types.specs.declared.run.Line.{Line}
 use Rattle.fb_sim.proofs.lemmas.text.Texts.{one_joined}
 use Rattle.fb_sim.proofs.lemmas.text.TextsAre.{unwritten_texts}
 use Rattle.fb_sim.proofs.rounds.unwritten_lines.UnwrittenLines.text.Goals as goal
