@@ -5,7 +5,7 @@ unfoldable pub use Rattle.fb_read.specs.Blocks.{basic, block, library}
 pub use Rattle.fb_read.specs.BlocksGrammar.{IsLibrary}
 unfoldable pub use Rattle.fb_read.specs.Charts.{action, actions, algorithm, algorithms, condition, state, states, structured_text, transition, transitions}
 pub use Rattle.fb_read.specs.ExpressionGrammar.{AreArguments, IsChain, IsExpression, IsLevel, IsPrimary, IsUnary, another, ends, goes_on, inverted, is_bare_call, is_call, is_chain, is_duration, is_false, is_group, is_number, is_primary, is_true, is_unary, is_variable, negated}
-pub use Rattle.fb_read.specs.Expressions.{arguments, arguments_from, climb, level_at, primary, unary}
+unfoldable pub use Rattle.fb_read.specs.Expressions.{arguments, arguments_from, climb, level_at, primary, unary}
 unfoldable pub use Rattle.fb_read.specs.Expressions.{around, expression, nested_expression}
 pub use Rattle.fb_read.specs.Front.{Found, bad_byte, bad_token, sign_of}
 unfoldable pub use Rattle.fb_read.specs.Front.{front, time}
@@ -24,7 +24,8 @@ unfoldable pub use Rattle.fb_read.specs.Ports.{declaration, event, initial, port
 pub use Rattle.fb_read.specs.Refusals.{IsDeepLen}
 pub use Rattle.fb_read.specs.StatementGrammar.{IsBody}
 pub use Rattle.fb_read.specs.StatementNodes.{branch_of, choice_of}
-pub use Rattle.fb_read.specs.Statements.{begins_label, begins_statement, branch, branches, case_body, case_statement, choice, choices, elsif, for_statement, for_to, if_statement, loop_body, others, repeat_statement, statement, while_statement}
+pub use Rattle.fb_read.specs.Statements.{begins_label, begins_statement}
+unfoldable pub use Rattle.fb_read.specs.Statements.{branch, branches, case_body, case_statement, choice, choices, elsif, for_statement, for_to, if_statement, loop_body, others, repeat_statement, statement, while_statement}
 unfoldable pub use Rattle.fb_read.specs.Statements.{assignment, body, for_end, nested_statement, several, several_from, simple}
 pub use Rattle.fb_read.specs.Tokens.{Tokens, after_mark, tokens_of}
 pub use Rattle.fb_read.specs.Whole.{ended}
