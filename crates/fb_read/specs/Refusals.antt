@@ -89,6 +89,10 @@ pub record IsNestingAt (text : Text) (begin end : ℕ) : Type 0 where
   pub first : IsTooDeep (take index placed) → ⊥
   pub none : BeginsNoneThatFits (tokens_of (take (suc index) placed))
 
+-- The tokens of a text that is refused for its syntax are not refused for their nesting.
+abbrev pub SyntaxIsNoNesting : Type 0
+SyntaxIsNoNesting = (text : Text) (begin end : ℕ) (placed : List Located) → IsSyntaxAt text begin end → AreLocated text placed (after_mark text) → IsTooDeep placed → ⊥
+
 -- The text is refused for this between two offsets.
 abbrev pub IsFaultAt : TextFault → Text → ℕ → ℕ → Type 0
 IsFaultAt text_fault.Byte = IsByteAt
@@ -171,6 +175,11 @@ IsErrorOf text (fault.Refused r) e = IsErrorAt r.fault text r.start e
 abbrev pub IsErrorFor : Text → Unread → ReadError → Type 0
 IsErrorFor text (unread.Fault f) e = IsErrorOf text f e
 IsErrorFor text (unread.Nesting left) e = e ≡ error.Nesting
+
+-- The text is refused where the definitions refuse it, and for that: a syntax fault has the line of the place, and a nesting that is too
+-- deep is one in the whole text.
+abbrev pub IsRightError : Text → ReadError → Type 0
+IsRightError text e = (why : Unread) × IsUnread text why × IsErrorFor text why e
 
 -- the first byte past the greatest length
 abbrev pub too_long : ReadFault

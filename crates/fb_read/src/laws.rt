@@ -5,6 +5,7 @@ ghost use Rattle.fb_read.specs.Longest.{TakesLongest, CutsExactly, FaultsExactly
 ghost use Rattle.fb_read.specs.Pauses.{SkipsExactly};
 ghost use Rattle.fb_read.specs.Shapes.{NumbersExactly, SignsExactly};
 ghost use Rattle.fb_read.specs.TimeParts.{DurationsExactly};
+ghost use Rattle.fb_read.specs.Refusals.{SyntaxIsNoNesting};
 ghost use Rattle.fb_read.specs.Whole.{DeclaresOne};
 ghost use Rattle.fb_read.specs.ReadsExactly.{ReadsExpressions, ReadsBodies};
 
@@ -58,4 +59,9 @@ pub fn reads_expressions()
 /// most 64 deep. Such statements are read, and those that nest deeper are refused for their nesting.
 pub fn reads_bodies()
     ensures { ReadsBodies }
+{}
+
+/// A text that is refused for its syntax is not one whose tokens are refused for their nesting.
+pub fn syntax_is_no_nesting()
+    ensures { SyntaxIsNoNesting }
 {}

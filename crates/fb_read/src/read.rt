@@ -5,7 +5,7 @@ ghost use Rattle.fb_types.specs.declared.library.Library.{Library};
 ghost use Rattle.fb_read.specs.Front.{bad_byte, bad_token};
 ghost use Rattle.fb_read.specs.Tokens.{after_mark};
 ghost use Rattle.fb_read.specs.Located.{AreLocated, IsLocatedEnd};
-ghost use Rattle.fb_read.specs.Refusals.{IsAtNext, IsDeepLen, IsErrorAt, IsErrorFor, IsErrorOf, IsFaultAt, IsFirstDeep, IsNext, IsRefused, IsSameFault, IsTokenLen, IsTooDeep, IsUnread, IsUnreadOf, too_long};
+ghost use Rattle.fb_read.specs.Refusals.{IsAtNext, IsDeepLen, IsErrorAt, IsErrorFor, IsErrorOf, IsFaultAt, IsFirstDeep, IsNext, IsRefused, IsRightError, IsSameFault, IsTokenLen, IsTooDeep, IsUnread, IsUnreadOf, too_long};
 ghost use Rattle.fb_read.specs.Whole.{IsDerived, IsLibraryText, IsNesting, HasTokenFault, HasTokens, RefusesWhere, IsMemory, IsGrammarFault, most_bytes};
 
 use crate::cursor::Cursor;
@@ -382,6 +382,8 @@ pub fn read_library(alloc: Global, text: &[u8]) -> Result<Library, ReadError>
     ensures byte { RefusesWhere result ReadError.Byte (HasTokenFault bad_byte text.now) }
     ensures token { RefusesWhere result ReadError.Token (HasTokenFault bad_token text.now) }
     ensures grammar { IfErr result (λ e. IsGrammarFault e → HasTokens text.now) }
+    // It is what the definitions refuse, and a syntax fault has the line of the token at which they do.
+    ensures exact { IfErr result (IsRightError text.now) }
 {
     // Neither what was expected in place of a syntax fault nor the place of a nesting is searched.
     let tokens = match tokens_in(alloc, text) {

@@ -63,7 +63,7 @@ body-shorter : {n : Name} {p : Ports} {x : BlockType} {ts rest : Tokens} → IsB
 body-shorter (of_basic l) = basic-shorter l
 body-shorter (of_composite l) = network-shorter l
 
-block-complete : IsComplete block IsBlock Anything fits_block
+pub block-complete : IsComplete block IsBlock Anything fits_block
 unfolding block inside name expect same_mark
 block-complete x ts rest (is_block {n = n} {p = p} {b = b} {c = c} is_mark is_name l r is_mark) before =
     rw (ports-complete p b c l (body-starts r), body-complete n p x c rest r) (pass-picked (fits_block x) x (token.Mark mark.EndFunctionBlock ∷ rest) _ x rest refl)

@@ -12,7 +12,7 @@ use Rattle.fb_read.specs.declared.read.Unread.TheVariants as unread
 use Rattle.fb_read.specs.declared.refused.ReadFault.TheVariants as fault
 use Rattle.fb_read.specs.declared.refused.TextFault.{TextFault}
 use Rattle.fb_read.specs.declared.refused.TextFault.TheVariants as text_fault
-use Rattle.fb_read.specs.Refusals.{IsFaultAt, IsUnread, IsUnreadOf, IsErrorAt, IsErrorFor, too_long}
+use Rattle.fb_read.specs.Refusals.{IsFaultAt, IsUnread, IsUnreadOf, IsErrorAt, IsErrorFor, SyntaxIsNoNesting, too_long}
 use Rattle.fb_read.proofs.lemmas.tokens.TokenLaws.{first-located, front_empty, tokens-located}
 use Rattle.fb_read.proofs.lemmas.declarations.BlocksSound.{library-sound}
 use Rattle.fb_read.proofs.lemmas.declarations.BlocksComplete.{library-complete}
@@ -119,6 +119,13 @@ declares-one text x y a b =
     let same = tokens-unique a.derived.read b.derived.read in
     let other : IsLibrary y a.derived.tokens [] = subst (λ (ts : Tokens). IsLibrary y ts []) (sym same) b.derived.derived in
     same_answer x y (sym (parsed-complete a.derived.tokens x a.derived.derived a.fits) ∙ parsed-complete a.derived.tokens y other b.fits)
+
+-- the tokens of a text are refused for one thing
+pub syntax-is-no-nesting : SyntaxIsNoNesting
+syntax-is-no-nesting text begin end placed is located deep =
+    let same : tokens_of is.placed ≡ tokens_of placed = tokens-unique (tokens-located is.located) (tokens-located located) in
+    let no : ◌≡◌ {A = Result Library RuleFault} (Err (syntax is.left)) (Err too_deep) = sym is.refused ∙ ap (λ ts. ended (library ts)) same ∙ deep in
+    cc
 
 -- ---- what a refusal says
 

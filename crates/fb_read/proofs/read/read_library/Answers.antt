@@ -57,3 +57,12 @@ returns-in-Err-clause-too_long c =
 pub returns-clause-too_long : goal.returns-clause-too_long
 returns-clause-too_long c =
     is-too-long c.args.text.now c.in-Err-parse.unread c.error_for-in-Err-parse.result (unread-of c.args.text.now _ c.in-Err-parse.unread c.in-Err-parse.ensures.refused) c.error_for-in-Err-parse.ensures (λ long. absurd (omega (arith, long, c.in-Ok.ensures.short)))
+
+pub returns-in-Ok-parse-clause-exact : goal.returns-in-Ok-parse-clause-exact
+returns-in-Ok-parse-clause-exact c = tt
+
+pub returns-in-Err-clause-exact : goal.returns-in-Err-clause-exact
+returns-in-Err-clause-exact c = (why.Fault c.in-Err.fault, c.in-Err.ensures.refused, c.error_for.ensures)
+
+pub returns-clause-exact : goal.returns-clause-exact
+returns-clause-exact c = (c.in-Err-parse.unread, unread-of c.args.text.now _ c.in-Err-parse.unread c.in-Err-parse.ensures.refused, c.error_for-in-Err-parse.ensures)
