@@ -99,15 +99,19 @@ IsTableAt text table.Top span = ⊥
 IsTableAt text (table.Resource i) span = IsHeadingAt text resource_heading i span
 IsTableAt text (table.Link i) span = IsHeadingAt text link_heading i span
 
--- The bytes are the name of the key in the table that begins at the heading.
-abbrev pub IsKeyAfter : Text → (heading : Text) → ℕ → DeployKey → Span → Type 0
-IsKeyAfter text heading index k span = (begin : Span) × IsHeadingAt text heading index begin × IsKeyIn text (begin.start + 1) (text_of k) span
+-- The bytes are those of the key with this name in the table that begins at the heading.
+abbrev pub IsKeyAfter : Text → (heading : Text) → ℕ → (name : Text) → Span → Type 0
+IsKeyAfter text heading index name span = (begin : Span) × IsHeadingAt text heading index begin × IsKeyIn text (begin.start + 1) name span
 
--- The bytes are the name of the key in the table. Those of no table are before the first one.
+-- The bytes are those of the key with this name in the table. Those of no table are before the first one.
+abbrev pub IsNamedKeyAt : Text → TableLocation → (name : Text) → Span → Type 0
+IsNamedKeyAt text table.Top name span = IsKeyIn text 0 name span
+IsNamedKeyAt text (table.Resource i) name span = IsKeyAfter text resource_heading i name span
+IsNamedKeyAt text (table.Link i) name span = IsKeyAfter text link_heading i name span
+
+-- The bytes are the name of the key in the table.
 abbrev pub IsKeyAt : Text → TableLocation → DeployKey → Span → Type 0
-IsKeyAt text table.Top k span = IsKeyIn text 0 (text_of k) span
-IsKeyAt text (table.Resource i) k span = IsKeyAfter text resource_heading i k span
-IsKeyAt text (table.Link i) k span = IsKeyAfter text link_heading i k span
+IsKeyAt text t k span = IsNamedKeyAt text t (text_of k) span
 
 -- The byte begins the element with this index of the array at the key.
 pub record IsElementAt (text : Text) (t : TableLocation) (k : DeployKey) (index : ℕ) (span : Span) : Type 0 where

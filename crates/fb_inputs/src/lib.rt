@@ -40,7 +40,9 @@ pub use deploy_location::{DeployFault, DeployKey, DeployLocation, TableFault, Ta
 pub use deployment::{deployment_location, locate_deploy, read_deploy};
 pub use error::InputError;
 pub use location::{RowError, RowFault, StimuliFault, StimuliLocation};
-pub use near_deployment::{nearest_in_deployment, span_in_deployment};
+pub use near_deployment::{
+    heading_span, named_key_span, nearest_in_deployment, span_in_deployment,
+};
 pub use near_stimuli::nearest_spans;
 pub use number::natural;
 pub use position::{DeployPosition, StimuliPosition, deploy_position, stimuli_position};

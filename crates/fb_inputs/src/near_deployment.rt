@@ -1,7 +1,7 @@
 //! Finds a position of a deployment in its text.
 
 ghost use Rattle.std.specs.Prelude.{◌≡◌, IfSome};
-ghost use Rattle.fb_inputs.specs.NearSpans.{IsByteAt, IsElementAt, IsHeadingAt, IsInDeployment, IsKeyAfter, IsKeyAt, IsNearInDeployment, IsTableAt};
+ghost use Rattle.fb_inputs.specs.NearSpans.{IsByteAt, IsElementAt, IsHeadingAt, IsInDeployment, IsKeyAfter, IsKeyAt, IsNamedKeyAt, IsNearInDeployment, IsTableAt};
 
 use crate::arrays::{array_begin, element_begin};
 use crate::lines::{LINK, RESOURCE, heading_begin, is_first_after, key_from};
@@ -25,7 +25,7 @@ fn byte_span(text: &[u8], at: usize) -> Option<Span>
 }
 
 /// The two brackets of the heading with this index.
-fn heading_span(text: &[u8], heading: &[u8], index: usize) -> Option<Span>
+pub fn heading_span(text: &[u8], heading: &[u8], index: usize) -> Option<Span>
     ensures { IfSome result (IsHeadingAt text.now heading.now index) }
 {
     let start = heading_begin(text, heading, index)?;
@@ -46,24 +46,31 @@ fn table_span(text: &[u8], table: TableLocation) -> Option<Span>
     }
 }
 
-/// The name of a key in the table with this heading and this index.
-fn key_after(text: &[u8], heading: &[u8], index: usize, key: DeployKey) -> Option<Span>
-    ensures { IfSome result (IsKeyAfter text.now heading.now index key) }
+/// The key with this name in the table with this heading and this index.
+fn key_after(text: &[u8], heading: &[u8], index: usize, name: &[u8]) -> Option<Span>
+    ensures { IfSome result (IsKeyAfter text.now heading.now index name.now) }
 {
     let begin = heading_span(text, heading, index)?;
     let first = is_first_after(text[begin.start], true);
-    key_from(text, begin.start + 1, first, key.text().as_bytes())
+    key_from(text, begin.start + 1, first, name)
+}
+
+/// The key with this name in a table, also one that the table may not have.
+pub fn named_key_span(text: &[u8], table: TableLocation, name: &[u8]) -> Option<Span>
+    ensures { IfSome result (IsNamedKeyAt text.now table name.now) }
+{
+    match table {
+        TableLocation::Top => key_from(text, 0, true, name),
+        TableLocation::Resource(index) => key_after(text, RESOURCE, index, name),
+        TableLocation::Link(index) => key_after(text, LINK, index, name),
+    }
 }
 
 /// The name of a key of a table.
 fn key_span(text: &[u8], table: TableLocation, key: DeployKey) -> Option<Span>
     ensures { IfSome result (IsKeyAt text.now table key) }
 {
-    match table {
-        TableLocation::Top => key_from(text, 0, true, key.text().as_bytes()),
-        TableLocation::Resource(index) => key_after(text, RESOURCE, index, key),
-        TableLocation::Link(index) => key_after(text, LINK, index, key),
-    }
+    named_key_span(text, table, key.text().as_bytes())
 }
 
 /// The byte that begins an element of the array at a key of a table.
