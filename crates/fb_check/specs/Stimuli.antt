@@ -3,12 +3,12 @@
 use Rattle.std.specs.Prelude.{◌≡◌, ◌⊎◌, ◌<◌, ◌++◌, ℕ, List, [], ◌∷◌, length, map, false, true, Option, Some, None, Result, Ok, Err, Contains, slice_get}
 use Rattle.fb_types.specs.Blocks.{Kind, ports_of, is_event_input, inputs_with}
 use Rattle.fb_types.specs.Flat.{paths_of, source_of}
-use Rattle.fb_types.specs.Repeated.{Twice}
 use Rattle.fb_types.specs.Accepted.{IsGood, is_held, kind_of_stimulus, set_names}
 use Rattle.fb_types.specs.declared.deploy.Setting.{Setting}
 use Rattle.fb_types.specs.declared.deploy.Stimulus.{Stimulus}
 use Rattle.fb_types.specs.declared.library.Library.{Library}
 use Rattle.fb_check_names.specs.Numbers.{each_or_none}
+use Rattle.fb_check_names.specs.Repeats.{IsFirstRepeat}
 use Rattle.fb_types.specs.declared.run.InputValue.{InputValue}
 use Rattle.fb_system.specs.declared.rows.StimulusRow.{StimulusRow}
 use Rattle.fb_check.specs.Directory.{IsTaken}
@@ -42,7 +42,7 @@ HasUnfit lib s k = (x : Setting) × (slice_get s.settings k ≡ Some x) × IsUnf
 abbrev pub IsBad : Library → Stimulus → StimulusFault → Type 0
 IsBad lib s fault.Event = HasNoEvent lib s
 IsBad lib s (fault.Setting k) = HasUnfit lib s k
-IsBad lib s fault.Twice = Twice (set_names s)
+IsBad lib s (fault.Twice k) = IsFirstRepeat (set_names s) k
 
 -- The stimulus is there, and this is wrong with it.
 abbrev pub IsBadAt : Library → List Stimulus → StimulusLocation → Type 0

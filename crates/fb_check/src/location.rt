@@ -41,8 +41,8 @@ pub enum StimulusFault {
     /// It sets a variable that does not go WITH the event, to which a connection leads, or whose type does not contain
     /// the value.
     Setting(usize),
-    /// It sets a variable twice.
-    Twice,
+    /// It sets a variable that a setting before this one sets.
+    Twice(usize),
 }
 
 /// A stimulus that the application can't take, counted from 0 (E29).

@@ -1,11 +1,12 @@
 //! The stimuli by number, if the application can take them (E29).
 
-ghost use Rattle.std.specs.Prelude.{◌≡◌, ◌↔◌, [], All, IfOk, IsTrue};
+ghost use Rattle.std.specs.Prelude.{◌≡◌, [], All, IfOk, MatchOption};
 ghost use Rattle.fb_types.specs.Accepted.{set_names};
 ghost use Rattle.fb_types.specs.Repeated.{Twice};
 ghost use Rattle.fb_types.specs.Unknown.{NameUnknown};
 ghost use Rattle.fb_types.specs.declared.deploy.Plan.{Plan};
 ghost use Rattle.fb_check_names.specs.Catalog.{IsCatalog};
+ghost use Rattle.fb_check_names.specs.Repeats.{IsFirstRepeat};
 ghost use Rattle.fb_check.specs.Directory.{IsDirectory, AreTaken, held_slot, input_in, slot_of};
 ghost use Rattle.fb_check.specs.Stimuli.{AreAllBad, AreSlotsOr, IsAdded, IsBadAt, IsRowOr};
 
@@ -14,16 +15,16 @@ use crate::directory_making::{TypeInputs, inputs_of_each, targets_of};
 use crate::location::{StimulusFault, StimulusLocation};
 use crate::name_pair::NamePair;
 use crate::types::adding::push_one;
-use fb_check_names::{Catalog, index_of_name, indexes};
+use fb_check_names::{Catalog, first_repeat, index_of_name};
 use fb_system::StimulusRow;
 use fb_types::{InputValue, Items, Library, Name, Setting, Stimulus, Value, all_ports};
 use std::alloc::{AllocError, Global};
 
-/// Whether a stimulus sets a variable twice.
-fn has_setting_twice(alloc: Global, stimulus: &Stimulus) -> Result<bool, AllocError>
-    ensures { IfOk result (λ b. IsTrue b ↔ Twice (set_names stimulus.now)) }
+/// The index of the first setting of a variable that a setting before it sets, if there is one.
+fn repeated_setting(alloc: Global, stimulus: &Stimulus) -> Result<Option<usize>, AllocError>
+    ensures { IfOk result (λ o. MatchOption o (¬ (Twice (set_names stimulus.now))) (IsFirstRepeat (set_names stimulus.now))) }
 {
-    Ok(indexes(alloc, stimulus.settings.as_slice())?.is_none())
+    first_repeat(alloc, stimulus.settings.as_slice())
 }
 
 /// The slot of a data input with its value, if the type contains the value.
@@ -103,13 +104,13 @@ pub(crate) fn row_of(
     let Some(event) = inputs.events.get(&stimulus.event).copied() else {
         return Ok(Err(StimulusFault::Event));
     };
-    let is_set_twice = has_setting_twice(alloc, stimulus)?;
+    let repeated = repeated_setting(alloc, stimulus)?;
     let sets = match slots_of(alloc, directory, inputs, stimulus)? {
         Ok(sets) => sets,
         Err(setting) => return Ok(Err(StimulusFault::Setting(setting))),
     };
-    if is_set_twice {
-        return Ok(Err(StimulusFault::Twice));
+    if let Some(setting) = repeated {
+        return Ok(Err(StimulusFault::Twice(setting)));
     }
     // for the prover: there are fewer than 2^32 instances, so the index fits
     library.application.network.instances.count();

@@ -61,11 +61,11 @@ twice_position (given.Resource pair) = Some (input.Deployment (in_deploy.Key (ta
 twice_position (given.Link pair) = Some (input.Deployment (in_deploy.Table (table.Link pair.1)))
 twice_position _ = None
 
--- the event of a stimulus, the word, or all words
+-- the event of a stimulus, or the word
 abbrev pub fault_position : (row : ℕ) → StimulusFault → StimuliPosition
 fault_position row fault.Event = in_stimuli.Field row 1
 fault_position row (fault.Setting word) = in_stimuli.Word row word
-fault_position row fault.Twice = in_stimuli.Field row 2
+fault_position row (fault.Twice word) = in_stimuli.Word row word
 
 abbrev pub stimulus_position : StimulusLocation → StimuliPosition
 stimulus_position location = fault_position location.row location.fault

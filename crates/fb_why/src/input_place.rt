@@ -96,7 +96,7 @@ fn twice_position(given: GivenTwice) -> Option<InputPosition>
     }
 }
 
-/// A stimulus that does not fit its event input: its event, the word, or all words.
+/// A stimulus that does not fit its event input: its event, or the word.
 fn stimulus_position(location: StimulusLocation) -> StimuliPosition
     ensures { result ≡ spec.stimulus_position location }
 {
@@ -104,7 +104,7 @@ fn stimulus_position(location: StimulusLocation) -> StimuliPosition
     match fault {
         StimulusFault::Event => StimuliPosition::Field(row, 1),
         StimulusFault::Setting(word) => StimuliPosition::Word(row, word),
-        StimulusFault::Twice => StimuliPosition::Field(row, 2),
+        StimulusFault::Twice(word) => StimuliPosition::Word(row, word),
     }
 }
 

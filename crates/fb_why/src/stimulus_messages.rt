@@ -4,7 +4,7 @@ use crate::kind_messages::ports_of_instance;
 use fb_check::types::variable_type;
 use fb_check::{StimulusFault, StimulusLocation};
 use fb_read_positions::{BlockTypes, Text};
-use fb_types::{Connection, Name, Setting, Stimulus, Ty, instance_named};
+use fb_types::{Connection, Setting, Stimulus, Ty, instance_named};
 use std::alloc::{AllocError, Global};
 
 /// Adds what is wrong with the stimulus at this location. Rows are counted from 0 after the heading, as in the keys of
@@ -49,7 +49,7 @@ fn push_one(text: &mut Text, types: &BlockTypes, stimulus: &Stimulus, location: 
             }
         }
         StimulusFault::Setting(setting) => push_setting(text, types, stimulus, setting),
-        StimulusFault::Twice => push_twice(text, stimulus.settings.as_slice()),
+        StimulusFault::Twice(setting) => push_twice(text, stimulus, setting),
     }
 }
 
@@ -107,24 +107,11 @@ fn push_setting(text: &mut Text, types: &BlockTypes, stimulus: &Stimulus, index:
     text.words(" has this name");
 }
 
-/// Whether one of these settings is of this variable.
-fn sets(settings: &[Setting], variable: &Name) -> bool {
-    for setting in settings {
-        if setting.variable.is(variable) {
-            return true;
-        }
-    }
-    false
-}
-
-/// Adds the first variable that is set twice.
-fn push_twice(text: &mut Text, settings: &[Setting]) {
-    for (index, setting) in settings.iter().enumerate() {
-        let (earlier, variable) = (&settings[..index], &setting.variable);
-        if sets(earlier, variable) {
-            text.named("", variable);
-            text.words(" is set twice");
-            return;
-        }
-    }
+/// Adds that the variable of the setting at this index is set twice.
+fn push_twice(text: &mut Text, stimulus: &Stimulus, index: usize) {
+    let Some(setting) = stimulus.settings.get(index) else {
+        return;
+    };
+    text.named("", &setting.variable);
+    text.words(" is set twice");
 }

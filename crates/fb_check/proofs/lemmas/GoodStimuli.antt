@@ -1,6 +1,6 @@
 -- What the directory says of a stimulus is whether it is good.
-use Rattle.fb_check.proofs.lemmas.Common.{◌≡◌, ℕ, Bool, true, false, not, ◌&&◌, cond, List, [], ◌∷◌, map, Option, Some, None, Contains, Bor, refl, sym, ◌∙◌, ap, subst, inl, inr, ◌↔◌, IsTrue, option_map, option_and_then, is_some, position, slice_get, Decides, list_all, true≢false, and_parts, Name, same_name, fits, Kind, named, ports_of, event_names, variable_names, Twice, NameTwice, instance_names, NameUnknown, Library, EventPort, Variable, Ports, Plan, Stimulus, Setting, IsIndex, index_in, StimulusLocation, IsBadAt, IsFound, TypeInputs}
-use Rattle.fb_types.proofs.Common.{MatchOption, BTreeMap, is_event_input, inputs_with, source_of, IsGood, BadStimulus}
+use Rattle.fb_check.proofs.lemmas.Common.{◌≡◌, ℕ, Bool, true, false, not, ◌&&◌, cond, List, [], ◌∷◌, map, Option, Some, None, Contains, Bor, refl, sym, ◌∙◌, ap, subst, inl, inr, option_map, option_and_then, is_some, position, slice_get, Decides, list_all, true≢false, and_parts, Name, same_name, fits, Kind, named, ports_of, event_names, variable_names, Twice, NameTwice, instance_names, NameUnknown, Library, EventPort, Variable, Ports, Plan, Stimulus, Setting, IsIndex, index_in, StimulusLocation, IsBadAt, IsFound, TypeInputs}
+use Rattle.fb_types.proofs.Common.{BTreeMap, is_event_input, inputs_with, source_of, IsGood, BadStimulus}
 use Rattle.fb_types.specs.Accepted.{kind_of_stimulus, set_names, is_held}
 use Rattle.fb_types.proofs.lemmas.lists.Positions.{is_some-position, named-position, position_is}
 use Rattle.fb_types.proofs.lemmas.lists.Elements.{Contains-nil, Contains-cons_cases, Contains-here, Contains-there, Contains-map, map-Contains}
@@ -16,6 +16,7 @@ use Rattle.fb_types.proofs.lemmas.lists.Options.{none_from_is_some}
 use Rattle.fb_types.proofs.lemmas.lists.ListTests.{passes_from}
 use Rattle.fb_check.proofs.lemmas.DirectoryEntries.{ports_placed}
 use Rattle.fb_check.proofs.lemmas.RefusedStimuli.{HasRefused}
+use Rattle.fb_check_names.proofs.lemmas.twice.FirstRepeats.{repeat_twice}
 use Rattle.fb_check.proofs.lemmas.DataSources.{has_source, port}
 use Rattle.fb_check.proofs.lemmas.networks.ListElements.{Contains-filter, filter-Contains}
 
@@ -228,7 +229,7 @@ not_good lib s (fault.Setting k) w good =
       unconnected = good.unconnected w.0.variable n;
       held = each_from_all (is_held (ports_of good.kind)) s.settings good.held w.0 there;
     }))
-not_good lib s fault.Twice t good = good.once t
+not_good lib s (fault.Twice k) r good = good.once (repeat_twice (set_names s) k r)
 
 pub bad_applies : (lib : Library) (ss : List Stimulus) (p : StimulusLocation) → IsBadAt lib ss p → BadStimulus lib ss
 bad_applies lib ss p h = (h.0, element_of_index ss p.row h.0 h.1, not_good lib h.0 p.fault h.2)
@@ -237,10 +238,3 @@ bad_applies lib ss p h = (h.0, element_of_index ss p.row h.0 h.1, not_good lib h
 pub none_bad : (lib : Library) (plan : Plan) (ss : List Stimulus) → ¬ (NameTwice lib plan) → ¬ (NameUnknown lib plan) → ¬ (HasRefused lib ss) → ¬ (BadStimulus lib ss)
 none_bad lib plan ss once known none bad =
     let names : Known lib = record { plan = plan; once = once; known = known } in none (bad.0, bad.1, λ take. bad.2 (good_from lib bad.0 names take))
-
-pub none_exactly :
-    {A : Type 0} (o : Option A) (b : Bool) (E : Type 0) (P : A → Type 0) → ((x : A) → P x → ¬ E) → is_some o ≡ not b → MatchOption o E P → IsTrue b ↔ E
-none_exactly None true E P apart is h = (λ _. h, λ _. refl)
-none_exactly None false E P apart is h = absurd (true≢false (sym is))
-none_exactly (Some x) true E P apart is h = absurd (true≢false is)
-none_exactly (Some x) false E P apart is h = (λ t. absurd (true≢false (sym t)), λ f. absurd (apart x h f))

@@ -1,4 +1,7 @@
-use Rattle.fb_check.proofs.lemmas.Common.{ℕ, List, Option, Some, None, Result, refl, sym, ◌∙◌, ap, subst, option_copied, is_some, true≢false, instance_names, InputValue, IsFound, slot_of, TypeInputs}
+use Rattle.fb_check.proofs.lemmas.Common.{ℕ, List, Option, Some, None, Result, refl, sym, ◌∙◌, ap, subst, option_copied, is_some, instance_names, InputValue, IsFound, slot_of, TypeInputs}
+use Rattle.fb_types.proofs.Common.{MatchOption, Twice}
+use Rattle.fb_types.specs.Accepted.{set_names}
+use Rattle.fb_check_names.specs.Repeats.{IsFirstRepeat}
 use Rattle.fb_check.specs.Stimuli.{AreSlotsOr}
 use Rattle.fb_check.specs.Directory.{ports_at_index}
 use Rattle.fb_check.proofs.lemmas.DirectoryEntries.{unknown_instance}
@@ -48,9 +51,6 @@ returns-in-Err c =
     let w = subst Q c.in-Err.is c.in_ok-sets.ensures in
     (w.0, w.1, slot_none lib c.args.directory.now x s w.0 known c.requires.directory found w.2)
 
-pub returns-then-is_set_twice : goal.returns-then-is_set_twice
-returns-then-is_set_twice c = c.in_ok-is_set_twice.ensures.0 c.if-is_set_twice.true
-
 pub returns : goal.returns
 returns c =
     let lib = c.args.library.now in
@@ -61,8 +61,9 @@ returns c =
     let x = c.in-Some-inputs_at.inputs.now in
     let P : Option TypeInputs → Type 0 = λ o. IsFound (ports_at_index lib c.in-Some.index) o in
     let Q : Result (List InputValue) ℕ → Type 0 = AreSlotsOr (slot_of d x s) s.settings in
+    let R : Option ℕ → Type 0 = λ o. MatchOption o (¬ (Twice (set_names s))) (IsFirstRepeat (set_names s)) in
     taken_is lib d s x _ c.in-Some.index c.in-Some-copied.event c.requires.directory
     (at ∙ c.in-Some.is, subst P (ap option_copied c.in-Some-inputs_at.is) c.inputs_at.ensures.found)
     (sym (c.copied.ensures ∙ c.get.ensures.value) ∙ c.in-Some-copied.is)
-    (λ t. true≢false (sym (c.in_ok-is_set_twice.ensures.1 t) ∙ c.if-is_set_twice.false)) (subst Q c.in-Ok.is c.in_ok-sets.ensures)
+    (subst R c.in_default-repeated.is c.in_ok-repeated.ensures) (subst Q c.in-Ok.is c.in_ok-sets.ensures)
     refl refl refl
