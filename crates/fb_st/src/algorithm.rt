@@ -13,6 +13,7 @@ use crate::evaluation::holds;
 use crate::frame::Frame;
 use crate::layout::Layout;
 use crate::meter::{Flow, Meter};
+use crate::running::run_all;
 use fb_types::{Expr, Reason};
 
 /// Runs the compiled form of an algorithm as `exec` runs its text. `None` if there is no compiled form, or a variable
@@ -33,10 +34,14 @@ pub fn exec_compiled(
     ensures declared { declared_in frame.new ≡ declared_in frame.old }
     ensures fewer { meter.new.left ≤ meter.old.left }
 {
-    match codes {
-        Some(codes) => frame.slots.run(codes, layout, meter),
-        None => None,
+    let Some(codes) = codes else {
+        return None;
+    };
+    if !frame.slots.is_plain {
+        return None;
     }
+    let words = frame.slots.words.as_mut_slice();
+    Some(run_all(codes, layout, words, meter))
 }
 
 /// Whether a guard is true, as `holds` says. It evaluates the compiled form if there is one and each variable holds a

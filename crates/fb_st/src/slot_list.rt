@@ -3,21 +3,18 @@
 ghost use Rattle.std.specs.Prelude.{◌≡◌, ◌<◌, ◌≤◌, ◌++◌, ◌∷◌, [], length, slice_get, slice_set, unwrap_or, Some, None, MatchOption, OnOk, OnErr, IfSome, true, false, ◌&&◌, position};
 ghost use Rattle.std.specs.Bool.{OnFalse, OnTrue};
 ghost use Rattle.std.specs.List.{list_any};
-ghost use Rattle.fb_types.specs.Bodies.{RunsAll};
 ghost use Rattle.fb_types.specs.Names.{same_name};
 ghost use Rattle.fb_types.specs.Repeated.{Twice};
 ghost use Rattle.fb_types.specs.Values.{fits, truth_of};
 ghost use Rattle.fb_st.specs.Compiled.{truth_said};
-ghost use Rattle.fb_st.specs.Flows.{end_of, point};
-ghost use Rattle.fb_st.specs.Frames.{declared_in, index_of, names_of, types_in, values_of};
-ghost use Rattle.fb_st.specs.Fitting.{codes_right, codes_said, expr_of_truth, right_truth, value_of_word};
+ghost use Rattle.fb_st.specs.Frames.{declared_in, index_of, names_of, values_of};
+ghost use Rattle.fb_st.specs.Fitting.{expr_of_truth, right_truth, value_of_word};
 
-use crate::compiled::{CompiledStmt, TruthExpr};
+use crate::compiled::TruthExpr;
 use crate::exact;
 use crate::frame::Slot;
 use crate::layout::{self, Layout};
-use crate::meter::{Flow, Meter};
-use crate::running::{is_true, run_all};
+use crate::running::is_true;
 use fb_types::{Name, Reason, Reference, Ty, Value};
 use std::alloc::{AllocError, Global};
 use std::marker::Model;
@@ -25,7 +22,7 @@ use std::marker::Model;
 /// A variable: its name and its type. Its word is its value, unless a caller put in a value that its type does not hold:
 /// that value is kept here.
 #[derive(Drop)]
-struct Kept {
+pub(crate) struct Kept {
     name: Name,
     ty: Ty,
     odd: Option<Value>,
@@ -34,10 +31,10 @@ struct Kept {
 /// Variables with their types and values. Contracts see a list of these.
 #[derive(Drop)]
 pub struct SlotList {
-    kept: Vec<Kept>,
-    words: Vec<i64>,
+    pub(crate) kept: Vec<Kept>,
+    pub(crate) words: Vec<i64>,
     /// Set while each variable holds a value of its type.
-    is_plain: bool,
+    pub(crate) is_plain: bool,
 }
 
 impl Model for SlotList {
@@ -267,31 +264,7 @@ impl SlotList {
         self.is_plain = are_both(self.is_plain, is_plain);
     }
 
-    /// Runs compiled statements on the words. `None` if a variable holds a value that its type does not hold: then
-    /// nothing is run.
-    #[inline(always)]
-    pub(crate) fn run(
-        &mut self,
-        codes: &[CompiledStmt],
-        layout: &Layout,
-        meter: &mut Meter,
-    ) -> Option<Result<Flow, Reason>>
-        requires layout { layout.now ≡ declared_in self.old }
-        requires once { ¬ (Twice (names_of self.old)) }
-        requires right { codes_right layout.now codes.now ≡ true }
-        ensures run { IfSome result (λ r. RunsAll (types_in layout.now) (codes_said layout.now codes.now) (point self.old meter.old) (end_of r) (point self.new meter.new)) }
-        ensures none { result ≡ None → (self.new ≡ self.old) × (meter.new ≡ meter.old) }
-        ensures declared { declared_in self.new ≡ declared_in self.old }
-        ensures fewer { meter.new.left ≤ meter.old.left }
-    {
-        if !self.is_plain {
-            return None;
-        }
-        let words = self.words.as_mut_slice();
-        Some(run_all(codes, layout, words, meter))
-    }
-
-    /// Whether a compiled condition is true. `None` as for `run`.
+    /// Whether a compiled condition is true. `None` if a variable holds a value that its type does not hold.
     #[inline(always)]
     pub(crate) fn holds_condition(
         &self,
