@@ -18,3 +18,4 @@ pub mod Readers
 pub mod Documents
 pub mod Deployments
 pub mod DeployFaults
+pub mod DeployTables

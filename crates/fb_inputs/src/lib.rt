@@ -13,7 +13,7 @@
 //! or with keys in quotes, has no bytes.
 //!
 //! Read in this order: `deployment`, `deploy_location`, `document` and `table`; `stimuli`, `location` and `row`;
-//! `text`, `number` and `error`. Then what runs only after a refusal, and for warnings:
+//! `text`, `number` and `error`; `laws`. Then what runs only after a refusal, and for warnings:
 //! `position`; `scan`; `csv_records`, `row_positions` and `near_stimuli`; `lines`, `arrays` and `near_deployment`.
 #![tactic(auto)]
 
@@ -23,6 +23,7 @@ pub mod deploy_location;
 pub mod deployment;
 mod document;
 pub mod error;
+pub mod laws;
 mod lines;
 pub mod location;
 pub mod near_deployment;

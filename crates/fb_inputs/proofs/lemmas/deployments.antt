@@ -6,3 +6,4 @@ pub mod TableResults
 pub mod DeployLaws
 pub mod Keywords
 pub mod Drafts
+pub mod DeployTableLaws
