@@ -19,3 +19,5 @@ pub mod Documents
 pub mod Deployments
 pub mod DeployFaults
 pub mod DeployTables
+pub mod DeployDocuments
+pub mod DeployNumbers

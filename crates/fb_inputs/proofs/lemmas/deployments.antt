@@ -7,3 +7,5 @@ pub mod DeployLaws
 pub mod Keywords
 pub mod Drafts
 pub mod DeployTableLaws
+pub mod DeployDocumentLaws
+pub mod DeployNumberLaws
