@@ -1,15 +1,14 @@
 //! The reaction of a basic block to an event.
 
-ghost use Rattle.std.specs.Prelude.{◌≡◌, ◌+◌, ◌<◌, ◌≤◌, List, IfErr, IfOk, None, Ok, Some, length, true, false};
-ghost use Rattle.fb_types.specs.Charts.{Acts, ChartReacts, actions_of};
+ghost use Rattle.std.specs.Prelude.{◌≡◌, ◌+◌, ◌<◌, ◌≤◌, List, IfErr, Ok, length, true, false};
+ghost use Rattle.fb_types.specs.Charts.{ChartReacts};
 ghost use Rattle.fb_types.specs.Names.{Name};
 ghost use Rattle.fb_types.specs.Numbers.{event_at, pair_up};
 ghost use Rattle.fb_types.specs.Reactions.{with_values};
 ghost use Rattle.fb_st.specs.Frames.{declared_in, values_of};
-ghost use Rattle.fb_ecc.specs.Blocks.{BeginsWith, IsInput, StaysOfType, StillFit, input_named};
-ghost use Rattle.fb_ecc.specs.Links.{Linked};
+ghost use Rattle.fb_ecc.specs.Blocks.{BeginsWith, StillFit};
 ghost use Rattle.fb_ecc.specs.Located.{AreAt};
-ghost use Rattle.fb_ecc.specs.Indexes.{Ended, IsBlockOf, index, sampled, state_at};
+ghost use Rattle.fb_ecc.specs.Indexes.{Ended, IsBlockOf, index, sampled};
 ghost use Rattle.fb_ecc.specs.Sound.{IsSound};
 
 use crate::action::perform_all;
@@ -32,28 +31,6 @@ pub(crate) fn sample(slots: &[usize], values: &[Value], frame: &mut Frame)
     }
 }
 
-/// Enters a state and performs its actions.
-#[inline(always)]
-fn enter(
-    state: &mut BasicState,
-    block: &BasicType,
-    target: usize,
-    meter: &mut Meter,
-    emits: &mut Emits,
-) -> Result<(), Halt>
-    requires sound { IsSound block.now }
-    requires block { IsBlockOf block.now state.old }
-    requires target { target < length block.now.states }
-    ensures performed { let actions = actions_of block.now (state_at block.now target) in
-        Ended result (Acts block.now actions meter.old.left) (index block.now target state.old.frame meter.old.left emits.old) (index block.now state.new.state state.new.frame meter.new.left emits.new) }
-    ensures state { state.new.state ≡ target }
-    ensures kept { StaysOfType block.now meter.old emits.old state.new meter.new emits.new }
-{
-    state.state = target;
-    let acts = state.chart.rows()[target].acts.as_slice();
-    perform_all(block, &state.chart, acts, &mut state.frame, meter, emits)
-}
-
 /// Whether a chain may go on from the state of a row, where no event is present any more. If each of its transitions
 /// waits for an event, none clears: then they are not tried, and their steps are begun at once.
 #[inline(always)]
@@ -73,37 +50,6 @@ fn goes_on(row: &ChartState, meter: &mut Meter) -> Result<bool, Reason>
     }
     meter.left -= steps;
     Ok(false)
-}
-
-/// One link of the chain: the first true transition, and the actions of the state to which it leads. Says
-/// whether there was one.
-#[inline(always)]
-fn link(
-    state: &mut BasicState,
-    block: &BasicType,
-    present: Option<usize>,
-    meter: &mut Meter,
-    emits: &mut Emits,
-) -> Result<bool, Halt>
-    requires sound { IsSound block.now }
-    requires block { IsBlockOf block.now state.old }
-    requires present { IsInput block.now present }
-    ensures linked { let event = input_named block.now present in
-        Linked block.now result event (index block.now state.old.state state.old.frame meter.old.left emits.old) (index block.now state.new.state state.new.frame meter.new.left emits.new) }
-    ensures kept { StaysOfType block.now meter.old emits.old state.new meter.new emits.new }
-    ensures less { IfOk result (λ went. went ≡ true → meter.new.left < meter.old.left) }
-{
-    let exits = state.chart.leaving(state.state);
-    let program = state.chart.program();
-    match first_exit(block, program, exits, present, &state.frame, meter)? {
-        Some(exit) => {
-            let target = exit.target;
-            enter(state, block, target, meter, emits)?;
-            let row = &state.chart.rows()[target];
-            Ok(goes_on(row, meter)?)
-        }
-        None => Ok(false),
-    }
 }
 
 /// The reaction of a basic block to the event input at an index of its event inputs. `values` are the sampled
@@ -140,8 +86,22 @@ pub fn react(
     let slots = state.chart.sampled()[event].as_slice();
     sample(slots, values, &mut state.frame);
     let mut present = Some(event);
-    'links: while link(state, block, present, meter, emits)? {
+    'links: loop {
+        let exits = state.chart.leaving(state.state);
+        let program = state.chart.program();
+        let frame = &state.frame;
+        match first_exit(block, program, exits, present, frame, meter)? {
+            Some(exit) => {
+                state.state = exit.target;
+                let row = &state.chart.rows()[exit.target];
+                let acts = row.acts.as_slice();
+                perform_all(block, &state.chart, acts, &mut state.frame, meter, emits)?;
+                if !goes_on(row, meter)? {
+                    return Ok(());
+                }
+            }
+            None => return Ok(()),
+        }
         present = None;
     }
-    Ok(())
 }
