@@ -1,13 +1,12 @@
 //! The actions of a state.
 
-ghost use Rattle.std.specs.Prelude.{◌≡◌, ◌++◌, ◌∷◌, [], IfOk, OnErr, OnOk, map, ℕ, List, Option, None, Some};
+ghost use Rattle.std.specs.Prelude.{◌≡◌, ◌++◌, ◌∷◌, [], IfOk, OnErr, OnOk, map, ℕ, List, Option};
 ghost use Rattle.fb_types.specs.Names.{Name};
-ghost use Rattle.fb_types.specs.Charts.{Acts, Halts, Performs, Position, emitting};
+ghost use Rattle.fb_types.specs.Charts.{Acts, emitting};
 ghost use Rattle.fb_types.specs.declared.library.Action.{Action};
-ghost use Rattle.fb_st.specs.FrameRuns.{IsKept};
 ghost use Rattle.fb_st.specs.Frames.{declared_in, values_of};
 ghost use Rattle.fb_ecc.specs.Blocks.{AreKept, AreShown, BeginsWith, IsFrameOf, MayRun, StillFit};
-ghost use Rattle.fb_ecc.specs.Actions.{AreActions, IsAction, IsAlgorithm, IsOutput, Stopped, with_slots};
+ghost use Rattle.fb_ecc.specs.Actions.{AreActions, IsAction, IsOutput};
 ghost use Rattle.fb_ecc.specs.Located.{AreAt};
 ghost use Rattle.fb_ecc.specs.Indexes.{Ended, index};
 ghost use Rattle.fb_ecc.specs.Programs.{IsSharedOf};
@@ -17,7 +16,7 @@ use crate::chart::Act;
 use crate::program::Program;
 use crate::shared::SharedChart;
 use fb_st::{Frame, Meter, exec, exec_compiled};
-use fb_types::{BasicType, Emission, Emits, Halt, Items, Reason, Values};
+use fb_types::{BasicType, Emission, Emits, Halt, Items, Values};
 use std::alloc::{AllocError, Global};
 
 /// What the variables of slots hold, in their order.
@@ -80,38 +79,7 @@ fn emit(
     }
 }
 
-/// Runs the algorithm of an action, if it has one: mostly in its compiled form.
-#[inline(always)]
-fn run(
-    block: &BasicType,
-    program: &Program,
-    algorithm: Option<usize>,
-    frame: &mut Frame,
-    meter: &mut Meter,
-) -> Result<(), Reason>
-    requires may { MayRun block.now program.now frame.old }
-    requires algorithm { (name : Option Name) × IsAlgorithm block.now algorithm name }
-    ensures performed { (name : Option Name) (p : Position) → IsAlgorithm block.now algorithm name →
-        Stopped result (Performs block.now name (Halts None)) (with_slots p frame.old meter.old.left) (with_slots p frame.new meter.new.left) }
-    ensures kept { IsKept frame.old meter.old frame.new meter.new }
-{
-    let Some(algorithm) = algorithm else {
-        return Ok(());
-    };
-    let codes = program.body(algorithm);
-    match exec_compiled(codes, &program.layout, frame, meter) {
-        Some(result) => match result {
-            Ok(_) => Ok(()),
-            Err(reason) => Err(reason),
-        },
-        None => {
-            exec(&block.algorithms.as_slice()[algorithm].body, frame, meter)?;
-            Ok(())
-        }
-    }
-}
-
-/// One action: its algorithm, and then its output event.
+/// One action: its algorithm, mostly in its compiled form, and then its output event.
 #[inline(always)]
 pub(crate) fn perform(
     block: &BasicType,
@@ -130,7 +98,17 @@ pub(crate) fn perform(
     ensures kept { AreKept block.now frame.old meter.old emits.old frame.new meter.new emits.new }
 {
     meter.step()?;
-    run(block, program, act.algorithm, frame, meter)?;
+    if let Some(algorithm) = act.algorithm {
+        let codes = program.body(algorithm);
+        match exec_compiled(codes, &program.layout, frame, meter) {
+            Some(end) => {
+                end?;
+            }
+            None => {
+                exec(&block.algorithms.as_slice()[algorithm].body, frame, meter)?;
+            }
+        }
+    }
     emit(block, act.output, shown, frame, emits)?;
     Ok(())
 }

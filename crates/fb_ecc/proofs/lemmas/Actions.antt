@@ -248,6 +248,11 @@ performed_err t k name n y ds p slots new left less result r at declared err run
     subst (λ (o : Option Name). Performs t o (Halts None) (with_slots p slots left) (Some r) (with_slots p new less)) (sym n.is)
     (Stopped r, m, ran, (refl, refl))
 
+-- an action without an algorithm
+pub performed_none : (t : BasicType) (name : Option Name) (p : Position) → IsAlgorithm t None name → Performs t name (Halts None) p None p
+performed_none t None p here = (refl, refl)
+performed_none t (Some a) p here = absurd (let e = here.is in cc)
+
 -- an algorithm that is read
 pub read_here :
     (t : BasicType) (k : ℕ) (read : List Algorithm) (y : Algorithm) → read ≡ t.algorithms → k < length read → slice_get t.algorithms k ≡ Some (get_or read k y)
