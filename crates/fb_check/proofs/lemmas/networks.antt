@@ -1,6 +1,7 @@
 pub mod Counted
 pub mod Marked
 pub mod Circles
+pub mod Lasting
 pub mod NumberedLists
 pub mod Ranges
 pub mod Ranged

@@ -35,6 +35,23 @@ abbrev pub marks_after : ℕ → List (Option NetworkNumbers) → List Bool
 marks_after zero xs = map is_some xs
 marks_after (suc n) xs = map (holds_marked (marks_after n xs)) xs
 
+-- the mark of the type at the index; where there is no type there is no mark
+abbrev pub mark_at : List Bool → ℕ → Bool
+mark_at marks k = unwrap_or (slice_get marks k) false
+
+abbrev pub HasNoMark : List Bool → Type 0
+HasNoMark marks = (k : ℕ) → mark_at marks k ≡ false
+
+-- The marks are those after some rounds, and one more round changes none.
+pub record AreLasting (xs : List (Option NetworkNumbers)) (marks : List Bool) : Type 0 where
+  pub rounds : ℕ
+  pub are : marks ≡ marks_after rounds xs
+  pub stay : map (holds_marked marks) xs ≡ marks
+
+-- No mark lasts.
+abbrev pub NoneLasts : List (Option NetworkNumbers) → Type 0
+NoneLasts xs = (marks : List Bool) × AreLasting xs marks × HasNoMark marks
+
 -- ---- Ways down, by number
 
 -- the index of the type, if it is declared
@@ -66,6 +83,15 @@ Steps xs (suc n) j k = (m : ℕ) × IsPart xs j m × Steps xs n m k
 abbrev pub LeadsTo : List (Option NetworkNumbers) → (from to : ℕ) → Type 0
 LeadsTo xs j k = (n : ℕ) × Steps xs n j k
 
+-- a number of steps, each to the type of the first component that is of a marked type
+abbrev pub Walks : List (Option NetworkNumbers) → List Bool → (steps : ℕ) → (from to : ℕ) → Type 0
+Walks xs marks zero j k = j ≡ k
+Walks xs marks (suc n) j k = (m : ℕ) × (below xs marks j ≡ Some m) × Walks xs marks n m k
+
+-- Such steps, one or more, lead from the type to itself.
+abbrev pub ComesBack : List (Option NetworkNumbers) → List Bool → ℕ → Type 0
+ComesBack xs marks k = (n : ℕ) × Walks xs marks (suc n) k k
+
 -- The type of the component leads to the one at the index.
 pub record LeadsBack (xs : List (Option NetworkNumbers)) (k : ℕ) (o : Option NetworkNumbers) (i : ℕ) : Type 0 where
   pub through : ℕ
@@ -83,9 +109,14 @@ IsHolder xs marks r = (o : Option NetworkNumbers) × (slice_get xs r.0 ≡ Some 
 abbrev pub IsRound : List (Option NetworkNumbers) → List Bool → ℕ × ℕ → Type 0
 IsRound xs marks r = (o : Option NetworkNumbers) × (slice_get xs r.0 ≡ Some o) × (first_marked_component marks o ≡ Some r.1) × LeadsBack xs r.0 o r.1
 
+-- the same for marks that last
+abbrev pub IsCircle : List (Option NetworkNumbers) → ℕ × ℕ → Type 0
+IsCircle xs r = (marks : List Bool) × AreLasting xs marks × IsRound xs marks r
+
+-- a circle, or a type that holds a marked one where no mark lasts
 abbrev pub IsTooHighIn : List (Option NetworkNumbers) → List Bool → TooHighAt → Type 0
-IsTooHighIn xs marks (Circle k i) = IsRound xs marks (k, i)
-IsTooHighIn xs marks (Height k i) = IsHolder xs marks (k, i)
+IsTooHighIn xs marks (Circle k i) = IsCircle xs (k, i)
+IsTooHighIn xs marks (Height k i) = IsHolder xs marks (k, i) × NoneLasts xs
 
 -- ---- Locations
 
@@ -104,7 +135,11 @@ Returns lib u t = (n : ℕ) × Descends lib n u t
 abbrev pub GoesDeep : Library → CompositeType → Type 0
 GoesDeep lib u = (v : CompositeType) × Descends lib 15 u v
 
--- Through the instance the composite type leads to itself, or 16 steps down.
+-- No composite type of the declaration contains itself.
+abbrev pub NoneReturns : Library → Type 0
+NoneReturns lib = (k i : ℕ) (t u : CompositeType) → IsHeld lib k i t u → Returns lib u t → ⊥
+
+-- Through the instance the composite type leads to itself, or 16 steps down where none leads to itself.
 abbrev pub IsTooHighAt : Library → TooHighAt → Type 0
 IsTooHighAt lib (Circle k i) = (t : CompositeType) × (u : CompositeType) × IsHeld lib k i t u × Returns lib u t
-IsTooHighAt lib (Height k i) = (t : CompositeType) × (u : CompositeType) × IsHeld lib k i t u × GoesDeep lib u
+IsTooHighAt lib (Height k i) = (t : CompositeType) × (u : CompositeType) × IsHeld lib k i t u × GoesDeep lib u × NoneReturns lib

@@ -1,6 +1,6 @@
 //! E25: composite types that contain themselves, or have a height over 16.
 
-ghost use Rattle.std.specs.Prelude.{◌≡◌, ⊤, All, IfOk, IsTrue, MatchOption, is_some, map, position};
+ghost use Rattle.std.specs.Prelude.{◌≡◌, true, false, All, IfOk, MatchOption, is_some, length, map, position, replicate};
 ghost use Rattle.fb_types.specs.Joined.{TooHigh};
 ghost use Rattle.fb_types.specs.declared.deploy.Plan.{Plan};
 ghost use Rattle.fb_types.specs.declared.library.Library.{Library};
@@ -122,69 +122,106 @@ fn below(blocks: &[Option<NetworkNumbers>], marks: &[bool], block: usize) -> Opt
     type_inside(numbers, component)
 }
 
-/// Whether steps to first marked components lead from the one block type down to the other. A circle is not found if it
-/// is longer than the steps that are tried, or if such a step leaves it: its types are reported as too high.
-#[tactic(auto, using(crate::proofs::lemmas::networks::Circles::leads_itself))]
-fn leads_to(blocks: &[Option<NetworkNumbers>], marks: &[bool], from: usize, to: usize) -> bool
-    ensures { IsTrue result → spec.LeadsTo blocks.now from to }
+/// The marks that last: rounds go on until one takes no mark away. From a type that keeps its mark any number of steps
+/// leads down, so there is one exactly if a type contains itself.
+fn lasting_marks(alloc: Global, blocks: &[Option<NetworkNumbers>]) -> Result<Vec<bool>, AllocError>
+    ensures { IfOk result (λ v. spec.AreLasting blocks.now v.items) }
 {
-    let mut block = from;
-    for _step in 0..MOST_STEPS {
-        if block == to {
-            return true;
+    let mut marks = mark_all(alloc, blocks)?;
+    'rounds: loop {
+        let again = mark_again(alloc, blocks, &marks)?;
+        if again == marks {
+            return Ok(marks);
         }
-        match below(blocks, marks, block) {
-            Some(next) => block = next,
-            None => return false,
-        }
-    }
-    false
-}
-
-/// Whether the type of a component of the block type leads back to this type.
-fn leads_back(
-    blocks: &[Option<NetworkNumbers>],
-    marks: &[bool],
-    block: usize,
-    numbers: &Option<NetworkNumbers>,
-    component: usize,
-) -> bool
-    ensures { IsTrue result → spec.LeadsBack blocks.now block numbers.now component }
-{
-    match type_inside(numbers, component) {
-        Some(inside) => leads_to(blocks, marks, inside, block),
-        None => false,
+        marks = again;
     }
 }
 
-/// A composite type that contains itself, with the component through which it does, if one is found.
-fn first_circle(blocks: &[Option<NetworkNumbers>], marks: &[bool]) -> Option<(usize, usize)>
-    ensures { MatchOption result ⊤ (spec.IsRound blocks.now marks.now) }
+/// The first marked type.
+fn first_set(marks: &[bool]) -> Option<usize>
+    ensures { MatchOption result (spec.HasNoMark marks.now) (λ k. spec.mark_at marks.now k ≡ true) }
 {
-    for (block, numbers) in blocks.iter().enumerate() {
-        if let Some(component) = first_marked_component(marks, numbers) {
-            if leads_back(blocks, marks, block, numbers, component) {
-                return Some((block, component));
-            }
+    for (block, is_set) in marks.iter().enumerate() {
+        if *is_set {
+            return Some(block);
         }
     }
     None
 }
 
-fn too_high_by(blocks: &[Option<NetworkNumbers>], marks: &[bool]) -> Option<TooHighAt>
-    ensures { MatchOption result (All (spec.HoldsNone marks.now) blocks.now) (spec.IsTooHighIn blocks.now marks.now) }
+/// The type to which a walk comes a second time. It begins at a marked type, and each step leads to the type of the
+/// first component that is of a marked type. At first no type is seen.
+fn walk(blocks: &[Option<NetworkNumbers>], marks: &[bool], seen: &mut [bool], from: usize) -> usize
+    requires lasting { spec.AreLasting blocks.now marks.now }
+    requires marked { spec.mark_at marks.now from ≡ true }
+    requires unseen { seen.old ≡ replicate (length blocks.now) false }
+    ensures { spec.ComesBack blocks.now marks.now result }
 {
-    if let Some((block, component)) = first_circle(blocks, marks) {
-        return Some(TooHighAt::Circle(block, component));
+    let mut block = from;
+    'steps: while !seen[block] {
+        seen[block] = true;
+        let Some(next) = below(blocks, marks, block) else {
+            unreachable!()
+        };
+        block = next;
     }
-    match first_holder(blocks, marks) {
-        Some((block, component)) => Some(TooHighAt::Height(block, component)),
-        None => None,
+    block
+}
+
+/// The same, with what it needs to remember the types that were seen.
+fn met_again(
+    alloc: Global,
+    blocks: &[Option<NetworkNumbers>],
+    marks: &[bool],
+    from: usize,
+) -> Result<usize, AllocError>
+    requires lasting { spec.AreLasting blocks.now marks.now }
+    requires marked { spec.mark_at marks.now from ≡ true }
+    ensures { IfOk result (spec.ComesBack blocks.now marks.now) }
+{
+    let mut seen = vec![in alloc; false; blocks.len()]?;
+    Ok(walk(blocks, marks, &mut seen, from))
+}
+
+/// A composite type that contains itself, with the component through which it does, if there is one.
+fn first_circle(
+    alloc: Global,
+    blocks: &[Option<NetworkNumbers>],
+) -> Result<Option<(usize, usize)>, AllocError>
+    ensures { IfOk result (λ o. MatchOption o (spec.NoneLasts blocks.now) (spec.IsCircle blocks.now)) }
+{
+    let lasting = lasting_marks(alloc, blocks)?;
+    let marks = lasting.as_slice();
+    let Some(from) = first_set(marks) else {
+        return Ok(None);
+    };
+    let block = met_again(alloc, blocks, marks, from)?;
+    let Some(component) = first_marked_component(marks, &blocks[block]) else {
+        unreachable!()
+    };
+    Ok(Some((block, component)))
+}
+
+/// A composite type that is too high, if there is one. The marks are those after the most steps, so only a declaration
+/// with such a type is searched for circles.
+fn too_high_by(
+    alloc: Global,
+    blocks: &[Option<NetworkNumbers>],
+    marks: &[bool],
+) -> Result<Option<TooHighAt>, AllocError>
+    ensures { IfOk result (λ o. MatchOption o (All (spec.HoldsNone marks.now) blocks.now) (spec.IsTooHighIn blocks.now marks.now)) }
+{
+    let Some((block, component)) = first_holder(blocks, marks) else {
+        return Ok(None);
+    };
+    match first_circle(alloc, blocks)? {
+        Some((block, component)) => Ok(Some(TooHighAt::Circle(block, component))),
+        None => Ok(Some(TooHighAt::Height(block, component))),
     }
 }
 
 /// A composite type that contains itself at any depth or has a height over 16, in a declaration with these numbers, with
-/// the component through which it does, if there is one. From one that contains itself, any number of steps leads down.
+/// the component through which it does, if there is one. It is called too high only if no type contains itself.
 ///
 /// # Errors
 ///
@@ -194,5 +231,5 @@ pub fn too_high_location(alloc: Global, numbers: &Resolved) -> Result<Option<Too
 {
     let blocks = numbers.blocks.as_slice();
     let marks = marks_after(alloc, blocks, MOST_STEPS)?;
-    Ok(too_high_by(blocks, &marks))
+    too_high_by(alloc, blocks, &marks)
 }

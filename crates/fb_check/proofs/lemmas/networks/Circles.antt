@@ -1,5 +1,5 @@
 -- Composite types that lead back to themselves, or too far down, by number.
-use Rattle.fb_check.proofs.lemmas.Common.{◌≡◌, ℕ, zero, suc, Bool, List, Option, Some, None, refl, sym, ◌∙◌, ap, subst, inl, inr, All, slice_get, option_map, option_and_then, position, kind_of, TooHigh, Library, BlockType, CompositeType, Instance, Plan, TypeNumber, NetworkNumbers, Resolved, IsNetwork, IsResolved, kind_of_number, type_number, HoldsNone, is_marked}
+use Rattle.fb_check.proofs.lemmas.Common.{◌≡◌, ℕ, zero, suc, Bool, List, Option, Some, None, refl, sym, ◌∙◌, ap, subst, inl, inr, true≢false, All, slice_get, option_map, option_and_then, position, kind_of, TooHigh, Library, BlockType, CompositeType, Instance, Plan, TypeNumber, NetworkNumbers, Resolved, IsNetwork, IsResolved, kind_of_number, type_number, HoldsNone, is_marked}
 use Rattle.fb_types.proofs.Common.{MatchOption, Composite}
 use Rattle.fb_types.specs.Joined.{Holds, Descends}
 use Rattle.fb_types.specs.declared.library.BlockType.TheVariants as block
@@ -9,10 +9,10 @@ use Rattle.fb_check_names.proofs.lemmas.Each.{each_from}
 use Rattle.fb_check_names.specs.declared.location.TooHighAt.{TooHighAt}
 use Rattle.fb_check_names.specs.declared.location.TooHighAt.TheVariants.{Circle, Height}
 use Rattle.fb_check.specs.networks.Applies.{TooHighApplies}
-use Rattle.fb_check.specs.networks.Heights.{IsTooHighIn, IsHeld, IsPart, IsTooHighAt, LeadsBack, LeadsTo, Steps, below, declared_index, first_marked_component, marks_after, type_inside}
+use Rattle.fb_check.specs.networks.Heights.{IsTooHighIn, IsHeld, IsPart, IsTooHighAt, LeadsBack, NoneLasts, NoneReturns, Steps, below, declared_index, first_marked_component, mark_at, marks_after, type_inside}
 use Rattle.fb_check.proofs.lemmas.networks.Lists.{past_both}
 use Rattle.fb_check.proofs.lemmas.networks.SearchLoops.{position_at}
-use Rattle.fb_check.proofs.lemmas.networks.Marked.{AreMarks, leads_from_marked, marks_right, none_high}
+use Rattle.fb_check.proofs.lemmas.networks.Marked.{AreMarks, MarkOf, around, leads_from_marked, marks_right, none_high}
 use Rattle.fb_check.proofs.lemmas.networks.Naming.{type_by_number}
 
 -- ---- Composite types by number
@@ -49,15 +49,8 @@ declared_at (Some (number.Declared m)) j h = let e : m ≡ j = cc in ap (λ (m :
 
 -- ---- Ways down by number
 
-pub leads_itself : (xs : List (Option NetworkNumbers)) (k : ℕ) → LeadsTo xs k k
-leads_itself xs k = (0, refl)
-
-onward : (xs : List (Option NetworkNumbers)) (n j k m : ℕ) → Steps xs n j k → IsPart xs k m → Steps xs (suc n) j m
-onward xs zero j k m s p = (m, subst (λ (i : ℕ). IsPart xs i m) (sym s) p, refl)
-onward xs (suc n) j k m s p = (s.0, s.1, onward xs n s.0 k m s.2 p)
-
 -- a step to the type of the first marked component
-part_below : (xs : List (Option NetworkNumbers)) (marks : List Bool) (k j : ℕ) → below xs marks k ≡ Some j → IsPart xs k j
+pub part_below : (xs : List (Option NetworkNumbers)) (marks : List Bool) (k j : ℕ) → below xs marks k ≡ Some j → IsPart xs k j
 part_below xs marks k j h =
     elim (slice_get xs k) as
     (λ o. slice_get xs k ≡ o → option_and_then (λ (o : Option NetworkNumbers). option_and_then (type_inside o) (first_marked_component marks o)) o ≡ Some j → IsPart xs k j) [
@@ -74,9 +67,6 @@ part_below xs marks k j h =
           | None ↦ λ g. absurd (cc)
           | Some i ↦ λ g. record { numbers = x; holder = e; component = i; of_type = declared_at (slice_get x.types i) j g }
         ] h
-
-pub leads_on : (xs : List (Option NetworkNumbers)) (marks : List Bool) (from k j : ℕ) → LeadsTo xs from k → below xs marks k ≡ Some j → LeadsTo xs from j
-leads_on xs marks from k j leads h = (suc leads.0, onward xs leads.0 from k j leads.1 (part_below xs marks k j h))
 
 -- ---- Ways down of composite types
 
@@ -117,24 +107,34 @@ descends lib plan r is (suc n) j k t u s at to =
 
 -- ---- The result
 
+-- where no mark lasts no type contains itself: any number of steps leads down from one that does
+none_returns : (lib : Library) (plan : Plan) (r : Resolved) → IsResolved lib plan r → NoneLasts r.blocks → NoneReturns lib
+none_returns lib plan r is none k i t u h back =
+    let marks = none.0 in
+    let n = none.1.rounds in
+    let are : AreMarks lib n marks = subst (λ (ms : List Bool). AreMarks lib n ms) (sym none.1.are) (marks_right lib plan r n is) in
+    let circle : Descends lib (suc back.0) t t = (u, held lib k i t u h, back.1) in
+    let of_mark : MarkOf lib n (Some (block.Composite t)) (mark_at marks k) = subst (λ (o : Option BlockType). MarkOf lib n o (mark_at marks k)) h.holder (are.each k) in
+    true≢false (sym (of_mark.1 (around lib back.0 t circle n zero t refl)) ∙ none.2 k)
+
 height_at :
     (lib : Library) (plan : Plan) (r : Resolved) (marks : List Bool) (k i : ℕ) (o : Option NetworkNumbers) → IsResolved lib plan r → AreMarks lib 15 marks → slice_get r.blocks k ≡ Some o
-    → first_marked_component marks o ≡ Some i → IsTooHighAt lib (Height k i)
-height_at lib plan r marks k i None is are at found = absurd (cc)
-height_at lib plan r marks k i (Some x) is are at found =
+    → first_marked_component marks o ≡ Some i → NoneLasts r.blocks → IsTooHighAt lib (Height k i)
+height_at lib plan r marks k i None is are at found none = absurd (cc)
+height_at lib plan r marks k i (Some x) is are at found none =
     let c = composite_there lib plan r is k x at in
     let f = position_at (is_marked marks) x.types i found in
     let w = leads_from_marked lib 15 marks f.0 are f.2 in
-    (c.0, w.0, held_there lib k i c.0 x f.0 w.0 c.1 c.2 f.1 w.1, w.2)
+    (c.0, w.0, held_there lib k i c.0 x f.0 w.0 c.1 c.2 f.1 w.1, w.2, none_returns lib plan r is none)
 
 circle_at :
-    (lib : Library) (plan : Plan) (r : Resolved) (marks : List Bool) (k i : ℕ) (o : Option NetworkNumbers) → IsResolved lib plan r → AreMarks lib 15 marks → slice_get r.blocks k ≡ Some o
+    (lib : Library) (plan : Plan) (r : Resolved) (steps : ℕ) (marks : List Bool) (k i : ℕ) (o : Option NetworkNumbers) → IsResolved lib plan r → AreMarks lib steps marks → slice_get r.blocks k ≡ Some o
     → first_marked_component marks o ≡ Some i → LeadsBack r.blocks k o i → IsTooHighAt lib (Circle k i)
-circle_at lib plan r marks k i None is are at found back = absurd (cc)
-circle_at lib plan r marks k i (Some x) is are at found back =
+circle_at lib plan r steps marks k i None is are at found back = absurd (cc)
+circle_at lib plan r steps marks k i (Some x) is are at found back =
     let c = composite_there lib plan r is k x at in
     let f = position_at (is_marked marks) x.types i found in
-    let w = leads_from_marked lib 15 marks f.0 are f.2 in
+    let w = leads_from_marked lib steps marks f.0 are f.2 in
     let both : Some f.0 ≡ Some (number.Declared back.through) = sym f.1 ∙ declared_at (slice_get x.types i) back.through back.inside in
     let same : f.0 ≡ number.Declared back.through = cc in
     let there = composite_from_kind (slice_get lib.blocks back.through) w.0 (ap (kind_of_number lib) (sym same) ∙ w.1) in
@@ -144,8 +144,11 @@ high_answer_of :
     (lib : Library) (plan : Plan) (r : Resolved) (marks : List Bool) (o : Option TooHighAt) → IsResolved lib plan r → AreMarks lib 15 marks
     → MatchOption o (All (HoldsNone marks) r.blocks) (IsTooHighIn r.blocks marks) → MatchOption o (¬ (TooHigh lib)) (IsTooHighAt lib)
 high_answer_of lib plan r marks None is are h = none_high lib plan r marks is are h
-high_answer_of lib plan r marks (Some (Circle k i)) is are h = circle_at lib plan r marks k i h.0 is are h.1 h.2 h.3
-high_answer_of lib plan r marks (Some (Height k i)) is are h = height_at lib plan r marks k i h.0 is are h.1 h.2
+high_answer_of lib plan r marks (Some (Circle k i)) is are h =
+    let steps = h.1.rounds in
+    let lasting : AreMarks lib steps h.0 = subst (λ (ms : List Bool). AreMarks lib steps ms) (sym h.1.are) (marks_right lib plan r steps is) in
+    circle_at lib plan r steps h.0 k i h.2.0 is lasting h.2.1 h.2.2 h.2.3
+high_answer_of lib plan r marks (Some (Height k i)) is are h = height_at lib plan r marks k i h.0.0 is are h.0.1 h.0.2 h.1
 
 pub high_answer :
     (lib : Library) (plan : Plan) (r : Resolved) (xs : List (Option NetworkNumbers)) (marks seen : List Bool) (o : Option TooHighAt) → xs ≡ r.blocks → marks ≡ marks_after 15 xs → seen ≡ marks
