@@ -50,7 +50,7 @@ pub record IsLater (i : Inputs) (limit from t : ℕ) (new : Machine) (taken : Li
 abbrev pub Onward : (i : Inputs) (horizon limit t : ℕ) (old new : Machine) → List Taken → Type 0
 Onward i horizon limit t old new taken = (from : ℕ) → from ≤ horizon → IsReady i limit from old → IsLater i limit from t new taken
 
--- Why it pauses there. With Lines at least one event was taken. If one line was asked for, only that event gave lines, and none did where the horizon
+-- Why it pauses there. With Lines at least one event was taken. If one line was asked for, only the last event gave lines, and none did where the horizon
 -- was reached.
 abbrev pub PausesFor : (i : Inputs) (horizon limit many : ℕ) (c : Config) (old new : Machine) → List Taken → Pause → Type 0
 PausesFor i horizon limit many c old new taken Lines =
@@ -62,7 +62,7 @@ PausesFor i horizon limit many c old new taken Horizon =
     × ((from : ℕ) → from ≤ horizon → IsReady i limit from old → (t : ℕ) × (t ≤ horizon) × IsLater i limit from t new taken)
 PausesFor i horizon limit many c old new taken (Stop m) =
     (m.resource < length (system_of i).resource_names) × (ending_of horizon taken ≡ AtStop m.tick m.resource m.reason) × (m.tick < horizon)
-    × Onward i horizon limit m.tick old new taken
+    × Onward i horizon limit m.tick old new taken × (before : List Taken) × (t : Taken) × (taken ≡ before ++ t ∷ []) × (many ≡ 1 → lines_of before ≡ [])
 
 -- All that a pause says: what was taken is below the horizon.
 abbrev pub Stands : (i : Inputs) (horizon limit many : ℕ) (c : Config) (old new : Machine) → Pause → Type 0

@@ -176,6 +176,10 @@ returns-in-Some-clause-stands c start is =
             let ahead = inv.ahead from le ready in
             subst (λ n. IsLater i c.args.limit from n new (comes.1 ++ t ∷ [])) (sym moment.0)
             (later_more i c.args.limit from ahead.0 was new comes.1 t e (ahead.2 start is) finds.found (returns-in-Some-clause-ready c).1),
+        comes.1,
+        t,
+        refl,
+        λ one. inv.quiet start is one,
       ),
     )
 
