@@ -10,6 +10,7 @@ pub mod Showing
 pub mod Severed
 pub mod Current
 pub mod Unread
+pub mod Before
 pub mod Declaring
 pub mod Listing
 pub mod Noting

@@ -20,3 +20,5 @@ pub mod CutOff
 pub mod CurrentLines
 pub mod Faults
 pub mod OfSystem
+pub mod Forms
+pub mod Fronts

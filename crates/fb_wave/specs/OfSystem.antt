@@ -12,6 +12,7 @@ use Rattle.fb_wave.specs.Copying as copying
 use Rattle.fb_wave.specs.CurrentLines as current_lines
 use Rattle.fb_wave.specs.CutOff as cut_off
 use Rattle.fb_wave.specs.Dumps as dumps
+use Rattle.fb_wave.specs.Fronts as fronts
 use Rattle.fb_wave.specs.LineSignals as line_signals
 use Rattle.fb_wave.specs.Lines as lines
 use Rattle.fb_wave.specs.Named as named
@@ -154,6 +155,9 @@ FailsWave i = waves.FailsWave (system_of i)
 
 abbrev pub Blames : Inputs → (text : Option (List ℕ)) → WaveError → Type 0
 Blames i = refusals.Blames (system_of i)
+
+abbrev pub WritesBefore : Inputs → (text old new : Option (List ℕ)) → WaveError → Type 0
+WritesBefore i = fronts.WritesBefore (system_of i)
 
 abbrev pub IsRefusedLine : Inputs → (text : Option (List ℕ)) → CurrentLine → WaveError → Type 0
 IsRefusedLine i = current_lines.IsRefusedLine (system_of i)

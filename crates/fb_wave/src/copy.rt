@@ -5,9 +5,10 @@ ghost use Rattle.std.specs.Io.KnownBytes.{Consumes, IsAtEnd};
 ghost use Rattle.fb_types.specs.Systems.{System as Flat};
 ghost use Rattle.fb_wave.specs.Copying.{IsAfter, IsCutFinished, IsCutUnfinished, IsFirstLine, IsNoWriteError, IsRefusedAt, RefusesEnd};
 ghost use Rattle.fb_wave.specs.Faults.{IsReadFault};
+ghost use Rattle.fb_wave.specs.Forms.{form_by};
 ghost use Rattle.fb_wave.specs.Named as named;
-ghost use Rattle.fb_wave.specs.Words.{is_word};
-ghost use Rattle.fb_wave.specs.OfSystem.{BlamesShown, FailsShown, HasNames, HasShown, IsDump, IsFinished, IsLast, IsRefusedLine, IsShown, IsTaken, IsUnfinished, RefusesLine};
+ghost use Rattle.fb_wave.specs.Words.{IsCut, is_word};
+ghost use Rattle.fb_wave.specs.OfSystem.{BlamesShown, FailsShown, HasNames, HasShown, IsDump, IsFinished, IsLast, IsRefusedLine, IsShown, IsTaken, IsUnfinished, RefusesLine, WritesBefore};
 
 use crate::current_line::CurrentLine;
 use crate::dump::Dump;
@@ -43,7 +44,7 @@ pub fn next_line<R: BufRead>(input: &mut R, line: &mut Vec<u8>) -> Result<(), Wa
 
 /// The form of a line by what comes after its first word.
 fn form_after(rest: &[u8]) -> Form
-    ensures { (b : ℕ) (more : List ℕ) → rest.now ≡ 32 ∷ (b ∷ more) → result ≡ (if named.is_digit b then Form.Two else Form.One) }
+    ensures { result ≡ form_by rest.now }
 {
     match rest {
         [_, first, ..] if is_digit(*first) => Form::Two,
@@ -54,8 +55,10 @@ fn form_after(rest: &[u8]) -> Form
 /// The form of the lines of a trace that begins with this one. In form two the second word is a number, and in form one
 /// it is a name.
 pub fn form_of(line: &[u8]) -> Form
-    ensures { (word rest : List ℕ) (b : ℕ) → is_word word ≡ true → line.now ≡ word ++ 32 ∷ (b ∷ rest)
+    ensures form { (word rest : List ℕ) (b : ℕ) → is_word word ≡ true → line.now ≡ word ++ 32 ∷ (b ∷ rest)
         → result ≡ (if named.is_digit b then Form.Two else Form.One) }
+    ensures whole { is_word line.now ≡ true → result ≡ Form.One }
+    ensures parted { (first rest : List ℕ) → IsCut line.now first rest → result ≡ form_by rest }
 {
     match cut(line) {
         Some(parts) => form_after(parts.1),
@@ -203,6 +206,8 @@ impl Progress {
         ensures part { IfErr result (FailsShown cut table.now.system.now (W.contents out.old) (W.contents out.new)) }
         ensures refused { HasNames table.now.system.now
             → IfErr result (BlamesShown cut table.now.system.now (R.remaining input.old)) }
+        ensures before { HasNames table.now.system.now
+            → IfErr result (WritesBefore table.now.system.now (R.remaining input.old) (W.contents out.old) (W.contents out.new)) }
         ensures current { HasNames table.now.system.now
             → IfErr result (IsRefusedLine table.now.system.now (R.remaining input.old) (record current.new { tick = self.new.tick })) }
     {

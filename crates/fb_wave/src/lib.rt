@@ -39,7 +39,7 @@ pub mod number;
 pub mod page;
 pub mod ports;
 pub mod scopes;
-mod signals;
+pub mod signals;
 pub mod system_ports;
 pub mod system_signals;
 pub mod table;

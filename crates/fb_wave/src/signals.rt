@@ -50,7 +50,7 @@ fn put_events(
 }
 
 /// Whether lines carry a variable: whether it is WITH one of the events.
-pub(crate) fn is_carried(events: &[EventPort], variable: &Variable) -> bool
+pub fn is_carried(events: &[EventPort], variable: &Variable) -> bool
     ensures { result ≡ spec.is_carried events.now variable.now }
 {
     for event in events {

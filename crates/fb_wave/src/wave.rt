@@ -1,7 +1,7 @@
 //! The dump of a trace.
 
 ghost use Rattle.std.specs.Prelude.{IfErr, IfSome, OnOk};
-ghost use Rattle.fb_wave.specs.OfSystem.{Blames, BlamesShown, FailsShown, FailsWave, IsRefusedLine, IsShown, IsWave};
+ghost use Rattle.fb_wave.specs.OfSystem.{Blames, BlamesShown, FailsShown, FailsWave, IsRefusedLine, IsShown, IsWave, WritesBefore};
 
 use crate::copy::Progress;
 use crate::current_line::CurrentLine;
@@ -22,8 +22,8 @@ use std::io::{BufRead, Write};
 ///
 /// # Errors
 /// `Refused` with the number of the first line that no trace of the system has after the lines before it. So no trace
-/// is refused. What was written then is the beginning of a dump and ends at a line. The same holds if the reader fails
-/// (`Read`) or memory runs out (`Memory`). If the writer fails (`Write`), it got as many bytes as the error says, but
+/// is refused. What was written then begins the dump of each trace that begins with the lines before it, and ends at a
+/// line. If the reader fails (`Read`) or memory runs out (`Memory`), it is the beginning of a dump. If the writer fails (`Write`), it got as many bytes as the error says, but
 /// not all.
 ///
 /// # Example
@@ -48,6 +48,7 @@ pub fn write_wave<R: BufRead, W: Write>(
     ensures whole { OnOk result (IfSome (R.remaining input.old) (λ text. IsWave system.now text (W.contents out.old) (W.contents out.new))) }
     ensures part { IfErr result (FailsWave system.now (W.contents out.old) (W.contents out.new)) }
     ensures refused { IfErr result (Blames system.now (R.remaining input.old)) }
+    ensures before { IfErr result (WritesBefore system.now (R.remaining input.old) (W.contents out.old) (W.contents out.new)) }
 {
     let mut current = CurrentLine::new(alloc);
     write_wave_with(alloc, system, Cut::Refused, &mut current, input, out)
@@ -71,6 +72,7 @@ pub fn write_wave_with<R: BufRead, W: Write>(
     ensures whole { OnOk result (IfSome (R.remaining input.old) (λ text. IsShown cut system.now text (W.contents out.old) (W.contents out.new))) }
     ensures part { IfErr result (FailsShown cut system.now (W.contents out.old) (W.contents out.new)) }
     ensures refused { IfErr result (BlamesShown cut system.now (R.remaining input.old)) }
+    ensures before { IfErr result (WritesBefore system.now (R.remaining input.old) (W.contents out.old) (W.contents out.new)) }
     ensures current { IfErr result (IsRefusedLine system.now (R.remaining input.old) current.new) }
 {
     system.facts(); // for the prover: what holds of every accepted system

@@ -20,6 +20,10 @@ pub on_fault : {A E : Type 0} (r : Result A E) (P Q : E → Type 0) → IfErr r 
 on_fault (Ok a) P Q h f = tt
 on_fault (Err e) P Q h f = f e h
 
+pub on_faults : {A E : Type 0} (r : Result A E) (P Q R : E → Type 0) → IfErr r P → IfErr r Q → ((e : E) → P e → Q e → R e) → IfErr r R
+on_faults (Ok a) P Q R h k f = tt
+on_faults (Err e) P Q R h k f = f e h k
+
 -- a failure that is passed on
 pub on_passed : {A E : Type 0} (r : Result A E) (e : E) (P : E → Type 0) → IsErrAnd r (λ g. g ≡ e) → P e → IfErr r P
 on_passed (Ok a) e P is p = tt

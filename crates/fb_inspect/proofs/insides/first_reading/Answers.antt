@@ -9,7 +9,7 @@ pub returns-clause-first : goal.returns-clause-first
 returns-clause-first g c = c.in_ok-next_line.ensures.line
 
 pub returns-clause-form : goal.returns-clause-form
-returns-clause-form g c = subst (λ (u : List ℕ). ShowsForm c.form_of-form.result u) c.as_slice.ensures.value c.form_of-form.ensures
+returns-clause-form g c = subst (λ (u : List ℕ). ShowsForm c.form_of-form.result u) c.as_slice.ensures.value c.form_of-form.ensures.form
 
 pub returns-clause-next : goal.returns-clause-next
 returns-clause-next g c =

@@ -8,3 +8,6 @@ returns-clause-part g c = c.write_wave_with.ensures.part
 
 pub returns-clause-refused : goal.returns-clause-refused
 returns-clause-refused g c = c.write_wave_with.ensures.refused
+
+pub returns-clause-before : goal.returns-clause-before
+returns-clause-before g c = c.write_wave_with.ensures.before

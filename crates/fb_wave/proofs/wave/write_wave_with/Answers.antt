@@ -2,6 +2,7 @@ use Rattle.fb_wave.proofs.lemmas.Common.{◌≡◌, Bool, true, Option, Some, No
 use Rattle.fb_types.proofs.Common.{IfErr, IsSome, IsTrue, OnOk}
 use Rattle.fb_wave.specs.declared.current_line.CurrentLine.{CurrentLine}
 use Rattle.fb_wave.specs.declared.table.PortTable.{PortTable}
+use Rattle.fb_wave.specs.Fronts.{WritesBefore}
 use Rattle.fb_wave.specs.CutOff.{BlamesShown, FailsShown, IsShown}
 use Rattle.fb_wave.proofs.lemmas.Copied.{front_none}
 use Rattle.fb_wave.proofs.lemmas.Severed.{blames_memory, blames_names, fails_in}
@@ -109,3 +110,20 @@ returns-in_err-table-clause-current g c = on_passed _ _ (IsRefusedLine (system_o
 
 pub returns-in_err-progress-clause-current : goal.returns-in_err-progress-clause-current
 returns-in_err-progress-clause-current g c = on_passed _ _ (IsRefusedLine (system_of c.args.system.now) (g.R.Read.remaining c.args.input.now) _) c.from_residual-in_err-progress.ensures.1 tt
+
+pub returns-clause-before : goal.returns-clause-before
+returns-clause-before g c =
+    subst
+    (λ (s : Inputs).
+    HasNames (system_of s) → IfErr c.copy-written.result (WritesBefore (system_of s) (g.R.Read.remaining c.args.input.now) (g.W.Write.contents c.args.out.now) (g.W.Write.contents c.copy-written.new.out)))
+    (of_table _ c.in-Some.table _ c.in-Some.is c.in_ok-table.ensures.system ∙ c.in_ok-ports.ensures) c.copy-written.ensures.before
+    (names_so c.has_names.result c.if-not-has_names.false c.has_names.ensures.named)
+
+pub returns-in_err-ports-clause-before : goal.returns-in_err-ports-clause-before
+returns-in_err-ports-clause-before g c = on_passed _ _ (WritesBefore (system_of c.args.system.now) _ _ _) c.from_residual.ensures.1 tt
+
+pub returns-in_err-table-clause-before : goal.returns-in_err-table-clause-before
+returns-in_err-table-clause-before g c = on_passed _ _ (WritesBefore (system_of c.args.system.now) _ _ _) c.from_residual-in_err-table.ensures.1 tt
+
+pub returns-in_err-progress-clause-before : goal.returns-in_err-progress-clause-before
+returns-in_err-progress-clause-before g c = on_passed _ _ (WritesBefore (system_of c.args.system.now) _ _ _) c.from_residual-in_err-progress.ensures.1 tt

@@ -1,14 +1,16 @@
 use Rattle.fb_wave.proofs.lemmas.Common.{◌≡◌, ◌∙◌, ℕ, true, false, List, refl, subst, sym, arith, system_of, Read, IsLast, RefusesLine, IsRefusedLine}
 use Rattle.fb_wave.specs.Lines.{IsNoLast}
 use Rattle.fb_wave.specs.Copying.{IsTaken}
+use Rattle.fb_wave.specs.Fronts.{WritesBefore}
 use Rattle.fb_wave.specs.CutOff.{BlamesShown, FailsShown, is_cut, is_unended}
 use Rattle.fb_wave.proofs.lemmas.Copied.{copied_all, copied_none, copied_one, fails_front, fails_taken, fails_unfinished, front_copied, front_flushed, front_none}
 use Rattle.fb_wave.proofs.lemmas.Blaming.{end_blamed, line_blamed, some_resource}
 use Rattle.fb_wave.proofs.lemmas.Forming.{ShowsForm, form_shown}
-use Rattle.fb_wave.proofs.lemmas.Handing.{ok_passed, on_fault, on_ok, on_passed}
+use Rattle.fb_wave.proofs.lemmas.Handing.{ok_passed, on_fault, on_faults, on_ok, on_passed}
 use Rattle.fb_wave.proofs.lemmas.Severed.{blames_in, cut_blames, cut_fails, cut_shown, end_no_cut, fails_in, line_no_cut, read_blames, shown_in, uncut_line, write_blames}
 use Rattle.fb_wave.proofs.lemmas.Current.{cut_current, end_current, line_current}
 use Rattle.fb_wave.proofs.lemmas.Unread.{read_current, read_writes_none}
+use Rattle.fb_wave.proofs.lemmas.Before.{cut_before, end_before, line_before, read_before}
 use Rattle.fb_wave.proofs.copy.Progress.copy.Goals as goal
 
 pub loop-number-init : goal.loop-number-init
@@ -18,7 +20,7 @@ loop-number-init g c =
           copied_none (system_of c.args.table.now.system.now) _ _ c.args.self.now _ _ _ _ c.requires.tick c.requires.dump c.requires.shown c.requires.written
           c.in_ok-next_line.ensures.read c.in_ok-next_line.ensures.line refl
           (λ names f l is. form_shown (system_of c.args.table.now.system.now) c.form_of-form.result f l c.next_line.new.line.items names
-          (subst (λ (t : List ℕ). ShowsForm c.form_of-form.result t) c.as_slice.ensures.value c.form_of-form.ensures) is);
+          (subst (λ (t : List ℕ). ShowsForm c.form_of-form.result t) c.as_slice.ensures.value c.form_of-form.ensures.form) is);
       formed = refl;
       inside = c.requires.current;
     }
@@ -225,3 +227,45 @@ pub returns-then-is_cut-clause-current : goal.returns-then-is_cut-clause-current
 returns-then-is_cut-clause-current g c names =
     let sys = system_of c.args.table.now.system.now in
     on_fault c.finish_cut.result _ _ (c.finish_cut.ensures.part sys) (cut_current sys _ _ _ c.loop-number.self _)
+
+-- ---- What was written before a refusal
+
+pub returns-clause-before : goal.returns-clause-before
+returns-clause-before g c names = tt
+
+pub returns-in-Some-clause-before : goal.returns-in-Some-clause-before
+returns-in-Some-clause-before g c names =
+    let sys = system_of c.args.table.now.system.now in
+    let last : IsLast sys c.loop-number.current.text.items c.in-Some.end = subst (λ (l : List ℕ). IsLast sys l c.in-Some.end) c.as_slice-in-loop-number.ensures.value c.in-Some.ensures.last in
+    on_faults c.finish.result _ _ _ c.finish.ensures.refused c.finish.ensures.part
+    (end_before sys c.form_of-form.result c.loop-number.number c.loop-number.self c.loop-number.current.text.items (g.R.Read.remaining c.args.input.now) (g.R.Read.remaining c.loop-number.input)
+    (g.W.Write.contents c.args.out.now) (g.W.Write.contents c.loop-number.out) c.loop-number.invariant.copied c.in-Some.end last _)
+
+pub returns-in_err-take-clause-before : goal.returns-in_err-take-clause-before
+returns-in_err-take-clause-before g c names =
+    let sys = system_of c.args.table.now.system.now in
+    let e = c.in_err-take.field-0.0 in
+    let refuses : RefusesLine sys c.form_of-form.result c.loop-number.self.tick c.loop-number.number c.loop-number.current.text.items e =
+    subst (λ (l : List ℕ). RefusesLine sys c.form_of-form.result c.loop-number.self.tick c.loop-number.number l e) c.as_slice-in-loop-number-3.ensures.value (c.in_err-take.ensures.refused names)
+    in
+    on_passed _ _ (WritesBefore sys (g.R.Read.remaining c.args.input.now) (g.W.Write.contents c.args.out.now) (g.W.Write.contents c.loop-number.out)) c.from_residual-in_err-take.ensures.1
+    (line_before sys c.form_of-form.result c.loop-number.number c.loop-number.self c.loop-number.current.text.items (g.R.Read.remaining c.args.input.now) (g.R.Read.remaining c.loop-number.input)
+    (g.W.Write.contents c.args.out.now) (g.W.Write.contents c.loop-number.out) c.loop-number.invariant.copied _ refl e refuses)
+
+pub returns-in_err-next_line-clause-before : goal.returns-in_err-next_line-clause-before
+returns-in_err-next_line-clause-before g c names =
+    on_passed _ _ (WritesBefore (system_of c.args.table.now.system.now) (g.R.Read.remaining c.args.input.now) (g.W.Write.contents c.args.out.now) (g.W.Write.contents c.args.out.now)) c.from_residual.ensures.1
+    (read_before _ _ _ _ _ c.in_err-next_line.ensures.fault)
+
+pub returns-in_err-next_line-2-clause-before : goal.returns-in_err-next_line-2-clause-before
+returns-in_err-next_line-2-clause-before g c names =
+    on_passed _ _ (WritesBefore (system_of c.args.table.now.system.now) (g.R.Read.remaining c.args.input.now) (g.W.Write.contents c.args.out.now) (g.W.Write.contents c.flush_much.new.out)) c.from_residual-in_err-next_line-2.ensures.1
+    (read_before _ _ _ _ _ c.in_err-next_line-2.ensures.fault)
+
+pub returns-in_err-flush_much-clause-before : goal.returns-in_err-flush_much-clause-before
+returns-in_err-flush_much-clause-before g c names = on_passed _ _ _ c.from_residual-in_err-flush_much.ensures.1 tt
+
+pub returns-then-is_cut-clause-before : goal.returns-then-is_cut-clause-before
+returns-then-is_cut-clause-before g c names =
+    let sys = system_of c.args.table.now.system.now in
+    on_fault c.finish_cut.result _ _ (c.finish_cut.ensures.part sys) (cut_before sys c.loop-number.self _ _ _ _)
