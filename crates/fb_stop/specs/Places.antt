@@ -1,5 +1,5 @@
 -- Where a stop is shown in the declaration (this project's own).
-use Rattle.std.specs.Prelude.{◌≡◌, ℕ, length, take, true, Option, Some, None, slice_get}
+use Rattle.std.specs.Prelude.{◌≡◌, ◌<◌, ◌≤◌, ℕ, length, take, true, false, Option, Some, None, slice_get}
 use Rattle.std.specs.List.{filter}
 use Rattle.fb_types.specs.Blocks.{Basic}
 use Rattle.fb_types.specs.Headline.{Inputs, system_of}
@@ -54,11 +54,16 @@ abbrev pub IsShown : Option Inside → (index : ℕ) → BasicPart → Type 0
 IsShown None index x = x ≡ part.Algorithm index
 IsShown (Some i) index x = x ≡ part_with index i.statement i.operation
 
--- the algorithm at the index has this name
+-- the algorithm at the index is the first that has this name
 pub record IsAlgorithmAt (t : BasicType) (n : Name) (index : ℕ) : Type 0 where
   pub algorithm : Algorithm
   pub at : slice_get t.algorithms index ≡ Some algorithm
   pub named : same_name n algorithm.name ≡ true
+  pub first : (j : ℕ) (a : Algorithm) → j < index → slice_get t.algorithms j ≡ Some a → same_name n a.name ≡ false
+
+-- no algorithm has this name
+abbrev pub HasNoAlgorithm : BasicType → Name → Type 0
+HasNoAlgorithm t n = (j : ℕ) (a : Algorithm) → slice_get t.algorithms j ≡ Some a → same_name n a.name ≡ false
 
 -- the part of the algorithm of this name
 pub record IsAlgorithmPart (t : BasicType) (n : Name) (inside : Option Inside) (x : BasicPart) : Type 0 where
@@ -77,6 +82,20 @@ pub record IsActionPart (t : BasicType) (s j : ℕ) (inside : Option Inside) (x 
   pub action : Action
   pub at : slice_get state.actions j ≡ Some action
   pub is : IsPartOf t s j inside action.algorithm x
+
+-- There is no such action, or its algorithm is none of the type's.
+abbrev pub LacksAction : BasicType → (state index : ℕ) → Type 0
+LacksAction t s j = (state : State) (action : Action) → slice_get t.states s ≡ Some state → slice_get state.actions j ≡ Some action
+    → (n : Name) × (action.algorithm ≡ Some n) × HasNoAlgorithm t n
+
+-- There is no such state, or no such transition leaves it.
+abbrev pub LacksTransition : BasicType → (state index : ℕ) → Type 0
+LacksTransition t s j = (state : State) → slice_get t.states s ≡ Some state → length (filter (λ x. same_name x.from state.name) t.transitions) ≤ j
+
+-- The site is none of the type's.
+abbrev pub LacksSite : BasicType → Site → Type 0
+LacksSite t (site.Transition s j operation) = LacksTransition t s j
+LacksSite t (site.Action s j inside) = LacksAction t s j
 
 -- a transition is shown at its guard if an operation of it is said, or else at its condition
 abbrev pub shown_part : Option Operation → TransitionPart
@@ -102,3 +121,8 @@ pub record IsStopPosition (i : Inputs) (stop : FoundStop) (x : Position) : Type 
   pub in_part : BasicPart
   pub is : x ≡ position.InBasic index in_part
   pub part_is : IsSitePart block site in_part
+
+-- Where a stop has no position: its event does not arrive at an instance of a basic type, it is in no reaction, or the site is none of the type's.
+abbrev pub HasNoPosition : Inputs → FoundStop → Type 0
+HasNoPosition i stop = (target : Target) (site : Site) (index : ℕ) (block : BasicType) → stop.at ≡ Port target → stop.site ≡ InReaction site
+    → slice_get i.library.blocks index ≡ Some (type.Basic block) → (system_of i).kind (path_at (system_of i) target.instance) ≡ Some (Basic block) → LacksSite block site

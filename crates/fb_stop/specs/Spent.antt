@@ -72,8 +72,14 @@ pub record HasSpent (i : Inputs) (limit : ℕ) (m : Moment) (s : State) (a : mod
 
 -- ---- The most
 
--- No other number of the list is greater.
+-- No other number of the list is greater, those before it are less, and it is not 0.
 pub record IsMost (xs : List ℕ) (index : ℕ) : Type 0 where
   pub most : ℕ
   pub is : slice_get xs index ≡ Some most
+  pub some : 0 < most
   pub none_more : (j x : ℕ) → slice_get xs j ≡ Some x → x ≤ most
+  pub first : (j x : ℕ) → j < index → slice_get xs j ≡ Some x → x < most
+
+-- All numbers of the list are 0.
+abbrev pub AreNone : List ℕ → Type 0
+AreNone xs = (j x : ℕ) → slice_get xs j ≡ Some x → x ≡ 0

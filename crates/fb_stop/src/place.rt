@@ -1,11 +1,11 @@
 //! Where a stop is shown in the declaration.
 
-ghost use Rattle.std.specs.Prelude.{◌≡◌, ◌<◌, ◌≤◌, IfNone, IfSome, IsTrue, length};
+ghost use Rattle.std.specs.Prelude.{◌≡◌, ◌↔◌, ◌<◌, ◌≤◌, IfNone, IfSome, IsTrue, length};
 ghost use Rattle.std.specs.List.{filter};
 ghost use Rattle.fb_types.specs.Names.{same_name};
 ghost use Rattle.fb_types.specs.OfSystem.{IsInstance};
 ghost use Rattle.fb_stop.specs.Places as spec;
-ghost use Rattle.fb_stop.specs.Places.{IsActionPart, IsAlgorithmAt, IsAlgorithmPart, IsNth, IsShown, IsSitePart, IsStopPosition, shown_part};
+ghost use Rattle.fb_stop.specs.Places.{HasNoAlgorithm, HasNoPosition, IsActionPart, IsAlgorithmAt, IsAlgorithmPart, IsNth, IsShown, IsSitePart, IsStopPosition, LacksAction, LacksSite, shown_part};
 
 use crate::found::{EventSite, FoundStop, StopSite};
 use crate::site::{Inside, Site};
@@ -34,7 +34,8 @@ pub(crate) fn transition_index(block: &BasicType, state: &Name, nth: usize) -> O
 
 /// The index of the algorithm that has the name.
 fn algorithm_index(block: &BasicType, name: &Name) -> Option<usize>
-    ensures { IfSome result (IsAlgorithmAt block.now name.now) }
+    ensures found { IfSome result (IsAlgorithmAt block.now name.now) }
+    ensures none { IfNone result (HasNoAlgorithm block.now name.now) }
 {
     for (index, algorithm) in block.algorithms.as_slice().iter().enumerate() {
         if name.is(&algorithm.name) {
@@ -79,7 +80,8 @@ fn statement_part(index: usize, inside: Option<Inside>) -> BasicPart
 
 /// The same of the algorithm that has the name.
 fn algorithm_part(block: &BasicType, name: &Name, inside: Option<Inside>) -> Option<BasicPart>
-    ensures { IfSome result (IsAlgorithmPart block.now name.now inside) }
+    ensures found { IfSome result (IsAlgorithmPart block.now name.now inside) }
+    ensures none { IfNone result (HasNoAlgorithm block.now name.now) }
 {
     match algorithm_index(block, name) {
         Some(index) => Some(statement_part(index, inside)),
@@ -94,7 +96,8 @@ fn action_part(
     index: usize,
     inside: Option<Inside>,
 ) -> Option<BasicPart>
-    ensures { IfSome result (IsActionPart block.now state index inside) }
+    ensures found { IfSome result (IsActionPart block.now state index inside) }
+    ensures none { IfNone result (LacksAction block.now state index) }
 {
     match &block.states.get(state)?.actions.get(index)?.algorithm {
         Some(name) => algorithm_part(block, name, inside),
@@ -114,7 +117,8 @@ fn condition_part(operation: Option<Operation>) -> TransitionPart
 
 /// The part of a basic type at which a site is shown: the condition of the transition, or the algorithm of the action.
 fn part_of(block: &BasicType, site: Site) -> Option<BasicPart>
-    ensures { IfSome result (IsSitePart block.now site) }
+    ensures found { IfSome result (IsSitePart block.now site) }
+    ensures none { IfNone result (LacksSite block.now site) }
 {
     match site {
         Site::Transition {
@@ -136,7 +140,7 @@ fn part_of(block: &BasicType, site: Site) -> Option<BasicPart>
 
 /// Whether there is an instance of this number.
 pub(crate) fn has_instance(system: &System, instance: u32) -> bool
-    ensures { IsTrue result → IsInstance system.now instance }
+    ensures { IsTrue result ↔ IsInstance system.now instance }
 {
     (instance as usize) < system.count()
 }
@@ -144,7 +148,8 @@ pub(crate) fn has_instance(system: &System, instance: u32) -> bool
 /// The position of the declaration at which a stop is shown. `None` if the event is not taken: then no text is to blame.
 /// `None` too if the stop is not one of the system.
 pub fn position_of(system: &System, stop: &FoundStop) -> Option<Position>
-    ensures { IfSome result (IsStopPosition system.now stop.now) }
+    ensures found { IfSome result (IsStopPosition system.now stop.now) }
+    ensures none { IfNone result (HasNoPosition system.now stop.now) }
 {
     let EventSite::Port(target) = stop.at else {
         return None;

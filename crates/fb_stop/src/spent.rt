@@ -1,6 +1,6 @@
 //! How the steps of one tick were used, up to the stop of a simulation.
 
-ghost use Rattle.std.specs.Prelude.{◌≡◌, ◌^◌, ◌<◌, ◌≤◌, ◌==◌, ◌&&◌, IfOk, IfSome, IsTrue, None, OnOk, length, replicate};
+ghost use Rattle.std.specs.Prelude.{◌≡◌, ◌^◌, ◌<◌, ◌≤◌, ◌==◌, ◌&&◌, IfNone, IfOk, IfSome, IsTrue, None, OnOk, length, replicate};
 ghost use Rattle.fb_types.specs.Headline.{stimuli_of};
 ghost use Rattle.fb_types.specs.Keys.{without};
 ghost use Rattle.fb_types.specs.States.{State};
@@ -12,7 +12,7 @@ ghost use Rattle.fb_net.specs.Events.{IsEventIn, IsKeyOf, event_of};
 ghost use Rattle.fb_resource.specs.Counts.{meter_of};
 ghost use Rattle.fb_sim_machine.specs.Machines.{IsAt, IsReady};
 ghost use Rattle.fb_sim_machine.specs.Runs.{IsSpent};
-ghost use Rattle.fb_stop.specs.Spent.{AreSpent, Charges, HasSpent, IsMost, is_of};
+ghost use Rattle.fb_stop.specs.Spent.{AreNone, AreSpent, Charges, HasSpent, IsMost, is_of};
 
 use crate::found::instance_of;
 use crate::replay::site_of;
@@ -159,6 +159,7 @@ pub(crate) fn steps_spent(
 pub(crate) fn most(spent: &[u64]) -> Option<usize>
     ensures most { IfSome result (λ k. IsMost spent.now k) }
     ensures within { IfSome result (λ k. k < length spent.now) }
+    ensures none { IfNone result (AreNone spent.now) }
 {
     let mut most = 0;
     let mut found = None;

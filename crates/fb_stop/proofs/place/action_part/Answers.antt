@@ -7,8 +7,8 @@ use Rattle.fb_stop.specs.Places.{IsActionPart, IsAlgorithmPart, IsPartOf}
 use Rattle.fb_stop.proofs.lemmas.operations.Insides.{if_some_map}
 use Rattle.fb_stop.proofs.place.action_part.Goals as goal
 
-pub returns-in-Some : goal.returns-in-Some
-returns-in-Some c =
+pub returns-in-Some-clause-found : goal.returns-in-Some-clause-found
+returns-in-Some-clause-found c =
     let t = c.args.block.now in
     let state : State = c.in_ok-get.field-0.now in
     let action : Action = c.in_ok-name.field-0.now in
@@ -20,10 +20,10 @@ returns-in-Some c =
       at = sym c.in_ok-name.ensures.value;
       is = subst (λ (o : Option Name). IsPartOf t c.args.state c.args.index c.args.inside o x) (sym c.in-Some.is) is;
     })
-    c.algorithm_part.ensures
+    c.algorithm_part.ensures.found
 
-pub returns-in-None : goal.returns-in-None
-returns-in-None c =
+pub returns-in-None-clause-found : goal.returns-in-None-clause-found
+returns-in-None-clause-found c =
     let x : BasicPart = part.OutputAlone c.args.state c.args.index in
     record {
       state = c.in_ok-get.field-0.now;

@@ -1,4 +1,4 @@
 use Rattle.fb_stop.proofs.place.algorithm_part.Goals as goal
 
-pub returns-in-Some : goal.returns-in-Some
-returns-in-Some c = record { index = c.in-Some.index; there = c.in-Some.ensures; is = c.statement_part.ensures }
+pub returns-in-Some-clause-found : goal.returns-in-Some-clause-found
+returns-in-Some-clause-found c = record { index = c.in-Some.index; there = c.in-Some.ensures.found; is = c.statement_part.ensures }

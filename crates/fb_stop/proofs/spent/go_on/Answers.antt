@@ -25,33 +25,33 @@ pub step-requires-clause-ready : goal.step-requires-clause-ready
 step-requires-clause-ready c =
     let inv = c.loop-moment.invariant in
     let found = c.loop-moment-test.ensures in
-    machine_left c.args.system.now c.args.limit inv.ready.0 c.take_least_into.new.slot.key c.take_least_into.new.slot.event c.loop-moment.run _ inv.ready.1 found.left found.found found.least found.due
+    machine_left c.args.system.now c.args.limit inv.ready.0 c.take_least_into.new.least_event.key c.take_least_into.new.least_event.event c.loop-moment.run _ inv.ready.1 found.left found.found found.least found.due
 
 pub step-requires-clause-represents : goal.step-requires-clause-represents
 step-requires-clause-represents c =
     let inv = c.loop-moment.invariant in
-    let k = c.take_least_into.new.slot.key in
+    let k = c.take_least_into.new.least_event.key in
     (inv.at.state, inv.at.agenda, at_left c.args.system.now k inv.at c.loop-moment.run _ inv.is c.loop-moment-test.ensures.left)
 
 pub step-requires-clause-event : goal.step-requires-clause-event
-step-requires-clause-event c = (c.loop-moment.invariant.ready.1.traffic.order.waits c.take_least_into.new.slot.key c.take_least_into.new.slot.event c.loop-moment-test.ensures.found).event
+step-requires-clause-event c = (c.loop-moment.invariant.ready.1.traffic.order.waits c.take_least_into.new.least_event.key c.take_least_into.new.least_event.event c.loop-moment-test.ensures.found).event
 
 pub step-requires-clause-own : goal.step-requires-clause-own
-step-requires-clause-own c = (c.loop-moment.invariant.ready.1.traffic.order.waits c.take_least_into.new.slot.key c.take_least_into.new.slot.event c.loop-moment-test.ensures.found).own
+step-requires-clause-own c = (c.loop-moment.invariant.ready.1.traffic.order.waits c.take_least_into.new.least_event.key c.take_least_into.new.least_event.event c.loop-moment-test.ensures.found).own
 
 pub step-requires-clause-typed : goal.step-requires-clause-typed
-step-requires-clause-typed c = (c.loop-moment.invariant.ready.1.traffic.order.waits c.take_least_into.new.slot.key c.take_least_into.new.slot.event c.loop-moment-test.ensures.found).typed
+step-requires-clause-typed c = (c.loop-moment.invariant.ready.1.traffic.order.waits c.take_least_into.new.least_event.key c.take_least_into.new.least_event.event c.loop-moment-test.ensures.found).typed
 
 pub step-requires-clause-named : goal.step-requires-clause-named
-step-requires-clause-named c = (c.loop-moment.invariant.ready.1.traffic.order.waits c.take_least_into.new.slot.key c.take_least_into.new.slot.event c.loop-moment-test.ensures.found).resource
+step-requires-clause-named c = (c.loop-moment.invariant.ready.1.traffic.order.waits c.take_least_into.new.least_event.key c.take_least_into.new.least_event.event c.loop-moment-test.ensures.found).resource
 
 pub returns-in-Some-clause-spent : goal.returns-in-Some-clause-spent
 returns-in-Some-clause-spent c asked =
     let i = c.args.system.now in
     let inv = c.loop-moment.invariant in
     let found = c.loop-moment-test.ensures in
-    let k = c.take_least_into.new.slot.key in
-    let e = c.take_least_into.new.slot.event in
+    let k = c.take_least_into.new.least_event.key in
+    let e = c.take_least_into.new.least_event.event in
     let m = c.args.moment in
     let old = c.loop-moment.spent.items in
     let new = c.step.new.spent.items in
@@ -64,10 +64,10 @@ pub loop-moment-smaller : goal.loop-moment-smaller
 loop-moment-smaller c =
     let ready = c.loop-moment.invariant.ready in
     let found = c.loop-moment-test.ensures in
-    let k = c.take_least_into.new.slot.key in
+    let k = c.take_least_into.new.least_event.key in
     let spent = c.in_ok-stop.ensures.less c.in_default.is in
     let past = ready.1.past k.resource spent.before spent.was in
-    let later = (ready.1.traffic.order.waits k c.take_least_into.new.slot.event found.found).later in
+    let later = (ready.1.traffic.order.waits k c.take_least_into.new.least_event.event found.found).later in
     all_falls c.args.horizon c.args.limit k c.loop-moment.run.meters.items c.step.new.run.meters.items spent (omega (arith, past, later)) found.below
 
 pub loop-moment-preserved : goal.loop-moment-preserved
@@ -75,8 +75,8 @@ loop-moment-preserved c =
     let i = c.args.system.now in
     let inv = c.loop-moment.invariant in
     let found = c.loop-moment-test.ensures in
-    let k = c.take_least_into.new.slot.key in
-    let e = c.take_least_into.new.slot.event in
+    let k = c.take_least_into.new.least_event.key in
+    let e = c.take_least_into.new.least_event.event in
     let m = c.args.moment in
     let old = c.loop-moment.spent.items in
     let new = c.step.new.spent.items in
@@ -101,8 +101,8 @@ returns-in-Some-clause-counted c =
     let i = c.args.system.now in
     let inv = c.loop-moment.invariant in
     let found = c.loop-moment-test.ensures in
-    let k = c.take_least_into.new.slot.key in
-    let e = c.take_least_into.new.slot.event in
+    let k = c.take_least_into.new.least_event.key in
+    let e = c.take_least_into.new.least_event.event in
     let h = c.in_ok-stop.ensures.spent inv.at.state inv.at.agenda (at_left i k inv.at c.loop-moment.run _ inv.is found.left) in
     charged_alike (is_of c.args.moment k) (system_of i) (event_of i e) (used c.args.limit k inv.at.state h.taken.effect.state) c.loop-moment.spent.items c.step.new.spent.items h.charged ∙ inv.counted
 

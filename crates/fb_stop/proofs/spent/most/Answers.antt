@@ -1,4 +1,6 @@
-use Rattle.fb_types.proofs.Common.{◌≡◌, ◌<◌, ◌≤◌, ◌+◌, ℕ, List, Some, below_more, get_or, arith, slice_get, get_or_from_slice_get, slice_get-get_or}
+use Rattle.fb_types.proofs.Common.{◌≡◌, ◌<◌, ◌≤◌, ◌+◌, ℕ, List, Option, Some, None, length, below_more, get_or, arith, slice_get, get_or_from_slice_get, slice_get-get_or, slice_get_within}
+use Rattle.std.specs.Prelude.{IfNone}
+use Rattle.fb_stop.specs.Spent.{AreNone}
 use Rattle.std.proofs.lemmas.Option.{IfSome_then}
 use Rattle.fb_stop.proofs.spent.most.Goals as goal
 use Rattle.fb_stop.proofs.spent.most.Goals.{then-spent-index, else-spent-index}
@@ -25,6 +27,9 @@ loop-index-preserved c =
             all = none_greater xs i old (get_or xs i 0) inv.all (omega (arith, more)) (omega arith);
             found = slice_get-get_or xs i 0 c.loop-index-test.true;
             within = omega arith;
+            some = omega (arith, more);
+            first = λ j x before at. let less = inv.all j x before at in omega (arith, less, more);
+            none = tt;
           })
       | else-spent-index w ↦
           let less = w.if-spent-index.false in
@@ -32,5 +37,19 @@ loop-index-preserved c =
             all = none_greater xs i old old inv.all (omega arith) (omega (arith, less));
             found = inv.found;
             within = IfSome_then c.loop-index.found inv.within (λ k lt. omega (arith, lt));
+            some = inv.some;
+            first = inv.first;
+            none = inv.none;
           })
     ]
+
+-- at the end all numbers were seen: where none was found, none is more than 0
+all_none : (xs : List ℕ) (i most : ℕ) (o : Option ℕ) → length xs ≤ i → ((j x : ℕ) → j < i → slice_get xs j ≡ Some x → x ≤ most) → IfNone o (most ≡ 0) → IfNone o (AreNone xs)
+all_none xs i most (Some k) end all is = tt
+all_none xs i most None end all is = λ j x at.
+    let within = slice_get_within xs j x at in
+    let less = all j x (omega (arith, within, end)) at in
+    omega (arith, less, is)
+
+pub returns-clause-none : goal.returns-clause-none
+returns-clause-none c = all_none c.args.spent.now c.loop-index.index c.loop-index.most c.loop-index.found c.loop-index-test.false c.loop-index.invariant.all c.loop-index.invariant.none

@@ -12,4 +12,4 @@ returns-then-is_some c =
 
 pub returns-in-Some-position_of : goal.returns-in-Some-position_of
 returns-in-Some-position_of c =
-    placed c.args.declaration.now c.args.system.now c.args.stop.now c.in-Some-position_of.position c.library.result.now c.place_at.result c.in-Some-position_of.ensures c.library.ensures c.place_at.ensures
+    placed c.args.declaration.now c.args.system.now c.args.stop.now c.in-Some-position_of.position c.library.result.now c.place_at.result c.in-Some-position_of.ensures.found c.library.ensures c.place_at.ensures

@@ -22,33 +22,33 @@ pub step-requires-clause-ready : goal.step-requires-clause-ready
 step-requires-clause-ready c =
     let inv = c.loop-self.invariant in
     let found = c.loop-self-test.ensures in
-    machine_left c.args.system.now c.args.limit inv.ready.0 c.take_least_into.new.slot.key c.take_least_into.new.slot.event c.loop-self.self.run _ inv.ready.1 found.left found.found found.least found.due
+    machine_left c.args.system.now c.args.limit inv.ready.0 c.take_least_into.new.least_event.key c.take_least_into.new.least_event.event c.loop-self.self.run _ inv.ready.1 found.left found.found found.least found.due
 
 pub step-requires-clause-represents : goal.step-requires-clause-represents
 step-requires-clause-represents c =
     let inv = c.loop-self.invariant in
-    let k = c.take_least_into.new.slot.key in
+    let k = c.take_least_into.new.least_event.key in
     (inv.at.state, inv.at.agenda, at_left c.args.system.now k inv.at c.loop-self.self.run _ inv.is c.loop-self-test.ensures.left, inv.copies)
 
 pub step-requires-clause-event : goal.step-requires-clause-event
-step-requires-clause-event c = (c.loop-self.invariant.ready.1.traffic.order.waits c.take_least_into.new.slot.key c.take_least_into.new.slot.event c.loop-self-test.ensures.found).event
+step-requires-clause-event c = (c.loop-self.invariant.ready.1.traffic.order.waits c.take_least_into.new.least_event.key c.take_least_into.new.least_event.event c.loop-self-test.ensures.found).event
 
 pub step-requires-clause-own : goal.step-requires-clause-own
-step-requires-clause-own c = (c.loop-self.invariant.ready.1.traffic.order.waits c.take_least_into.new.slot.key c.take_least_into.new.slot.event c.loop-self-test.ensures.found).own
+step-requires-clause-own c = (c.loop-self.invariant.ready.1.traffic.order.waits c.take_least_into.new.least_event.key c.take_least_into.new.least_event.event c.loop-self-test.ensures.found).own
 
 pub step-requires-clause-typed : goal.step-requires-clause-typed
-step-requires-clause-typed c = (c.loop-self.invariant.ready.1.traffic.order.waits c.take_least_into.new.slot.key c.take_least_into.new.slot.event c.loop-self-test.ensures.found).typed
+step-requires-clause-typed c = (c.loop-self.invariant.ready.1.traffic.order.waits c.take_least_into.new.least_event.key c.take_least_into.new.least_event.event c.loop-self-test.ensures.found).typed
 
 pub step-requires-clause-named : goal.step-requires-clause-named
-step-requires-clause-named c = (c.loop-self.invariant.ready.1.traffic.order.waits c.take_least_into.new.slot.key c.take_least_into.new.slot.event c.loop-self-test.ensures.found).resource
+step-requires-clause-named c = (c.loop-self.invariant.ready.1.traffic.order.waits c.take_least_into.new.least_event.key c.take_least_into.new.least_event.event c.loop-self-test.ensures.found).resource
 
 pub returns-in-Some : goal.returns-in-Some
 returns-in-Some c =
     let i = c.args.system.now in
     let inv = c.loop-self.invariant in
     let found = c.loop-self-test.ensures in
-    let k = c.take_least_into.new.slot.key in
-    let e = c.take_least_into.new.slot.event in
+    let k = c.take_least_into.new.least_event.key in
+    let e = c.take_least_into.new.least_event.event in
     let steps = c.in_ok-found.ensures.steps inv.at.state inv.at.agenda (at_left i k inv.at c.loop-self.self.run _ inv.is found.left) inv.copies in
     let stop = subst (λ o. Steps i c.args.limit inv.at.state inv.at.agenda k (event_of i e) c.step.new.self o) c.in-Some.is steps in
     is_stop i c.args.horizon c.args.limit inv.at inv.taken inv.reaches c.loop-self.self.run.traffic.agenda inv.is.agenda k e c.in-Some.found found.found found.least found.below stop
@@ -57,10 +57,10 @@ pub loop-self-smaller : goal.loop-self-smaller
 loop-self-smaller c =
     let ready = c.loop-self.invariant.ready in
     let found = c.loop-self-test.ensures in
-    let k = c.take_least_into.new.slot.key in
+    let k = c.take_least_into.new.least_event.key in
     let spent = c.in_ok-found.ensures.spent c.in_default.is in
     let past = ready.1.past k.resource spent.before spent.was in
-    let later = (ready.1.traffic.order.waits k c.take_least_into.new.slot.event found.found).later in
+    let later = (ready.1.traffic.order.waits k c.take_least_into.new.least_event.event found.found).later in
     all_falls c.args.horizon c.args.limit k c.loop-self.self.run.meters.items c.step.new.self.run.meters.items spent (omega (arith, past, later)) found.below
 
 pub loop-self-preserved : goal.loop-self-preserved
@@ -68,8 +68,8 @@ loop-self-preserved c =
     let i = c.args.system.now in
     let inv = c.loop-self.invariant in
     let found = c.loop-self-test.ensures in
-    let k = c.take_least_into.new.slot.key in
-    let e = c.take_least_into.new.slot.event in
+    let k = c.take_least_into.new.least_event.key in
+    let e = c.take_least_into.new.least_event.event in
     let steps = c.in_ok-found.ensures.steps inv.at.state inv.at.agenda (at_left i k inv.at c.loop-self.self.run _ inv.is found.left) inv.copies in
     let stepped = subst (λ o. Steps i c.args.limit inv.at.state inv.at.agenda k (event_of i e) c.step.new.self o) c.in_default.is steps in
     let taken = stepped.taken in
