@@ -9,8 +9,16 @@ use std::alloc::{AllocError, Global};
 /// The most fields of a record that are shown.
 const MOST_FIELDS: usize = 6;
 
-/// What is wrong with a value.
+/// What is wrong with a value that is no number and no truth value.
 const NO_VALUE: &str = ": its value is neither a number nor TRUE or FALSE";
+
+/// What is wrong with a number that is too great.
+const TOO_GREAT: &str =
+    ": its value is over the greatest number, 170141183460469231731687303715884105727";
+
+/// What is wrong with a number that is too small.
+const TOO_SMALL: &str =
+    ": its value is under the least number, -170141183460469231731687303715884105728";
 
 /// What is wrong at a location of stimuli, and what was expected there. Rows are counted from 0 after the heading, as
 /// in the keys of events.
@@ -101,10 +109,37 @@ fn push_fault(text: &mut Text, row: &Fields<'_>, fault: RowFault) {
             push_field(text, "the word ", word_at(row, word), " is not NAME=VALUE");
         }
         RowFault::Tick => push_field(text, "the tick ", row.tick, " is not a number"),
-        RowFault::Value(word) => push_field(text, "the word ", word_at(row, word), NO_VALUE),
+        RowFault::Value(word) => {
+            let word = word_at(row, word);
+            push_field(text, "the word ", word, value_fault(word.unwrap_or(&[])));
+        }
         RowFault::Late => push_field(text, "the tick ", row.tick, " is over 1,000,000,000,000"),
         RowFault::Crowded => text.words("100,000 rows are before it"),
     }
+}
+
+/// What is wrong with the value of a word NAME=VALUE.
+fn value_fault(word: &[u8]) -> &'static str {
+    match value_of(word) {
+        [b'-', digits @ ..] if is_number(digits) => TOO_SMALL,
+        digits if is_number(digits) => TOO_GREAT,
+        _ => NO_VALUE,
+    }
+}
+
+/// The bytes after the first equals sign of a word.
+fn value_of(word: &[u8]) -> &[u8] {
+    for (index, byte) in word.iter().enumerate() {
+        if *byte == b'=' {
+            return word.get(index.saturating_add(1)..).unwrap_or(&[]);
+        }
+    }
+    &[]
+}
+
+/// Whether bytes are decimal digits, and there is one.
+fn is_number(bytes: &[u8]) -> bool {
+    !bytes.is_empty() && split_front(bytes, ByteKind::Digits).1.is_empty()
 }
 
 /// The word of the last field at an index among those between spaces.
