@@ -77,7 +77,9 @@ fn values_of(ty: Ty) -> &'static str {
         Ty::Uint => "UINT: 0 to 65535",
         Ty::Udint => "UDINT: 0 to 4294967295",
         Ty::Ulint => "ULINT: 0 to 18446744073709551615",
-        Ty::Time => "TIME: a whole number of milliseconds, without T#",
+        Ty::Time => {
+            "TIME: -9223372036854775808 to 9223372036854775807, in milliseconds, without T#"
+        }
     }
 }
 
