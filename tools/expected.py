@@ -41,7 +41,10 @@ SIGNS = "; : , . .. ( ) [ ] := -> = <> < > <= >= + - * / &".split()
 TRIED = {**KINDS, **{it: it for it in (*WORDS, *KEYWORDS, *SIGNS)}}
 
 # What is probably meant, which may follow the list.
-HINT = re.compile(r" \((an earlier line ends|a word of|ELSE IF begins|comments do not nest).*\)$")
+HINT = re.compile(
+    r" \((an earlier line ends|a word of|ELSE IF begins|comments do not nest|the word before|equal is|AND is|there is no sign|a condition is"
+    r"|:= assigns|TO leads|a keyword).*\)$"
+)
 
 
 def listed(line, found):

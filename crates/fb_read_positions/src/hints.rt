@@ -1,5 +1,5 @@
 //! What is probably meant at a place of a declaration at which its text is refused: a word that the profile leaves out,
-//! a semicolon or ELSIF, a time with a fraction, a comment inside another one.
+//! a semicolon or ELSIF, a time with a fraction, a comment inside another one. `habits` has what other languages write.
 
 use crate::find::{discard, tokens_of};
 use crate::words::{ByteKind, Text, front, split_front};

@@ -6,21 +6,22 @@
 //! the tokens before it as the entries before the position. If the library has a name at the position, the token is
 //! this name. `position_places`: a place has the line and the column of the token at its position. `finding_positions`:
 //! a finding is shown at the position of what it is about, and what is given twice at its later occurrence.
-//! `lookup::BlockTypes` has the ports of the type that a name represents. The words of `headings` and `hints`, and what
-//! `source_line` shows, are not part of any contract.
+//! `lookup::BlockTypes` has the ports of the type that a name represents. The words of `headings`, `hints` and
+//! `habits`, and what `source_line` shows, are not part of any contract.
 //!
 //! Read in this order: `position`; `lists`, the item to which a position belongs; `step`, `network`, `ports`, `basic`
 //! and `walk`, the way to it; `statements` and `clauses`, which are searched in the tokens; `resume`, from one
 //! position of a list to the next; `names`, the names that a library has at positions; `find`; `places` and
 //! `position_places`, lines and columns; `finding_positions`. Then words: `words`, texts that grow; `lookup`, the meaning
-//! of names; `headings`, what a position is called; `source_line`, the source line of a place; `hints`, what is probably
-//! meant where a text is refused. All of this runs only after a refusal, and for warnings and stops.
+//! of names; `headings`, what a position is called; `source_line`, the source line of a place; `hints` and `habits`, what is
+//! probably meant where a text is refused. All of this runs only after a refusal, and for warnings and stops.
 #![tactic(auto)]
 
 mod basic;
 mod clauses;
 pub mod find;
 pub mod finding_positions;
+pub mod habits;
 pub mod headings;
 pub mod hints;
 mod lists;

@@ -2,6 +2,7 @@
 
 use crate::find::TextRefusal;
 use fb_read::{Expected, TextFault};
+use fb_read_positions::habits::{push_habit, sign_hint};
 use fb_read_positions::hints::{fraction_of, push_comment, push_else_if, push_left_out, push_time};
 use fb_read_positions::words::{Text, front};
 use fb_types::MOST_BYTES;
@@ -22,13 +23,18 @@ fn push_fault(alloc: Global, message: &mut Text, text: &[u8], found: TextRefusal
             let is_earlier = found.place.start < start;
             push_found(message, here, is_earlier);
             push_left_out(message, here);
-            push_expected(alloc, message, front(text, start), found.refusal.expected);
+            let rest = text.get(found.refusal.end..).unwrap_or(&[]);
+            let around = (front(text, start), here, rest);
+            push_expected(alloc, message, around, found.refusal.expected);
             if is_earlier {
                 message.words(" (this line ends without ;)");
             }
             push_comment(message, text, start);
         }
-        TextFault::Token => push_no_token(message, here, text.get(start..).unwrap_or(&[])),
+        TextFault::Token => {
+            push_no_token(message, here, text.get(start..).unwrap_or(&[]));
+            message.words(sign_hint(front(text, start), text.get(start..).unwrap_or(&[])));
+        }
         TextFault::Byte => push_about(message, "", here, " is allowed only in comments"),
         TextFault::TooLong => message.numbered("a text has at most ", MOST_BYTES, " bytes"),
         TextFault::Nesting => push_about(message, "with ", here, " more than 64 are nested"),
@@ -76,8 +82,14 @@ fn push_found(message: &mut Text, here: &[u8], is_earlier: bool) {
     }
 }
 
-/// Adds the tokens with which the text could go on after these bytes, if any are known.
-fn push_expected(alloc: Global, message: &mut Text, before: &[u8], expected: Expected) {
+/// Adds the tokens with which the text could go on in place of the token between these bytes, if any are known, and what
+/// is probably meant.
+fn push_expected(
+    alloc: Global,
+    message: &mut Text,
+    (before, here, rest): (&[u8], &[u8], &[u8]),
+    expected: Expected,
+) {
     let Ok(words) = expected.words(alloc) else {
         message.give_up();
         return;
@@ -92,4 +104,5 @@ fn push_expected(alloc: Global, message: &mut Text, before: &[u8], expected: Exp
         message.phrase(&[expected, words]);
     }
     push_else_if(alloc, message, before, words);
+    push_habit(alloc, message, (before, here, rest), words);
 }

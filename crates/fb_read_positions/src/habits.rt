@@ -1,0 +1,155 @@
+//! What other languages write, at a place at which a text is refused: signs for comparisons and for AND and OR, words of
+//! statements, keywords in the place of names, and what a condition or a connection is not.
+
+use crate::find::{discard, tokens_of};
+use crate::words::{ByteKind, Text, split_front};
+use fb_read::token::{Located, Token};
+use fb_read::word::{is_letter, is_word};
+use std::alloc::Global;
+
+/// Words that are written otherwise, each with the right one.
+const WORDS: &[(&str, &str)] = &[
+    ("ELSEIF", "ELSIF"),
+    ("ENDIF", "END_IF"),
+    ("ENDCASE", "END_CASE"),
+    ("ENDFOR", "END_FOR"),
+    ("ENDWHILE", "END_WHILE"),
+    ("ENDREPEAT", "END_REPEAT"),
+];
+
+/// What no token begins with, each with what is written in its place.
+const SIGNS: &[(&str, &str)] = &[
+    ("!=", ": unequal is written <>"),
+    ("!", ": NOT is a word"),
+    ("||", ": OR is a word"),
+    ("|", ": OR is a word"),
+    ("%", ": MOD is a word"),
+];
+
+/// What is written in the place of bytes that begin no token, after these bytes. It is empty where that is not known.
+pub fn sign_hint(before: &[u8], rest: &[u8]) -> &'static str {
+    for (sign, hint) in SIGNS {
+        if rest.starts_with(sign.as_bytes()) {
+            return *hint;
+        }
+    }
+    match (before, rest) {
+        ([.., last], [b'#', ..]) if is_word(*last) => ": a number is written without its type",
+        _ => "",
+    }
+}
+
+/// The bytes without the blanks at their end.
+fn without_blanks(bytes: &[u8]) -> &[u8] {
+    for index in (0..bytes.len()).rev() {
+        if !bytes[index].is_ascii_whitespace() {
+            return bytes.get(..index.saturating_add(1)).unwrap_or(bytes);
+        }
+    }
+    &[]
+}
+
+/// The word that bytes end in, before blanks.
+fn last_word(bytes: &[u8]) -> &[u8] {
+    let bytes = without_blanks(bytes);
+    for index in (0..bytes.len()).rev() {
+        if !is_word(bytes[index]) {
+            return bytes.get(index.saturating_add(1)..).unwrap_or(&[]);
+        }
+    }
+    bytes
+}
+
+/// The right word for one that is written otherwise.
+fn right_word(word: &[u8]) -> Option<&'static str> {
+    for (wrong, right) in WORDS {
+        if wrong.as_bytes().eq_ignore_ascii_case(word) {
+            return Some(*right);
+        }
+    }
+    None
+}
+
+/// Whether a word is among those that are expected.
+fn expects(expected: &str, sought: &str) -> bool {
+    for word in expected.split(' ') {
+        if word == sought {
+            return true;
+        }
+    }
+    false
+}
+
+/// Whether a token is a keyword.
+fn is_keyword(alloc: Global, token: &[u8]) -> bool {
+    let [first, ..] = token else {
+        return false;
+    };
+    if !is_letter(*first) {
+        return false;
+    }
+    let Ok(tokens) = tokens_of(alloc, token) else {
+        return false;
+    };
+    let found = matches!(
+        tokens.as_slice(),
+        [Located {
+            token: Token::Mark(_),
+            ..
+        }]
+    );
+    discard(tokens);
+    found
+}
+
+/// Whether a token is used as a name: a colon, a comma or a full stop follows.
+fn is_name_like(rest: &[u8]) -> bool {
+    matches!(
+        split_front(rest, ByteKind::Spaces).1,
+        [b':', ..] | [b',', ..] | [b'.', ..]
+    )
+}
+
+/// A sign that stands after itself, with what it means in other languages.
+fn doubled(before: &[u8], here: &[u8]) -> &'static str {
+    match (before, here) {
+        ([.., b'='], [b'=']) => " (equal is written =)",
+        ([.., b'&'], [b'&']) => " (AND is a word, or & once)",
+        ([.., b'*'], [b'*']) => " (there is no sign for a power)",
+        _ => "",
+    }
+}
+
+/// What is probably meant by a token that is not expected, where these are.
+fn misplaced(here: &[u8], expected: &str) -> &'static str {
+    let assigns = matches!(here, [b':', b'=']);
+    if expects(expected, "whole") && expects(expected, "[") {
+        " (a condition is 1, an event input, or a truth value in [ ])"
+    } else if assigns && expects(expected, "=") {
+        " (:= assigns, = compares)"
+    } else if assigns && expects(expected, "TO") {
+        " (TO leads from one name to the other)"
+    } else {
+        ""
+    }
+}
+
+/// Says what is probably meant by a token that is not expected, between the bytes before it and after it.
+pub fn push_habit(
+    alloc: Global,
+    message: &mut Text,
+    (before, here, rest): (&[u8], &[u8], &[u8]),
+    expected: &str,
+) {
+    if expects(expected, ":=") {
+        if let Some(right) = right_word(last_word(before)) {
+            message.phrase(&[" (the word before is written ", right, ")"]);
+            return;
+        }
+    }
+    message.words(doubled(before, here));
+    message.words(misplaced(here, expected));
+    if expects(expected, "name") && is_name_like(rest) && is_keyword(alloc, here) {
+        message.words(" (a keyword, so no name)");
+    }
+}
