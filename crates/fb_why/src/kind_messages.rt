@@ -19,6 +19,11 @@ fn push_expected(text: &mut Text, value: Value, ty: Ty) {
     text.words(" := ");
     text.value(value);
     text.phrase(&[": a value of ", type_words(ty), " is expected"]);
+    match (ty, value) {
+        (Ty::Bool, Value::Whole(0)) => text.words(" (0 is written FALSE)"),
+        (Ty::Bool, Value::Whole(1)) => text.words(" (1 is written TRUE)"),
+        _ => {}
+    }
 }
 
 /// Adds words for an expression, the kind that is expected, and its kind.
