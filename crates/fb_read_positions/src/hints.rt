@@ -15,6 +15,9 @@ const LANGUAGE: &str =
 const BLOCKS: &str =
     "ADAPTER ADAPTER_CONNECTIONS PLUGS SOCKETS SERVICE SUBAPPLICATION SUBAPPS SYSTEM DEVICE RESOURCE SEGMENT MAPPING";
 
+/// Event blocks of IEC 61499-1 that the profile leaves out.
+const EVENT_BLOCKS: &str = "E_RS E_TRAIN E_TABLE E_N_TABLE E_TABLE_CTRL E_DEMUX";
+
 /// Whether bytes are among words that are separated by spaces, whatever their case.
 fn is_among(bytes: &[u8], words: &str) -> bool {
     for word in words.split(' ') {
@@ -31,6 +34,13 @@ pub fn push_left_out(message: &mut Text, here: &[u8]) {
         message.words(" (a word of IEC 61131-3 that the profile leaves out)");
     } else if is_among(here, BLOCKS) {
         message.words(" (a word of IEC 61499-1 that the profile leaves out)");
+    }
+}
+
+/// Says of the name of an unknown block type that the profile leaves the event block of this name out.
+pub fn push_left_out_block(message: &mut Text, name: &[u8]) {
+    if is_among(name, EVENT_BLOCKS) {
+        message.words(" (an event block of IEC 61499-1 that the profile leaves out)");
     }
 }
 

@@ -4,6 +4,7 @@ use crate::contents::{Contents, Kind};
 use crate::flaw_messages::push_link;
 use fb_check_names::{PortKind, Side, UnknownName};
 use fb_read_positions::headings::basic_at;
+use fb_read_positions::hints::push_left_out_block;
 use fb_read_positions::{
     BasicPart, BlockTypes, ConnectionPart, NetworkPart, PortPart, Position, Text, TransitionPart,
     name_at,
@@ -11,6 +12,12 @@ use fb_read_positions::{
 use fb_types::{
     BasicType, BlockType, CompositeType, Connection, Instance, Name, Network, Plan, instance_named,
 };
+
+/// Adds that there is no block type with a name.
+fn push_no_type(text: &mut Text, name: &Name) {
+    text.named(": there is no block type ", name);
+    push_left_out_block(text, name.as_bytes());
+}
 
 /// Adds what the type of an instance lacks.
 fn push_lack(
@@ -21,7 +28,7 @@ fn push_lack(
 ) {
     match types.ports_named(&instance.block_type) {
         Some(ports) => text.lacks(&instance.block_type, port_kind, required, ports),
-        None => text.named(": there is no block type ", &instance.block_type),
+        None => push_no_type(text, &instance.block_type),
     }
 }
 
@@ -69,7 +76,7 @@ fn push_in_network(
     let (_, network) = scope;
     match part {
         NetworkPart::Instance(_) => {}
-        NetworkPart::InstanceType(_) => text.named(": there is no block type ", required),
+        NetworkPart::InstanceType(_) => push_no_type(text, required),
         NetworkPart::Parameter(instance, _) => {
             if let Some(instance) = network.instances.get(instance) {
                 push_lack(text, types, instance, (PortKind::Input, required));
