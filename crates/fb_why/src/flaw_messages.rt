@@ -18,14 +18,26 @@ use fb_types::{Connection, Library, Link, Name, Plan, PortName, ResourceEntry};
 
 const AGAIN: &str = " is given twice";
 
+/// The kinds of ports and variables, each as one and as many.
+type KindWords = (&'static str, &'static str);
+
 /// The kind of the port or variable at a position.
-fn kind_at(position: Position) -> &'static str {
+fn kind_at(position: Position) -> KindWords {
     match position {
-        Position::InPorts(_, PortPart::EventInput(_)) => "an event input",
-        Position::InPorts(_, PortPart::EventOutput(_)) => "an event output",
-        Position::InPorts(_, PortPart::Input(_)) => "a data input",
-        Position::InPorts(_, PortPart::Output(_)) => "a data output",
-        _ => "an internal variable",
+        Position::InPorts(_, PortPart::EventInput(_)) => ("an event input", "event inputs"),
+        Position::InPorts(_, PortPart::EventOutput(_)) => ("an event output", "event outputs"),
+        Position::InPorts(_, PortPart::Input(_)) => ("a data input", "data inputs"),
+        Position::InPorts(_, PortPart::Output(_)) => ("a data output", "data outputs"),
+        _ => ("an internal variable", "internal variables"),
+    }
+}
+
+/// Adds that a name is given twice to ports or variables of these kinds.
+fn push_kinds(text: &mut Text, first: KindWords, second: KindWords) {
+    if first.1 == second.1 {
+        text.phrase(&[AGAIN, " among the ", first.1]);
+    } else {
+        text.phrase(&[AGAIN, ", as ", first.0, " and as ", second.0]);
     }
 }
 
@@ -46,7 +58,7 @@ fn push_given(text: &mut Text, library: &Library, plan: &Plan, given: GivenTwice
                 if let Some(name) = name_at(first, library) {
                     text.named(": ", name);
                 }
-                text.phrase(&[AGAIN, ", as ", kind_at(first), " and as ", kind_at(second)]);
+                push_kinds(text, kind_at(first), kind_at(second));
             }
         }
         GivenTwice::Resource((_, resource)) => {
