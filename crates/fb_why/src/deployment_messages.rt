@@ -122,13 +122,24 @@ fn is_among(word: &str, known: &[&str]) -> bool {
     false
 }
 
-/// Adds the first key of a table that is none of these.
+/// Adds the keys that a table may have.
+fn push_known(text: &mut Text, known: &[&str]) {
+    let mut before = " (it may have ";
+    for key in known {
+        text.phrase(&[before, key]);
+        before = ", ";
+    }
+    text.words(")");
+}
+
+/// Adds the first key of a table that is none of these, and these.
 pub(crate) fn push_further(text: &mut Text, keys: &Table, known: &[&str]) {
     text.words("there is a further key");
     for (key, _) in keys {
         if !is_among(key.as_str(), known) {
             text.words(", ");
             text.quoted(key.as_str().as_bytes());
+            push_known(text, known);
             return;
         }
     }
