@@ -81,7 +81,7 @@ fn expects(expected: &str, sought: &str) -> bool {
 }
 
 /// Whether a token is a keyword.
-fn is_keyword(alloc: Global, token: &[u8]) -> bool {
+pub fn is_keyword(alloc: Global, token: &[u8]) -> bool {
     let [first, ..] = token else {
         return false;
     };

@@ -2,6 +2,7 @@
 
 use fb_inputs::{DeployKey, DeployLocation, TableFault, TableLocation};
 use fb_read_positions::Text;
+use fb_read_positions::habits::is_keyword;
 use std::alloc::{AllocError, Global};
 use toml::{Table, Value};
 
@@ -65,7 +66,14 @@ fn push_fault(
             text.words("there is neither latency nor latencies");
         }
         TableFault::Missing(key) => text.phrase(&["there is no ", key.text()]),
-        TableFault::Wrong(key) => text.phrase(&[key.text(), kind_of(key)]),
+        TableFault::Wrong(key) => {
+            text.words(key.text());
+            text.words(if has_keyword(alloc, bytes, table, key) {
+                " is a keyword, and so not a name"
+            } else {
+                kind_of(key)
+            });
+        }
         TableFault::Element(key, element) => {
             let kind = match key {
                 DeployKey::Instances => " element is not a name",
@@ -78,6 +86,23 @@ fn push_fault(
         TableFault::Both => text.words("there are both latency and latencies"),
         TableFault::Itself => text.words("it leads to the resource that it comes from"),
         TableFault::Further => push_unknown(alloc, text, bytes, table),
+    }
+}
+
+/// Whether the value at a key of a table in a document is a keyword.
+fn has_keyword(alloc: Global, bytes: &[u8], table: TableLocation, key: DeployKey) -> bool {
+    let Ok(keys) = toml::table_from_slice(alloc, bytes) else {
+        return false;
+    };
+    match table_at(&keys, table) {
+        Some(here) => match here.get(key.text()) {
+            Some(value) => match value.as_str() {
+                Some(word) => is_keyword(alloc, word.as_bytes()),
+                None => false,
+            },
+            None => false,
+        },
+        None => false,
     }
 }
 
