@@ -118,7 +118,7 @@ fn count_from(text: &[u8], earlier: Option<Place>, to: usize) -> Counted
 
 /// The bytes between two offsets, if the text has them after its byte order mark. Lines are counted on from an earlier
 /// place, if one is given.
-pub(crate) fn place_counted_from(
+pub fn place_counted_from(
     text: &[u8],
     earlier: Option<Place>,
     start: usize,
