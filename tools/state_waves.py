@@ -2,7 +2,7 @@
 """tools/state_waves.py [PROGRAM]: the dumps that `wave --states` makes, beside an interpreter of its own.
 
 The second simulator of tools/interpreter.py runs each example and each random system of tools/drawn.py once more, and notes what each
-taking changes inside a basic block: its state, its internal variables, and whether it lost the event. The program is given the trace
+taking changes inside a basic block: its state, the variables that no line carries, and whether it lost the event. The program is given the trace
 alone. What its dump has of the inside of blocks is to be that, to the byte, at these times and in this order, and the declarations of
 it are to be in the scopes of the blocks. Without these lines the dump is to be the one that `wave` makes. `--steps` is given where the
 trace stops for its steps, and where it must not matter. Of traces in which one emission was changed or left out, the program is to
@@ -31,16 +31,23 @@ def value_line(code, value):
     return f"{int(value)}{code}" if isinstance(value, bool) else f"b{value % 2**waves.BITS:b} {code}"
 
 
+def hidden_of(kind):
+    """The variables of a type that no line carries, each with its start: outputs WITH no event, and then internal variables."""
+    carried = {it for names in kind.outs.values() for it in names}
+    return {it: row for it, row in kind.var_out.items() if it not in carried} | kind.inner
+
+
 def inside_of(block):
-    """The lines of the state and the internal variables of a block, as they are now."""
-    values = [value_line(f"i{block.number}_{at}", block.values[it]) for at, it in enumerate(block.type.inner)]
+    """The lines of the state of a block and of its variables that no line carries, as they are now."""
+    values = [value_line(f"i{block.number}_{at}", block.values[it]) for at, it in enumerate(hidden_of(block.type))]
     return [f"s{block.state} s{block.number}", *values]
 
 
 def declared_of(block):
     """The declarations of the inside of a block."""
-    kinds = ["wire 1" if isinstance(start, bool) else "reg 64" for _, start in block.type.inner.values()]
-    names = [f"{kind} i{block.number}_{at} {name}" for at, (kind, name) in enumerate(zip(kinds, block.type.inner))]
+    hidden = hidden_of(block.type)
+    kinds = ["wire 1" if isinstance(start, bool) else "reg 64" for _, start in hidden.values()]
+    names = [f"{kind} i{block.number}_{at} {name}" for at, (kind, name) in enumerate(zip(kinds, hidden))]
     return [f"$var {it} $end" for it in (f"string 1 s{block.number} state", *names, f"event 1 l{block.number} lost")]
 
 

@@ -8,9 +8,9 @@
 //! - The line for which `insides::inspect` or `covering::cover` refuses a trace is not what the reactions give: no
 //!   trace of a run is refused (`laws`).
 //! - `dump::states::write_states` writes the value change dump of such a trace. In it are the state of each basic block by
-//!   name, its internal variables, and a mark for each event that it lost. Without the lines of the inside of blocks
-//!   that is, byte for byte, the dump that `fb_wave` writes. After an error the writer has the first bytes of such a
-//!   dump.
+//!   name, its variables that no line carries, and a mark for each event that it lost. Without the lines of the inside of
+//!   blocks that is, byte for byte, the dump that `fb_wave` writes. After an error the writer has the first bytes of such
+//!   a dump.
 //! - `covering::cover` marks exactly what the takings of such a trace do, next to what others covered.
 //! - What `refused::line_finding::fault_of` returns is true of the line, of what was known before it, and of the system. For
 //!   example, no instance has the name that it returns. If it returns nothing, a trace of the system can go on with the

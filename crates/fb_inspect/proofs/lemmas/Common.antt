@@ -25,7 +25,7 @@ pub use Rattle.fb_inspect.specs.declared.walk.steps.TickSteps.{TickSteps}
 pub use Rattle.fb_inspect.specs.declared.walk.trail.Trail.{Trail}
 pub use Rattle.fb_inspect.specs.dump.Dumping.{Shows, ShowsLines}
 pub use Rattle.fb_inspect.specs.dump.Heads.{insides_begun, instances_opened, resources_opened}
-pub use Rattle.fb_inspect.specs.dump.Inner.{internal_change, internal_code}
+pub use Rattle.fb_inspect.specs.dump.Inner.{hidden_change, hidden_code}
 pub use Rattle.fb_inspect.specs.dump.StateDumps.{Taken, lines_of, takings_of}
 pub use Rattle.fb_inspect.specs.dump.Waving.{HasWaved}
 pub use Rattle.fb_inspect.specs.walk.Chains.{Acting, Clears_by, Piece, Ran, Showing, ShowsActs, ShowsAfter, ShowsChain, ShowsEmission, ShowsEnters, ShowsLinks, ShowsOr, ShowsPerform, ShowsReaction, Silent, is_loss, rest_pieces, stop_pieces}

@@ -5,3 +5,4 @@ pub mod Growing
 pub mod Waved
 pub mod DumpSteps
 pub mod Ending
+pub mod Hidden

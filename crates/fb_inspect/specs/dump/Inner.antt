@@ -13,16 +13,17 @@ use Rattle.fb_types.specs.declared.value.Value.TheVariants as value
 use Rattle.fb_coverage.specs.Listed.{listed}
 use Rattle.fb_wave.specs.Changes.{in_bits, line, number_changed}
 use Rattle.fb_wave.specs.Scopes.{declares, variable_kind}
+use Rattle.fb_inspect.specs.walk.Notes.{hidden_variables}
 use Rattle.fb_inspect.specs.walk.Chains.{is_loss}
 use Rattle.fb_inspect.specs.walk.Looks.{Look, Seen, Taking, opening_look}
 
--- How the signals of a basic instance are called in the dump, by its number: that of its state, those of its internal variables, by
+-- How the signals of a basic instance are called in the dump, by its number: that of its state, those of its variables that no line carries, by
 -- their indexes, and that of its lost events.
 abbrev pub state_code : (instance : ℕ) → List ℕ
 state_code i = codes "s" ++ decimal i
 
-abbrev pub internal_code : (instance index : ℕ) → List ℕ
-internal_code i k = codes "i" ++ decimal i ++ codes "_" ++ decimal k
+abbrev pub hidden_code : (instance index : ℕ) → List ℕ
+hidden_code i k = codes "i" ++ decimal i ++ codes "_" ++ decimal k
 
 abbrev pub lost_code : (instance : ℕ) → List ℕ
 lost_code i = codes "l" ++ decimal i
@@ -30,12 +31,12 @@ lost_code i = codes "l" ++ decimal i
 -- ---- Declarations
 
 -- No name of a declaration has letters in lower case. A text is no signal of the standard: viewers that have such signals declare them so.
-abbrev pub internal_declared : (instance index : ℕ) → Variable → List ℕ
-internal_declared i k v = declares (variable_kind v.ty) (internal_code i k) v.name
+abbrev pub hidden_declared : (instance index : ℕ) → Variable → List ℕ
+hidden_declared i k v = declares (variable_kind v.ty) (hidden_code i k) v.name
 
 abbrev pub chart_declared : (instance : ℕ) → BasicType → List ℕ
 chart_declared i t =
-    declares (codes "string 1") (state_code i) (codes "state") ++ listed (internal_declared i) 0 t.internals
+    declares (codes "string 1") (state_code i) (codes "state") ++ listed (hidden_declared i) 0 (hidden_variables t)
     ++ declares (codes "event 1") (lost_code i) (codes "lost")
 
 -- ---- Changes
@@ -57,8 +58,8 @@ lost_fired i = line (codes "1" ++ lost_code i)
 abbrev pub state_change : (instance : ℕ) → (before after : Name) → List ℕ
 state_change i a b = if same_name b a then [] else state_changed i b
 
-abbrev pub internal_change : (instance : ℕ) → (before after : Seen) → (index : ℕ) → Name → List ℕ
-internal_change i a b k n = if same_value (b.variables n) (a.variables n) then [] else value_by (internal_code i k) (b.variables n)
+abbrev pub hidden_change : (instance : ℕ) → (before after : Seen) → (index : ℕ) → Name → List ℕ
+hidden_change i a b k n = if same_value (b.variables n) (a.variables n) then [] else value_by (hidden_code i k) (b.variables n)
 
 abbrev pub lost_change : (instance : ℕ) → (is_lost : Bool) → List ℕ
 lost_change i true = lost_fired i
@@ -66,15 +67,15 @@ lost_change i false = []
 
 abbrev pub chart_changes : (instance : ℕ) → (before after : Seen) → (is_lost : Bool) → BasicType → List ℕ
 chart_changes i a b is_lost t =
-    state_change i (state_of a.memory) (state_of b.memory) ++ listed (internal_change i a b) 0 (variable_names t.internals) ++ lost_change i is_lost
+    state_change i (state_of a.memory) (state_of b.memory) ++ listed (hidden_change i a b) 0 (variable_names (hidden_variables t)) ++ lost_change i is_lost
 
 -- ---- Beginnings
 
-abbrev pub internal_begun : (instance : ℕ) → Seen → (index : ℕ) → Name → List ℕ
-internal_begun i s k n = value_by (internal_code i k) (s.variables n)
+abbrev pub hidden_begun : (instance : ℕ) → Seen → (index : ℕ) → Name → List ℕ
+hidden_begun i s k n = value_by (hidden_code i k) (s.variables n)
 
 abbrev pub chart_begun : (instance : ℕ) → Seen → BasicType → List ℕ
-chart_begun i s t = state_changed i (state_of s.memory) ++ listed (internal_begun i s) 0 (variable_names t.internals)
+chart_begun i s t = state_changed i (state_of s.memory) ++ listed (hidden_begun i s) 0 (variable_names (hidden_variables t))
 
 -- ---- Instances
 

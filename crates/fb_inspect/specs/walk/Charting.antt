@@ -1,6 +1,6 @@
 -- How the reaction of a basic block is gone through in a trace (this project's own).
 use Rattle.std.specs.Prelude.{◌≡◌, ◌<◌, ℕ, List, [], ◌++◌, map, length, slice_get, true, Option, Some, None}
-use Rattle.fb_types.specs.Blocks.{Basic, Emission}
+use Rattle.fb_types.specs.Blocks.{Basic, Emission, variable_names}
 use Rattle.fb_types.specs.Charts.{Position}
 use Rattle.fb_types.specs.Headline.{system_of}
 use Rattle.fb_types.specs.Names.{Name}
@@ -17,7 +17,7 @@ use Rattle.fb_inspect.specs.walk.Chains.{Piece, Showing, ShowsChain}
 use Rattle.fb_inspect.specs.walk.Looks.{emission_line, pieces_text}
 use Rattle.fb_inspect.specs.Markings.{PiecesMark}
 use Rattle.fb_inspect.specs.walk.Moves.{Goes, StaysAlone, shown_text}
-use Rattle.fb_inspect.specs.walk.Notes.{own_variables}
+use Rattle.fb_inspect.specs.walk.Notes.{hidden_variables, own_variables}
 use Rattle.fb_inspect.specs.declared.walk.blocks.Chart.{Chart}
 use Rattle.fb_inspect.specs.declared.walk.charts.ChartTaking.{ChartTaking}
 use Rattle.fb_inspect.specs.declared.walk.charts.Linked.{Linked}
@@ -37,10 +37,11 @@ pub record IsChartTaking (x : ChartTaking) : Type 0 where
   pub number : slice_get x.fixed.table.now.system.now.library.blocks x.number ≡ Some (block.Basic x.block.now)
   pub event : x.line.now.event < length x.block.now.ports.event_inputs
 
--- What is kept of a basic block is a block of the type, with the variables that its algorithms change.
+-- What is kept of a basic block is a block of the type, with the variables that its algorithms change, and those that no line carries.
 pub record IsChartOf (t : BasicType) (c : Chart) : Type 0 where
   pub block : IsBlockOf t c.state
   pub own : c.own.items ≡ own_variables t
+  pub hidden : c.hidden.items ≡ variable_names (hidden_variables t)
 
 -- the position of a chart with these steps left, with nothing emitted
 abbrev pub place : BasicType → Chart → (left : ℕ) → Position

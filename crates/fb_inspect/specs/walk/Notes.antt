@@ -1,16 +1,18 @@
 -- What is written between the lines of a trace (this project's own). Each note is a line that begins with two blanks.
-use Rattle.std.specs.Prelude.{ℕ, zero, suc, List, [], ◌∷◌, ◌++◌, map, true, false, if◌then◌else◌, Option, Some, None, codes, decimal}
-use Rattle.std.specs.List.{flat_map}
+use Rattle.std.specs.Prelude.{ℕ, zero, suc, List, [], ◌∷◌, ◌++◌, map, Bool, true, false, not, if◌then◌else◌, Option, Some, None, codes, decimal}
+use Rattle.std.specs.List.{filter, flat_map}
 use Rattle.fb_types.specs.Names.{Name}
 use Rattle.fb_types.specs.Values.{Values, same_value}
 use Rattle.fb_types.specs.Text.{value_text, reason_text}
 use Rattle.fb_types.specs.EventBlocks.{Memory, Idle, Marks, Flag, Running, Count}
 use Rattle.fb_types.specs.declared.library.BasicType.{BasicType}
 use Rattle.fb_types.specs.declared.library.Transition.{Transition}
+use Rattle.fb_types.specs.declared.library.Variable.{Variable}
 use Rattle.fb_types.specs.declared.value.Reason.{Reason}
 use Rattle.fb_types.specs.declared.value.Value.{Value}
 use Rattle.fb_text.specs.Conditions.{condition_text}
 use Rattle.fb_text.specs.Pieces.{joined}
+use Rattle.fb_wave.specs.Scopes.{is_carried}
 
 -- the end of a line
 abbrev pub ended : List ℕ
@@ -34,6 +36,14 @@ lost_if (Some e) s = lost_note s
 -- the variables that an algorithm may change: outputs and internal ones
 abbrev pub own_variables : BasicType → List Name
 own_variables t = map (λ v. v.name) (t.ports.outputs ++ t.internals)
+
+-- an output variable that no event publishes, so that no line carries it
+abbrev pub is_unpublished : BasicType → Variable → Bool
+is_unpublished t v = not (is_carried t.ports.event_outputs v)
+
+-- the variables that no line carries: output variables that no event publishes, and internal ones
+abbrev pub hidden_variables : BasicType → List Variable
+hidden_variables t = filter (is_unpublished t) t.ports.outputs ++ t.internals
 
 -- a variable with its value, if it had another before
 abbrev pub change_text : Name → (before after : Value) → List ℕ

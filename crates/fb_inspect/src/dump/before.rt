@@ -9,7 +9,7 @@ ghost use Rattle.fb_types.specs.OfSystem.{IsInstance, kind_at, path_at};
 ghost use Rattle.fb_st.specs.Frames.{values_of};
 ghost use Rattle.fb_coverage.specs.Listed.{listed};
 ghost use Rattle.fb_inspect.specs.walk.Looks.{Look, Seen};
-ghost use Rattle.fb_inspect.specs.walk.Notes.{own_variables};
+ghost use Rattle.fb_inspect.specs.walk.Notes.{hidden_variables};
 ghost use Rattle.fb_inspect.specs.walk.Walking.{IsChartKept};
 ghost use Rattle.fb_inspect.specs.dump.Inner as spec;
 ghost use Rattle.fb_inspect.specs.dump.Saved.{IsBefore, IsSaved};
@@ -48,14 +48,6 @@ pub(crate) fn inside_of<'a>(
     Some(Inside { block, chart })
 }
 
-/// The internal variables of a basic block.
-fn internals_of<'a>(inside: &Inside<'a>) -> &'a [Reference]
-    requires { inside.now.chart.now.own.items ≡ own_variables inside.now.block.now }
-    ensures { result.now ≡ variable_names inside.now.block.now.internals }
-{
-    &inside.chart.own.as_slice()[inside.block.ports.outputs.len()..]
-}
-
 /// Puts a state, if it was another one before.
 fn put_state_change(
     text: &mut Vec<u8>,
@@ -71,7 +63,7 @@ fn put_state_change(
     put_state(text, instance, after)
 }
 
-/// Puts the value of an internal variable, if it was another one before.
+/// Puts the value of a variable that no line carries, if it was another one before.
 fn put_value_change(
     text: &mut Vec<u8>,
     instance: u32,
@@ -80,7 +72,7 @@ fn put_value_change(
     after: Value,
 ) -> Result<(), AllocError>
     ensures { OnOk result (text.new.items ≡ text.old.items
-        ++ (if same_value after before then [] else spec.value_by (spec.internal_code instance index) after)) }
+        ++ (if same_value after before then [] else spec.value_by (spec.hidden_code instance index) after)) }
 {
     if are_same(after, before) {
         return Ok(());
@@ -88,7 +80,7 @@ fn put_value_change(
     put_value(text, instance, index, after)
 }
 
-/// Puts the values of internal variables that were others before.
+/// Puts the values of such variables that were others before.
 fn put_value_changes(
     text: &mut Vec<u8>,
     instance: u32,
@@ -98,7 +90,7 @@ fn put_value_changes(
 ) -> Result<(), AllocError>
     requires { length before.now ≡ length variables.now }
     ensures { (a b : Seen) → before.now ≡ map a.variables variables.now → ((n : Name) → b.variables n ≡ values_of frame.now n)
-        → OnOk result (text.new.items ≡ text.old.items ++ listed (spec.internal_change instance a b) 0 variables.now) }
+        → OnOk result (text.new.items ≡ text.old.items ++ listed (spec.hidden_change instance a b) 0 variables.now) }
 {
     for (index, variable) in variables.iter().enumerate() {
         put_value_change(text, instance, index, before[index], frame.value(variable))?;
@@ -106,7 +98,7 @@ fn put_value_changes(
     Ok(())
 }
 
-/// Puts the values of internal variables.
+/// Puts the values of such variables.
 fn put_values(
     text: &mut Vec<u8>,
     instance: u32,
@@ -114,7 +106,7 @@ fn put_values(
     frame: &Frame,
 ) -> Result<(), AllocError>
     ensures { (s : Seen) → ((n : Name) → s.variables n ≡ values_of frame.now n)
-        → OnOk result (text.new.items ≡ text.old.items ++ listed (spec.internal_begun instance s) 0 variables.now) }
+        → OnOk result (text.new.items ≡ text.old.items ++ listed (spec.hidden_begun instance s) 0 variables.now) }
 {
     for (index, variable) in variables.iter().enumerate() {
         put_value(text, instance, index, frame.value(variable))?;
@@ -122,23 +114,23 @@ fn put_values(
     Ok(())
 }
 
-/// Puts the state and the internal variables of a basic block.
+/// Puts the state of a basic block, and the variables that no line carries.
 pub(crate) fn put_inside(
     text: &mut Vec<u8>,
     instance: u32,
     inside: &Inside<'_>,
 ) -> Result<(), AllocError>
-    requires { inside.now.chart.now.own.items ≡ own_variables inside.now.block.now }
+    requires { inside.now.chart.now.hidden.items ≡ variable_names (hidden_variables inside.now.block.now) }
     ensures { (s : Seen) → IsChartKept inside.now.block.now inside.now.chart.now s
         → OnOk result (text.new.items ≡ text.old.items ++ spec.chart_begun instance s inside.now.block.now) }
 {
     let state = state_name(inside.block, inside.chart.state.state);
     put_state(text, instance, state)?;
-    let internals = internals_of(inside);
-    put_values(text, instance, internals, &inside.chart.state.frame)
+    let hidden = inside.chart.hidden.as_slice();
+    put_values(text, instance, hidden, &inside.chart.state.frame)
 }
 
-/// The state of a basic block and its internal variables, as they were.
+/// The state of a basic block and its variables that no line carries, as they were.
 #[derive(Drop)]
 pub(crate) struct Before {
     state: usize,
@@ -170,8 +162,8 @@ impl Before {
             return Ok(());
         };
         self.state = inside.chart.state.state;
-        let internals = internals_of(&inside);
-        keep_values(&mut self.values, internals, &inside.chart.state.frame)
+        let hidden = inside.chart.hidden.as_slice();
+        keep_values(&mut self.values, hidden, &inside.chart.state.frame)
     }
 
     /// Puts what is not as it was inside a basic block, and whether it lost an event.
@@ -182,7 +174,7 @@ impl Before {
         inside: &Inside<'_>,
         is_lost: bool,
     ) -> Result<(), AllocError>
-        requires own { inside.now.chart.now.own.items ≡ own_variables inside.now.block.now }
+        requires hidden { inside.now.chart.now.hidden.items ≡ variable_names (hidden_variables inside.now.block.now) }
         requires saved { (s : Seen) × IsSaved inside.now.block.now self.now s }
         ensures { (a b : Seen) → IsSaved inside.now.block.now self.now a → IsChartKept inside.now.block.now inside.now.chart.now b
             → OnOk result (text.new.items ≡ text.old.items ++ spec.chart_changes instance a b is_lost inside.now.block.now) }
@@ -190,9 +182,9 @@ impl Before {
         let before = state_name(inside.block, self.state);
         let after = state_name(inside.block, inside.chart.state.state);
         put_state_change(text, instance, before, after)?;
-        let internals = internals_of(inside);
+        let hidden = inside.chart.hidden.as_slice();
         let values = self.values.as_slice();
-        put_value_changes(text, instance, internals, values, &inside.chart.state.frame)?;
+        put_value_changes(text, instance, hidden, values, &inside.chart.state.frame)?;
         put_lost(text, instance, is_lost)
     }
 

@@ -14,6 +14,7 @@ use std::alloc::{AllocError, Global};
 
 /// Puts the scopes of the instances of a resource, each with its inside.
 fn put_instances(
+    alloc: Global,
     text: &mut Vec<u8>,
     system: &System,
     firsts: &[usize],
@@ -30,7 +31,7 @@ fn put_instances(
         if system.resource(instance) == resource {
             depth = put_instance(text, system, firsts, depth, instance)?;
             if let Some(block) = basic_type(system, instance) {
-                put_chart(text, instance, block)?;
+                put_chart(alloc, text, instance, block)?;
             }
         }
     }
@@ -71,7 +72,7 @@ pub(crate) fn put_head(
     text.extend_from_slice(b"$timescale 1 ms $end\n")?;
     for resource in 0..system.resources() {
         put_opened(text, system.resource_name(resource))?;
-        put_instances(text, system, firsts, resource)?;
+        put_instances(alloc, text, system, firsts, resource)?;
         put_closed(text, 1)?;
     }
     text.extend_from_slice(b"$enddefinitions $end\n#0\n$dumpvars\n")

@@ -1,18 +1,20 @@
 //! The lines that a dump has of the inside of basic blocks.
 
-ghost use Rattle.std.specs.Prelude.{◌≡◌, ◌++◌, OnOk, codes};
+ghost use Rattle.std.specs.Prelude.{◌≡◌, ◌++◌, IfOk, OnOk, codes, map};
 ghost use Rattle.fb_coverage.specs.Listed.{listed};
 ghost use Rattle.fb_wave.specs.Scopes.{declares, variable_kind};
 ghost use Rattle.fb_inspect.specs.dump.Inner as spec;
+ghost use Rattle.fb_inspect.specs.walk.Notes.{hidden_variables};
 
 use fb_types::{BasicType, Ty, Value, Variable};
 use fb_wave::change::in_bits;
 use fb_wave::digits::{put_binary, put_decimal, put_line};
-use std::alloc::AllocError;
+use fb_wave::signals::is_carried;
+use std::alloc::{AllocError, Global};
 
-/// Puts what the dump calls an internal variable, by the number of its instance and its index.
+/// Puts what the dump calls a variable that no line carries, by the number of its instance and its index.
 fn put_code(text: &mut Vec<u8>, instance: u32, index: usize) -> Result<(), AllocError>
-    ensures { OnOk result (text.new.items ≡ text.old.items ++ spec.internal_code instance index) }
+    ensures { OnOk result (text.new.items ≡ text.old.items ++ spec.hidden_code instance index) }
 {
     text.extend_from_slice(b"i")
         .and(put_decimal(text, u64::from(instance)))
@@ -30,14 +32,14 @@ fn front_of(ty: Ty) -> &'static [u8]
     }
 }
 
-/// Declares an internal variable.
-fn put_internal(
+/// Declares a variable that no line carries.
+fn put_hidden(
     text: &mut Vec<u8>,
     instance: u32,
     index: usize,
     variable: &Variable,
 ) -> Result<(), AllocError>
-    ensures { OnOk result (text.new.items ≡ text.old.items ++ spec.internal_declared instance index variable.now) }
+    ensures { OnOk result (text.new.items ≡ text.old.items ++ spec.hidden_declared instance index variable.now) }
 {
     text.extend_from_slice(front_of(variable.ty))?;
     put_code(text, instance, index)?;
@@ -46,16 +48,36 @@ fn put_internal(
     text.extend_from_slice(b" $end\n")
 }
 
-/// Declares the internal variables of an instance.
-fn put_internals(
+/// The variables of a type that no line carries: output variables that no event publishes, and internal ones.
+fn hidden_variables(alloc: Global, block: &BasicType) -> Result<Vec<&Variable>, AllocError>
+    ensures { IfOk result (λ hidden. map (λ v. v.now) hidden.items ≡ hidden_variables block.now) }
+{
+    let events = block.ports.event_outputs.as_slice();
+    let outputs = block.ports.outputs.as_slice();
+    let mut hidden = Vec::new(alloc);
+    for variable in outputs {
+        if is_carried(events, variable) {
+            continue;
+        }
+        hidden.push(variable)?;
+    }
+    let internals = block.internals.as_slice();
+    for variable in internals {
+        hidden.push(variable)?;
+    }
+    Ok(hidden)
+}
+
+/// Declares variables that no line carries.
+fn put_all_hidden(
     text: &mut Vec<u8>,
     instance: u32,
-    variables: &[Variable],
+    variables: &[&Variable],
 ) -> Result<(), AllocError>
-    ensures { OnOk result (text.new.items ≡ text.old.items ++ listed (spec.internal_declared instance) 0 variables.now) }
+    ensures { OnOk result (text.new.items ≡ text.old.items ++ listed (λ k v. spec.hidden_declared instance k v.now) 0 variables.now) }
 {
     for (index, variable) in variables.iter().enumerate() {
-        put_internal(text, instance, index, variable)?;
+        put_hidden(text, instance, index, variable)?;
     }
     Ok(())
 }
@@ -80,6 +102,7 @@ fn put_lost_signal(text: &mut Vec<u8>, instance: u32) -> Result<(), AllocError>
 
 /// Declares the signals of an instance of a basic type.
 pub(crate) fn put_chart(
+    alloc: Global,
     text: &mut Vec<u8>,
     instance: u32,
     block: &BasicType,
@@ -87,7 +110,8 @@ pub(crate) fn put_chart(
     ensures { OnOk result (text.new.items ≡ text.old.items ++ spec.chart_declared instance block.now) }
 {
     put_state_signal(text, instance)?;
-    put_internals(text, instance, block.internals.as_slice())?;
+    let hidden = hidden_variables(alloc, block)?;
+    put_all_hidden(text, instance, hidden.as_slice())?;
     put_lost_signal(text, instance)
 }
 
@@ -100,9 +124,9 @@ pub(crate) fn put_state(text: &mut Vec<u8>, instance: u32, state: &[u8]) -> Resu
     put_line(text, b" s", u64::from(instance))
 }
 
-/// Puts a truth value of an internal variable.
+/// Puts a truth value of a variable that no line carries.
 fn put_truth(text: &mut Vec<u8>, instance: u32, index: usize, truth: bool) -> Result<(), AllocError>
-    ensures { OnOk result (text.new.items ≡ text.old.items ++ spec.value_by (spec.internal_code instance index) (Value.Bool truth)) }
+    ensures { OnOk result (text.new.items ≡ text.old.items ++ spec.value_by (spec.hidden_code instance index) (Value.Bool truth)) }
 {
     let front: &[u8] = if truth { b"1" } else { b"0" };
     text.extend_from_slice(front)?;
@@ -110,14 +134,14 @@ fn put_truth(text: &mut Vec<u8>, instance: u32, index: usize, truth: bool) -> Re
     text.extend_from_slice(b"\n")
 }
 
-/// Puts a number of an internal variable.
+/// Puts a number of a variable that no line carries.
 fn put_number(
     text: &mut Vec<u8>,
     instance: u32,
     index: usize,
     number: i128,
 ) -> Result<(), AllocError>
-    ensures { OnOk result (text.new.items ≡ text.old.items ++ spec.value_by (spec.internal_code instance index) (Value.Whole number)) }
+    ensures { OnOk result (text.new.items ≡ text.old.items ++ spec.value_by (spec.hidden_code instance index) (Value.Whole number)) }
 {
     text.extend_from_slice(b"b")?;
     put_binary(text, in_bits(number))?;
@@ -126,14 +150,14 @@ fn put_number(
     text.extend_from_slice(b"\n")
 }
 
-/// Puts the value of an internal variable.
+/// Puts the value of a variable that no line carries.
 pub(crate) fn put_value(
     text: &mut Vec<u8>,
     instance: u32,
     index: usize,
     value: Value,
 ) -> Result<(), AllocError>
-    ensures { OnOk result (text.new.items ≡ text.old.items ++ spec.value_by (spec.internal_code instance index) value) }
+    ensures { OnOk result (text.new.items ≡ text.old.items ++ spec.value_by (spec.hidden_code instance index) value) }
 {
     match value {
         Value::Bool(truth) => put_truth(text, instance, index, truth),

@@ -107,7 +107,8 @@ fn write_with<R: BufRead, W: Write>(
 }
 
 /// Reads a trace of the system, in either form, and writes its value change dump with the inside of basic blocks. The
-/// scope of each has, after its ports, its state by name, its internal variables, and the events that it lost.
+/// scope of each has, after its ports, its state by name, its variables that no line carries, and the events that it
+/// lost.
 ///
 /// A time of the dump is a tick, in milliseconds. In a tick each signal of a port changes once, at most. What changes
 /// inside a block comes where its taking is, so a state changes as often as takings change it. All memory is that of

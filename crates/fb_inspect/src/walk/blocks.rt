@@ -1,6 +1,7 @@
 //! What the blocks of a system remember.
 
 ghost use Rattle.std.specs.Prelude.{◌≡◌, ◌≢◌, ◌++◌, IfNone, IfOk, IfSome, OnOk, Some, map, slice_get};
+ghost use Rattle.std.specs.List.{filter};
 ghost use Rattle.fb_types.specs.Blocks.{Basic, Event, variable_names};
 ghost use Rattle.fb_types.specs.declared.library.BasicType.{BasicType};
 ghost use Rattle.fb_types.specs.declared.library.BlockType.TheVariants as declared;
@@ -8,7 +9,7 @@ ghost use Rattle.fb_types.specs.OfSystem.{IsInstance, instance_count, kind_at, p
 ghost use Rattle.fb_st.specs.Frames.{values_of};
 ghost use Rattle.fb_net.specs.Opening.{AreCharts};
 ghost use Rattle.fb_inspect.specs.walk.Looks as spec;
-ghost use Rattle.fb_inspect.specs.walk.Notes.{own_variables};
+ghost use Rattle.fb_inspect.specs.walk.Notes.{hidden_variables, is_unpublished, own_variables};
 ghost use Rattle.fb_inspect.specs.OfSystem.{OpenAll, OpensAs};
 
 use fb_check_names::TypeNumber;
@@ -19,6 +20,7 @@ use fb_net::{Block, Charts, block_of};
 use fb_st::Frame;
 use fb_system::System;
 use fb_types::{BasicType, BlockType, EventKind, Items, Reference, Value, Variable};
+use fb_wave::signals::is_carried;
 use std::alloc::{AllocError, Global};
 use std::collections::BTreeMap;
 
@@ -27,7 +29,9 @@ pub struct Chart {
     pub state: BasicState,
     /// Its output and internal variables.
     pub own: Vec<Reference>,
-    /// The values of these before the last algorithm.
+    /// Its variables that no line carries: output variables that no event publishes, and internal ones.
+    pub hidden: Vec<Reference>,
+    /// The values of its own variables before the last algorithm.
     pub before: Vec<Value>,
 }
 
@@ -36,6 +40,7 @@ impl Drop for Chart {
         let Chart {
             state: _,
             own: _,
+            hidden: _,
             before: _,
         } = self;
     }
@@ -129,6 +134,40 @@ fn own_of(alloc: Global, block: &BasicType) -> Result<Vec<Reference>, AllocError
     Ok(own)
 }
 
+/// Adds the output variables that no event publishes.
+fn add_unpublished(
+    alloc: Global,
+    hidden: &mut Vec<Reference>,
+    block: &BasicType,
+) -> Result<(), AllocError>
+    ensures { OnOk result (hidden.new.items ≡ hidden.old.items ++ variable_names (filter (is_unpublished block.now) block.now.ports.outputs)) }
+{
+    let events = block.ports.event_outputs.as_slice();
+    let outputs = block.ports.outputs.as_slice();
+    let first = block.ports.inputs.len();
+    for (index, variable) in outputs.iter().enumerate() {
+        if is_carried(events, variable) {
+            continue;
+        }
+        let reference = Reference::new(variable.name.try_clone(alloc)?);
+        reference.expect_at(first.saturating_add(index));
+        hidden.push(reference)?;
+    }
+    Ok(())
+}
+
+/// The variables of a type that no line carries.
+fn hidden_of(alloc: Global, block: &BasicType) -> Result<Vec<Reference>, AllocError>
+    ensures { IfOk result (λ hidden. hidden.items ≡ variable_names (hidden_variables block.now)) }
+{
+    let mut hidden = Vec::new(alloc);
+    add_unpublished(alloc, &mut hidden, block)?;
+    let ports = &block.ports;
+    let first = ports.inputs.len().saturating_add(ports.outputs.len());
+    add_own(alloc, &mut hidden, first, block.internals.as_slice())?;
+    Ok(hidden)
+}
+
 /// The basic type of an instance, if it has one.
 pub(crate) fn basic_type(system: &System, instance: u32) -> Option<&BasicType>
     requires { IsInstance system.now instance }
@@ -184,8 +223,14 @@ fn opened(
                 unreachable!()
             };
             let own = own_of(alloc, block)?;
+            let hidden = hidden_of(alloc, block)?;
             let before = Vec::new(alloc);
-            Ok(Remembered::Basic(Chart { state, own, before }))
+            Ok(Remembered::Basic(Chart {
+                state,
+                own,
+                hidden,
+                before,
+            }))
         }
         Block::Event(state) => {
             system.facts(); // for the prover: what holds of every accepted system

@@ -1,5 +1,5 @@
 -- What changes inside a block, and what is kept of it.
-use Rattle.fb_inspect.proofs.lemmas.Common.{◌≡◌, ◌<◌, ℕ, Bool, cond, List, [], ◌∷◌, ◌++◌, length, get_or, map, Option, Some, None, refl, sym, ap, subst, ◌∙◌, append_assoc, append-nil, arith, IfNone, codes, decimal, slice_get, list_any, false_from_ne_true, Kind, Basic, Composite, Event, Name, Path, same_name, path_at, System, Values, Value, BasicType, is_loss, Look, Seen, Taking, AreKept, IsKept, Chart, Remembered, internal_change, internal_code}
+use Rattle.fb_inspect.proofs.lemmas.Common.{◌≡◌, ◌<◌, ℕ, Bool, cond, List, [], ◌∷◌, ◌++◌, length, get_or, map, Option, Some, None, refl, sym, ap, subst, ◌∙◌, append_assoc, append-nil, arith, IfNone, codes, decimal, slice_get, list_any, false_from_ne_true, Kind, Basic, Composite, Event, Name, Path, same_name, path_at, System, Values, Value, BasicType, is_loss, Look, Seen, Taking, AreKept, IsKept, Chart, Remembered, hidden_change, hidden_code}
 use Rattle.fb_types.proofs.Common.{get_or-map}
 use Rattle.fb_types.specs.Values.{same_value}
 use Rattle.fb_types.proofs.lemmas.lists.ByIndex.{element_at}
@@ -29,10 +29,10 @@ value_at xs f ns k n d is within at = ap (λ (l : List Value). get_or l k d) is 
 
 pub change_as :
     (old : List ℕ) (i k : ℕ) (n : Name) (a b : Seen) (x y : Value) → x ≡ a.variables n → y ≡ b.variables n
-    → old ++ cond (same_value y x) [] (value_by (internal_code i k) y) ≡ old ++ internal_change i a b k n
+    → old ++ cond (same_value y x) [] (value_by (hidden_code i k) y) ≡ old ++ hidden_change i a b k n
 change_as old i k n a b x y was now =
-    ap (λ (v : Value). old ++ cond (same_value y v) [] (value_by (internal_code i k) y)) was
-    ∙ ap (λ (v : Value). old ++ cond (same_value v (a.variables n)) [] (value_by (internal_code i k) v)) now
+    ap (λ (v : Value). old ++ cond (same_value y v) [] (value_by (hidden_code i k) y)) was
+    ∙ ap (λ (v : Value). old ++ cond (same_value v (a.variables n)) [] (value_by (hidden_code i k) v)) now
 
 -- ---- Kinds
 

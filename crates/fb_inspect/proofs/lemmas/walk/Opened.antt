@@ -17,7 +17,7 @@ use Rattle.fb_net.proofs.lemmas.opening.Components.{out_roll, own_basic, own_eve
 use Rattle.fb_net.proofs.lemmas.values.Sampling.{ports-of_kind}
 use Rattle.fb_system.specs.Stimuli.{initial_inputs}
 use Rattle.fb_inspect.specs.walk.Looks.{first_due}
-use Rattle.fb_inspect.specs.walk.Notes.{own_variables}
+use Rattle.fb_inspect.specs.walk.Notes.{hidden_variables, own_variables}
 use Rattle.fb_inspect.specs.walk.Walking.{AreUnused, IsChartKept, OpenAll, OpensAs, flag_at}
 use Rattle.fb_inspect.specs.declared.walk.blocks.Remembered.TheVariants as kept
 use Rattle.fb_inspect.proofs.lemmas.reactions.Sampled.{inputs_fit}
@@ -70,13 +70,13 @@ module _ (sys : System) (k : ℕ) where
   same_basic t u e = cc
 
   pub basic_opens :
-      (t : BasicType) (c : Chart) → sys.kind path ≡ Some (Basic t) → Represents sys path (own_of (block.Basic c.state)) opening → c.own.items ≡ own_variables t → OpensAs sys k (kept.Basic c)
-  basic_opens t c is h own =
+      (t : BasicType) (c : Chart) → sys.kind path ≡ Some (Basic t) → Represents sys path (own_of (block.Basic c.state)) opening → c.own.items ≡ own_variables t → c.hidden.items ≡ variable_names (hidden_variables t) → OpensAs sys k (kept.Basic c)
+  basic_opens t c is h own hidden =
       let one = basic_there c.state h in
       let stands = subst (λ (u : BasicType). BasicRepresents u c.state opening.memory opening.variables) (same_basic one.0 t (sym one.1 ∙ is)) one.2 in
       let is_kept : IsChartKept t c opens = record {
         sound = stands.sound;
-        chart = record { block = stands.block; own = own };
+        chart = record { block = stands.block; own = own; hidden = hidden };
         memory_is = stands.memory;
         variables_are = stands.variables;
       } in

@@ -74,7 +74,7 @@ follow-requires-clause-chart g c =
     let sys = system_of c.args.fixed.now.table.now.system.now in
     let p = path_at sys c.args.line.now.instance in
     let is = chart_kept_at (sys.kind p) c.in-Some.block.now c.args.chart.now c.requires.seen c.in-Some.ensures.basic c.requires.kept in
-    record { block = c.begin.ensures.block; own = is.chart.own }
+    record { block = c.begin.ensures.block; own = is.chart.own; hidden = is.chart.hidden }
 
 pub follow-requires-clause-taking : goal.follow-requires-clause-taking
 follow-requires-clause-taking g c =

@@ -6,7 +6,7 @@ use Rattle.fb_inspect.proofs.dump.head.put_insides_begun.Goals as goal
 use Rattle.fb_inspect.proofs.dump.head.put_insides_begun.Goals.{in-Some+in_ok-put_inside, in_default}
 
 pub put_inside-requires : goal.put_inside-requires
-put_inside-requires c = (c.in-Some.ensures.some (opening_look (system_of c.args.system.now)) c.requires).1.chart.own
+put_inside-requires c = (c.in-Some.ensures.some (opening_look (system_of c.args.system.now)) c.requires).1.chart.hidden
 
 pub loop-index-preserved : goal.loop-index-preserved
 loop-index-preserved c =

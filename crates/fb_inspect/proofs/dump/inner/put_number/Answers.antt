@@ -2,7 +2,7 @@ use Rattle.std.proofs.Common.{◌≡◌, ◌∷◌, [], ◌++◌, ℕ, List, cod
 use Rattle.fb_types.specs.declared.value.Value.TheVariants as value
 use Rattle.fb_wave.specs.Changes.{binary, in_bits, number_changed}
 use Rattle.fb_wave.proofs.lemmas.Handing.{on_put}
-use Rattle.fb_inspect.specs.dump.Inner.{internal_code}
+use Rattle.fb_inspect.specs.dump.Inner.{hidden_code}
 use Rattle.fb_inspect.proofs.dump.inner.put_number.Goals as goal
 
 number_put : (o a n b k e : List ℕ) → ((((o ++ a) ++ n) ++ b) ++ k) ++ e ≡ o ++ ((a ++ n ++ b ++ k) ++ e)
@@ -11,7 +11,7 @@ number_put o a n b k e = simp append_assoc
 pub returns : goal.returns
 returns c =
     let old = c.args.text.now.items in
-    let code : List ℕ = internal_code c.args.instance c.args.index in
+    let code : List ℕ = hidden_code c.args.instance c.args.index in
     let bits : List ℕ = binary c.in_bits.result in
     let is : c.in_bits.result ≡ in_bits (value.Whole c.args.number) = rw (to_z-of_z c.ranges.number) at c.in_bits.ensures in
     on_put c.extend_from_slice-3.result _ _ _ _ c.extend_from_slice-3.ensures.items

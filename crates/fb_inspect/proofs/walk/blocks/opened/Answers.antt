@@ -19,7 +19,7 @@ returns-in-Basic-clause-opens c =
     let sys = system_of c.args.system.now in
     let p = path_at sys c.args.instance in
     basic_opens sys c.args.instance c.in-Some.block.now _ c.in-Some.ensures.basic
-    (subst (λ (b : Block). Represents sys p (net.own_of b) (opening_block sys p)) c.in-Basic.is c.in_ok-state.ensures.represents) c.in_ok-own-in-Basic.ensures
+    (subst (λ (b : Block). Represents sys p (net.own_of b) (opening_block sys p)) c.in-Basic.is c.in_ok-state.ensures.represents) c.in_ok-own-in-Basic.ensures c.in_ok-hidden-in-Basic.ensures
 
 pub returns-in-Event-clause-opens : goal.returns-in-Event-clause-opens
 returns-in-Event-clause-opens c =

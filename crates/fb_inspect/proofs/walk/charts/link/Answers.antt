@@ -151,10 +151,10 @@ pub note_cleared-requires : goal.note_cleared-requires
 note_cleared-requires g c = subst (λ (o : Option ℕ). IfSome o (λ k. k < length c.args.taking.now.block.now.transitions)) c.in-Ok-Some.field-0-is c.in-Ok-Some.ensures.within
 
 pub perform_all-requires-clause-chart : goal.perform_all-requires-clause-chart
-perform_all-requires-clause-chart g c = record { block = c.in-Ok-Some.ensures.block; own = c.requires.chart.own }
+perform_all-requires-clause-chart g c = record { block = c.in-Ok-Some.ensures.block; own = c.requires.chart.own; hidden = c.requires.chart.hidden }
 
 pub returns-in-Err-clause-chart : goal.returns-in-Err-clause-chart
-returns-in-Err-clause-chart g c = record { block = c.in-Err.ensures.block; own = c.requires.chart.own }
+returns-in-Err-clause-chart g c = record { block = c.in-Err.ensures.block; own = c.requires.chart.own; hidden = c.requires.chart.hidden }
 
 pub returns-in-Err-clause-less : goal.returns-in-Err-clause-less
 returns-in-Err-clause-less g c = λ same. absurd (cc)
@@ -166,7 +166,7 @@ pub returns-in-Err-clause-next : goal.returns-in-Err-clause-next
 returns-in-Err-clause-next g c = c.requires.next
 
 pub returns-in_ok-note_lost-in-Ok-None-clause-chart : goal.returns-in_ok-note_lost-in-Ok-None-clause-chart
-returns-in_ok-note_lost-in-Ok-None-clause-chart g c = record { block = c.in-Ok-None.ensures.block; own = c.requires.chart.own }
+returns-in_ok-note_lost-in-Ok-None-clause-chart g c = record { block = c.in-Ok-None.ensures.block; own = c.requires.chart.own; hidden = c.requires.chart.hidden }
 
 pub returns-in_ok-note_lost-in-Ok-None-clause-less : goal.returns-in_ok-note_lost-in-Ok-None-clause-less
 returns-in_ok-note_lost-in-Ok-None-clause-less g c = λ same. absurd (cc)

@@ -74,7 +74,7 @@ returns-in_err-end-clause-refused g c = λ a others at names plain.
     none_passed _ _ _ c.from_residual-in_err-end.ensures.1 c.in_err-end.ensures.fault
 
 pub returns-clause-chart : goal.returns-clause-chart
-returns-clause-chart g c = on_any c.and.result _ (record { block = c.acted.ensures.block; own = c.requires.chart.own })
+returns-clause-chart g c = on_any c.and.result _ (record { block = c.acted.ensures.block; own = c.requires.chart.own; hidden = c.requires.chart.hidden })
 
 pub returns-clause-state : goal.returns-clause-state
 returns-clause-state g c = c.acted.ensures.state

@@ -7,9 +7,6 @@ pub returns-in_default : goal.returns-in_default
 returns-in_default c = λ look are.
     before_none ((system_of c.args.system.now).kind (path_at (system_of c.args.system.now) c.args.instance)) _ _ (c.in_default.ensures.none look are)
 
-pub internals_of-internals-requires : goal.internals_of-internals-requires
-internals_of-internals-requires c = (c.in-Some.ensures.some c.requires.kept.0 c.requires.kept.1).1.chart.own
-
 pub returns : goal.returns
 returns c = λ look are.
     let sys = system_of c.args.system.now in
@@ -23,5 +20,5 @@ returns c = λ look are.
     before_of (sys.kind p) x.block.now _ s one.0
     (record {
       state_is = ap state_of one.1.memory_is;
-      values_are = e ∙ ap (λ (f : Values). map f c.internals_of-internals.result.now) (sym all) ∙ ap (map s.variables) c.internals_of-internals.ensures;
+      values_are = e ∙ ap (λ (f : Values). map f c.as_slice-hidden.result.now) (sym all) ∙ ap (map s.variables) (c.as_slice-hidden.ensures.value ∙ one.1.chart.hidden);
     }))

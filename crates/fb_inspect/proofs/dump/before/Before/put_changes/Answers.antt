@@ -4,8 +4,8 @@ use Rattle.fb_inspect.specs.dump.Inner.{chart_changes}
 use Rattle.fb_inspect.proofs.lemmas.dump.Changing.{chart_text, no_chart_text, saved_of}
 use Rattle.fb_inspect.proofs.dump.before.Before.put_changes.Goals as goal
 
-pub put_chart_changes-requires-clause-own : goal.put_chart_changes-requires-clause-own
-put_chart_changes-requires-clause-own c = (c.in-Some.ensures.some c.requires.kept.0 c.requires.kept.1).1.chart.own
+pub put_chart_changes-requires-clause-hidden : goal.put_chart_changes-requires-clause-hidden
+put_chart_changes-requires-clause-hidden c = (c.in-Some.ensures.some c.requires.kept.0 c.requires.kept.1).1.chart.hidden
 
 pub put_chart_changes-requires-clause-saved : goal.put_chart_changes-requires-clause-saved
 put_chart_changes-requires-clause-saved c =

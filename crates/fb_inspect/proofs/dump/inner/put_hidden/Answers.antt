@@ -1,7 +1,7 @@
-use Rattle.fb_inspect.proofs.lemmas.Common.{◌≡◌, ◌++◌, List, ℕ, codes, append_assoc, ap, ◌∙◌, internal_code}
+use Rattle.fb_inspect.proofs.lemmas.Common.{◌≡◌, ◌++◌, List, ℕ, codes, append_assoc, ap, ◌∙◌, hidden_code}
 use Rattle.fb_wave.specs.Scopes.{variable_kind}
 use Rattle.fb_wave.proofs.lemmas.Handing.{on_put}
-use Rattle.fb_inspect.proofs.dump.inner.put_internal.Goals as goal
+use Rattle.fb_inspect.proofs.dump.inner.put_hidden.Goals as goal
 
 declared : (o v k b i n e f : List ℕ) → ((((o ++ (v ++ k ++ b)) ++ i) ++ b) ++ n) ++ (e ++ f) ≡ o ++ ((v ++ k ++ b ++ i ++ b ++ n ++ e) ++ f)
 declared o v k b i n e f = simp append_assoc
@@ -9,7 +9,7 @@ declared o v k b i n e f = simp append_assoc
 pub returns : goal.returns
 returns c =
     let old = c.args.text.now.items in
-    let code : List ℕ = internal_code c.args.instance c.args.index in
+    let code : List ℕ = hidden_code c.args.instance c.args.index in
     let kind : List ℕ = variable_kind c.args.variable.now.ty in
     let name : List ℕ = c.args.variable.now.name in
     on_put c.extend_from_slice-4.result _ _ _ _ c.extend_from_slice-4.ensures.items
