@@ -16,8 +16,8 @@ pub(crate) fn cut(text: &[u8]) -> Option<(&[u8], &[u8])>
     ensures parts { IfSome result (λ p. text.now ≡ p.0.now ++ p.1.now) }
     ensures exact { option_map (λ p. (p.0.now, p.1.now)) result ≡ spec.cut text.now }
 {
-    for at in 0..text.len() {
-        if is_end(text[at]) {
+    for (at, byte) in text.iter().enumerate() {
+        if is_end(*byte) {
             return Some((&text[..at], &text[at..]));
         }
     }
@@ -57,8 +57,8 @@ pub(crate) fn after_blank(text: &[u8]) -> Option<&[u8]>
 pub(crate) fn split_at_mark(text: &[u8], mark: u8) -> Option<(&[u8], &[u8])>
     ensures { option_map (λ p. (p.0.now, p.1.now)) result ≡ spec.split_at_mark mark text.now }
 {
-    for at in 0..text.len() {
-        if text[at] == mark {
+    for (at, byte) in text.iter().enumerate() {
+        if *byte == mark {
             return Some((&text[..at], &text[at + 1..]));
         }
     }
