@@ -23,7 +23,7 @@ pub(crate) type Source = (Kind, usize, usize);
 /// so each is gone through once for all that are in it.
 #[derive(Drop)]
 pub(crate) struct Contents<'a> {
-    alloc: Global,
+    pub(crate) alloc: Global,
     /// The basic type and its algorithm that has these statements.
     stated: Option<(usize, usize)>,
     statements: Vec<Standing<'a>>,

@@ -2,6 +2,7 @@
 //! was expected.
 
 use crate::contents::Contents;
+use crate::operand_messages::kind_or_why;
 use fb_check::types::{
     Typing, internals_of, port_type, value_kind_of, value_kind_of_type, variable_type,
 };
@@ -13,6 +14,7 @@ use fb_types::{
     BasicType, BlockType, Expr, Instance, Name, Network, PortName, Ports, Stmt, Ty, Value,
     ValueKind, instance_named,
 };
+use std::alloc::Global;
 
 /// Adds a value, and that one of the type is expected.
 fn push_expected(text: &mut Text, value: Value, ty: Ty) {
@@ -26,18 +28,25 @@ fn push_expected(text: &mut Text, value: Value, ty: Ty) {
     }
 }
 
-/// Adds words for an expression, the kind that is expected, and its kind.
-fn push_kind(text: &mut Text, basic: &BasicType, words: &str, required: ValueKind, expr: &Expr) {
+/// Adds words for an expression, the kind that is expected, and its kind, or what is wrong inside if it has none.
+fn push_kind(
+    alloc: Global,
+    text: &mut Text,
+    basic: &BasicType,
+    (words, required): (&str, ValueKind),
+    expr: &Expr,
+) {
+    text.words(words);
     let expected = match required {
-        ValueKind::TruthValue => ": a truth value is expected, and ",
-        ValueKind::WholeNumber => ": a number is expected, and ",
+        ValueKind::TruthValue => ": a truth value is expected, and it is a number",
+        ValueKind::WholeNumber => ": a number is expected, and it is a truth value",
     };
-    let found = match value_kind_of(expr, basic) {
-        Some(ValueKind::TruthValue) => "it is a truth value",
-        Some(ValueKind::WholeNumber) => "it is a number",
-        None => "an operand or an argument in it is wrong",
-    };
-    text.phrase(&[words, expected, found]);
+    if value_kind_of(expr, basic).is_some() {
+        text.words(expected);
+    } else {
+        text.words(": ");
+        kind_or_why(alloc, text, basic, expr);
+    }
 }
 
 /// Adds the words for a statement that come before those for its part.
@@ -94,7 +103,7 @@ fn required_of(basic: &BasicType, stmt: &Stmt, part: StatementPart) -> ValueKind
 }
 
 /// Adds what is wrong with a part of a statement.
-fn push_part(text: &mut Text, basic: &BasicType, stmt: &Stmt, part: StatementPart) {
+fn push_part(alloc: Global, text: &mut Text, basic: &BasicType, stmt: &Stmt, part: StatementPart) {
     push_front(text, stmt, part);
     match (stmt, part) {
         (_, StatementPart::Exit) => text.words("EXIT: a loop around it is expected"),
@@ -108,7 +117,7 @@ fn push_part(text: &mut Text, basic: &BasicType, stmt: &Stmt, part: StatementPar
         _ => {
             if let Some(expr) = expression_of(stmt, part) {
                 let required = required_of(basic, stmt, part);
-                push_kind(text, basic, words_of(part), required, expr);
+                push_kind(alloc, text, basic, (words_of(part), required), expr);
             }
         }
     }
@@ -139,10 +148,16 @@ fn push_parameter(text: &mut Text, ports: Option<&Ports>, instance: &Instance, i
 }
 
 /// Adds that the guard of the transition at an index is no truth value, if it has one.
-fn push_guard(text: &mut Text, basic: &BasicType, transition: usize) {
+fn push_guard(alloc: Global, text: &mut Text, basic: &BasicType, transition: usize) {
     if let Some(transition) = basic.transitions.get(transition) {
         if let Some(guard) = &transition.condition.guard {
-            push_kind(text, basic, ": guard", ValueKind::TruthValue, guard);
+            push_kind(
+                alloc,
+                text,
+                basic,
+                (": guard", ValueKind::TruthValue),
+                guard,
+            );
         }
     }
 }
@@ -161,7 +176,7 @@ fn push_statement<'a>(
     let body = &declared.body;
     if let Some(found) = contents.statement(text, (block, algorithm), body, statement) {
         text.words(": ");
-        push_part(text, basic, found, part);
+        push_part(contents.alloc, text, basic, found, part);
     }
 }
 
@@ -197,7 +212,7 @@ pub(crate) fn push_kind_wrong<'a>(
         }
         KindWrongAt::Guard { block, transition } => {
             if let Some(basic) = basic_at(library, block) {
-                push_guard(text, basic, transition);
+                push_guard(contents.alloc, text, basic, transition);
             }
         }
         KindWrongAt::Statement {

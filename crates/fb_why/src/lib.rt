@@ -28,6 +28,7 @@ mod kind_messages;
 pub mod listing;
 pub mod location;
 pub mod place;
+mod operand_messages;
 mod refused;
 pub mod rules_messages;
 pub mod stimuli_messages;
