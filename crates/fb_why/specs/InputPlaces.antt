@@ -1,13 +1,17 @@
 -- Where a location is in the deployment or in the stimuli (this project's own).
-use Rattle.std.specs.Prelude.{◌≡◌, ℕ, ◌+◌, ◌-◌, nat_lt, if◌then◌else◌, List, [], ◌∷◌, length, Option, Some, None, Ok, IfSome}
+use Rattle.std.specs.Prelude.{◌≡◌, ◌⊎◌, ℕ, ◌+◌, ◌-◌, nat_lt, if◌then◌else◌, List, [], ◌∷◌, ◌++◌, Contains, codes, length, Option, Some, None, Ok, IfSome}
 use Rattle.fb_types.specs.declared.deploy.Plan.{Plan}
 use Rattle.fb_types.specs.declared.deploy.ResourceEntry.{ResourceEntry}
 use Rattle.fb_read.specs.declared.token.Span.{Span}
 use Rattle.fb_inputs.specs.Deployments.{deploy_of}
-use Rattle.fb_inputs.specs.NearSpans.{IsNearInStimuli}
+use Rattle.fb_inputs.specs.NearSpans.{IsHeadingAt, IsNamedKeyAt, IsNearInStimuli}
 use Rattle.fb_inputs.specs.declared.deploy_location.DeployKey.{DeployKey}
 use Rattle.fb_inputs.specs.declared.deploy_location.DeployKey.TheVariants as key
+use Rattle.fb_inputs.specs.declared.deploy_location.DeployLocation.TheVariants as in_document
+use Rattle.fb_inputs.specs.declared.deploy_location.TableFault.TheVariants as why
+use Rattle.fb_inputs.specs.declared.deploy_location.TableLocation.{TableLocation}
 use Rattle.fb_inputs.specs.declared.deploy_location.TableLocation.TheVariants as table
+use Rattle.fb_read_positions.specs.Places.{IsPlace, IsStretch}
 use Rattle.fb_inputs.specs.Positions.{deploy_position, stimuli_position}
 use Rattle.fb_inputs.specs.declared.position.DeployPosition.{DeployPosition}
 use Rattle.fb_inputs.specs.declared.position.DeployPosition.TheVariants as in_deploy
@@ -38,7 +42,31 @@ use Rattle.fb_check_names.specs.declared.location.NotMappedAt.TheVariants as not
 abbrev pub Text : Type 0
 Text = List ℕ
 
+-- ---- Keys that a table may not have
+
+-- the keys that a table may have
+abbrev pub known_keys : TableLocation → List Text
+known_keys table.Top = codes "resource" ∷ codes "link" ∷ []
+known_keys (table.Resource r) = codes "device" ∷ codes "name" ∷ codes "instances" ∷ []
+known_keys (table.Link l) = codes "from" ∷ codes "to" ∷ codes "latency" ∷ codes "latencies" ∷ []
+
+-- The bytes are the two brackets that begin the heading of the first array of tables at a key of the document.
+abbrev pub IsArrayAt : Text → (key : Text) → Span → Type 0
+IsArrayAt text key span = IsHeadingAt text (codes "[[" ++ key ++ codes "]]") 0 span
+
+-- The bytes are those of the key, or of the heading of an array of tables at this key of the document.
+abbrev pub IsKeyOrHeading : Text → TableLocation → (key : Text) → Span → Type 0
+IsKeyOrHeading text t key span = IsNamedKeyAt text t key span ⊎ ((t ≡ table.Top) × IsArrayAt text key span)
+
+-- The same for a key that the table may not have.
+abbrev pub IsFurtherAt : Text → TableLocation → Span → Type 0
+IsFurtherAt text t span = (key : Text) × (¬ Contains (known_keys t) key) × IsKeyOrHeading text t key span
+
 -- ---- Positions
+
+-- where a table begins
+abbrev pub begin_of : TableLocation → InputPosition
+begin_of t = input.Deployment (in_deploy.Table t)
 
 -- an instance that a resource lists
 abbrev pub listed : (resource instance : ℕ) → InputPosition
@@ -90,6 +118,7 @@ position_of (found.Check location) = checked_position location
 abbrev pub row_of : Option InputPosition → StimuliPosition
 row_of (Some (input.Stimuli position)) = position
 row_of (Some (input.Deployment position)) = in_stimuli.Start
+row_of (Some (input.Further span)) = in_stimuli.Start
 row_of None = in_stimuli.Start
 
 -- the position of the name at an index in the lists of resources, one after another, by the index of the first one
@@ -103,9 +132,14 @@ abbrev pub IsListedIn : (deploy : Option Text) → (index : ℕ) → InputPositi
 IsListedIn deploy index position =
     (bytes : Text) × (plan : Plan) × (deploy ≡ Some bytes) × (deploy_of bytes ≡ Ok plan) × (listed_at 0 plan.resources index ≡ Some position)
 
--- The location is shown at the position.
+-- The position is that of a key which the table of the deployment may not have.
+abbrev pub IsFurtherIn : (deploy : Option Text) → TableLocation → InputPosition → Type 0
+IsFurtherIn deploy t position = (bytes : Text) × (span : Span) × (deploy ≡ Some bytes) × IsFurtherAt bytes t span × (position ≡ input.Further span)
+
+-- The location is shown at the position. A further key is shown at its table if it is not found.
 abbrev pub IsInputPosition : (deploy : Option Text) → FindingLocation → InputPosition → Type 0
 IsInputPosition deploy (found.Check (at.NotMapped (not_mapped.Again pair))) position = IsListedIn deploy pair.1 position
+IsInputPosition deploy (found.Deployment (in_document.Shape t why.Further)) position = IsFurtherIn deploy t position ⊎ (position ≡ begin_of t)
 IsInputPosition deploy location position = position_of location ≡ Some position
 
 -- ---- Places
@@ -115,6 +149,11 @@ abbrev pub IsPlaceInDeploy : (deploy : Option Text) → DeployPosition → Input
 IsPlaceInDeploy deploy position place =
     (bytes : Text) × (deploy ≡ Some bytes) × (place.file ≡ file.Deployment) × IsDeployPlace bytes position place.at
 
+-- The place is that of the bytes in the deployment that is given.
+abbrev pub IsPlaceOfBytes : (deploy : Option Text) → Span → InputPlace → Type 0
+IsPlaceOfBytes deploy span place =
+    (bytes : Text) × (deploy ≡ Some bytes) × (place.file ≡ file.Deployment) × IsStretch span.start span.end place.at × IsPlace bytes place.at
+
 -- The place is that of the position in the stimuli that are given.
 abbrev pub IsPlaceInRows : (stimuli : Option Text) → StimuliPosition → InputPlace → Type 0
 IsPlaceInRows stimuli position place =
@@ -122,6 +161,7 @@ IsPlaceInRows stimuli position place =
 
 abbrev pub IsPlaceIn : (deploy stimuli : Option Text) → InputPosition → InputPlace → Type 0
 IsPlaceIn deploy stimuli (input.Deployment position) place = IsPlaceInDeploy deploy position place
+IsPlaceIn deploy stimuli (input.Further span) place = IsPlaceOfBytes deploy span place
 IsPlaceIn deploy stimuli (input.Stimuli position) place = IsPlaceInRows stimuli position place
 
 -- The bytes are at the position, or near it, in the stimuli that are given.

@@ -1,10 +1,11 @@
 //! The texts that say where a deployment is refused.
 
+use crate::further::{further_key, item_at, known_keys, table_at};
 use fb_inputs::{DeployKey, DeployLocation, TableFault, TableLocation};
 use fb_read_positions::Text;
 use fb_read_positions::habits::is_keyword;
 use std::alloc::{AllocError, Global};
-use toml::{Table, Value};
+use toml::Table;
 
 /// What is wrong with an entry that is not the first.
 const NOT_LATER: &str =
@@ -116,15 +117,6 @@ fn kind_of(key: DeployKey) -> &'static str {
     }
 }
 
-/// The keys that a table may have.
-fn known_keys(table: TableLocation) -> &'static [&'static str] {
-    match table {
-        TableLocation::Top => &["resource", "link"],
-        TableLocation::Resource(_) => &["device", "name", "instances"],
-        TableLocation::Link(_) => &["from", "to", "latency", "latencies"],
-    }
-}
-
 /// Adds the first unknown key of a table in a document.
 fn push_unknown(alloc: Global, text: &mut Text, bytes: &[u8], table: TableLocation) {
     match toml::table_from_slice(alloc, bytes) {
@@ -135,16 +127,6 @@ fn push_unknown(alloc: Global, text: &mut Text, bytes: &[u8], table: TableLocati
         }
         Err(_) => text.give_up(),
     }
-}
-
-/// Whether a word is one of these.
-fn is_among(word: &str, known: &[&str]) -> bool {
-    for other in known {
-        if *other == word {
-            return true;
-        }
-    }
-    false
 }
 
 /// Adds the keys that a table may have.
@@ -160,33 +142,10 @@ fn push_known(text: &mut Text, known: &[&str]) {
 /// Adds the first key of a table that is none of these, and these.
 pub(crate) fn push_further(text: &mut Text, keys: &Table, known: &[&str]) {
     text.words("there is a further key");
-    for (key, _) in keys {
-        if !is_among(key.as_str(), known) {
-            text.words(", ");
-            text.quoted(key.as_str().as_bytes());
-            push_known(text, known);
-            return;
-        }
-    }
-}
-
-/// The table at a location.
-fn table_at(keys: &Table, table: TableLocation) -> Option<&Table> {
-    match table {
-        TableLocation::Top => Some(keys),
-        TableLocation::Resource(resource) => item_at(keys, "resource", resource),
-        TableLocation::Link(link) => item_at(keys, "link", link),
-    }
-}
-
-/// The table at an index of the array of tables at a key.
-pub(crate) fn item_at<'a>(keys: &'a Table, key: &str, index: usize) -> Option<&'a Table> {
-    let Some(Value::Array(items)) = keys.get(key) else {
-        return None;
-    };
-    match items.get(index) {
-        Some(Value::Table(found)) => Some(found),
-        _ => None,
+    if let Some(key) = further_key(keys, known) {
+        text.words(", ");
+        text.quoted(key.as_bytes());
+        push_known(text, known);
     }
 }
 

@@ -1,18 +1,20 @@
 //! Where a location is in the deployment or in the stimuli.
 
-ghost use Rattle.std.specs.Prelude.{◌≡◌, IfOk, IfSome, map, option_map};
+ghost use Rattle.std.specs.Prelude.{◌≡◌, ◌⊎◌, IfOk, IfSome, map, option_map};
 ghost use Rattle.std.specs.List.{AllZip};
 ghost use Rattle.fb_why.specs.InputPlaces as spec;
-ghost use Rattle.fb_why.specs.InputPlaces.{IsInputPosition, IsListedIn, IsNearIn, IsPlaceFor, IsPlaceOf, IsShownAt};
+ghost use Rattle.fb_why.specs.InputPlaces.{IsFurtherIn, IsInputPosition, IsListedIn, IsNearIn, IsPlaceFor, IsPlaceOf, IsShownAt};
 ghost use Rattle.fb_why.specs.InputStretches.{IsDeployPlace};
 
+use crate::further::further_span;
 use crate::location::FindingLocation;
 use crate::place::PlacedFinding;
 use fb_check::{Limit, Location, StimulusFault, StimulusLocation};
 use fb_check_names::{GivenTwice, NotMappedAt, Side, UnknownName};
 use fb_inputs::{
-    DeployKey, DeployPosition, InputError, StimuliPosition, TableLocation, deploy_position,
-    nearest_in_deployment, nearest_spans, read_deploy, stimuli_position,
+    DeployKey, DeployLocation, DeployPosition, InputError, StimuliPosition, TableFault,
+    TableLocation, deploy_position, nearest_in_deployment, nearest_spans, read_deploy,
+    stimuli_position,
 };
 use fb_read::token::Span;
 use fb_read_positions::{Place, place_between};
@@ -40,6 +42,8 @@ pub struct InputPlace {
 pub enum InputPosition {
     Deployment(DeployPosition),
     Stimuli(StimuliPosition),
+    /// The bytes of a key that its table of the deployment may not have.
+    Further(Span),
 }
 
 /// The place of a position of a deployment: where its key or its table is, or else the beginning of the text.
@@ -173,6 +177,20 @@ fn listed_in(
     }
 }
 
+/// The position of the first key that a table of a deployment may not have, or else that of the table.
+fn further_position(alloc: Global, deploy: Option<&[u8]>, table: TableLocation) -> InputPosition
+    ensures { IsFurtherIn (option_map (λ b. b.now) deploy.entry) table result ⊎ (result ≡ spec.begin_of table) }
+{
+    let found = match deploy {
+        Some(bytes) => further_span(alloc, bytes, table),
+        None => None,
+    };
+    match found {
+        Some(span) => InputPosition::Further(span),
+        None => InputPosition::Deployment(DeployPosition::Table(table)),
+    }
+}
+
 /// The position at which a location is shown, if it is one in the deployment or in the stimuli.
 fn input_position(
     alloc: Global,
@@ -185,6 +203,12 @@ fn input_position(
         FindingLocation::Check(Location::NotMapped(NotMappedAt::Again((_, index)))) => {
             listed_in(alloc, deploy, index)
         }
+        FindingLocation::Deployment(
+            DeployLocation::Shape {
+                table,
+                fault: TableFault::Further,
+            },
+        ) => Ok(Some(further_position(alloc, deploy, table))),
         _ => Ok(position_of(location)),
     }
 }
@@ -211,7 +235,9 @@ fn row_of(position: Option<InputPosition>) -> StimuliPosition
 {
     match position {
         Some(InputPosition::Stimuli(position)) => position,
-        Some(InputPosition::Deployment(_)) | None => StimuliPosition::Start,
+        Some(InputPosition::Deployment(_) | InputPosition::Further(_)) | None => {
+            StimuliPosition::Start
+        }
     }
 }
 
@@ -242,6 +268,13 @@ fn place_of(
     match position? {
         InputPosition::Deployment(position) => {
             let at = place_in_deployment(deploy?, position)?;
+            Some(InputPlace {
+                file: InputFile::Deployment,
+                at,
+            })
+        }
+        InputPosition::Further(span) => {
+            let at = place_between(deploy?, span.start, span.end)?;
             Some(InputPlace {
                 file: InputFile::Deployment,
                 at,

@@ -9,8 +9,8 @@
 //! with its line and column, at which a declaration is refused. The wording of the texts is not part of any contract.
 //!
 //! Read in this order: `explanation` and `table`; `cause` and `location`, what each number is about, and where. Then the
-//! bytes: `find`, the refusal of a text and its location. Then a location as text: the modules `.._messages`, with
-//! `contents`. Then `refused` and `declared`, locations in bytes and in what they declare; `place` and `input_place`,
+//! bytes: `find`, the refusal of a text and its location; `further`, keys that a table may not have. Then a location as
+//! text: the modules `.._messages`, with `contents`. Then `refused` and `declared`, locations in bytes and in what they declare; `place` and `input_place`,
 //! where a location is in its text; `listing` and `finding`, which reads the bytes again. All of this runs only after
 //! a refusal.
 #![tactic(auto)]
@@ -23,12 +23,13 @@ pub mod explanation;
 pub mod find;
 pub mod finding;
 mod flaw_messages;
+mod further;
 pub mod input_place;
 mod kind_messages;
 pub mod listing;
 pub mod location;
-pub mod place;
 mod operand_messages;
+pub mod place;
 mod refused;
 pub mod rules_messages;
 pub mod stimuli_messages;

@@ -2,7 +2,8 @@
 
 ghost use Rattle.std.specs.Prelude.{◌≤◌, length};
 
-use crate::deployment_messages::{item_at, push_further};
+use crate::deployment_messages::push_further;
+use crate::further::item_at;
 use fb_expect::{
     PatternFault, PatternPart, RuleFault, RuleKey, RulesLocation, key_text, pattern_fault,
 };
