@@ -155,8 +155,8 @@ def expected_result(case):
         return 0, b"accepted\n", fields.get("lint", b"")
     if answer == b"same":
         return 0, b"", b""
-    if answer.startswith(b"TAP "):
-        return int(b"\nnot ok " in answer), answer, b""
+    if answer.startswith((b"TAP ", b"<?xml ")):
+        return int(b"\nnot ok " in answer or b"<failure " in answer), answer, b""
     if answer.startswith(b"line "):
         return 1, answer, b""
     stops = {"run": answer.split(b"\n")[-2].startswith(b"stop "), "session": b"\nstop " in b"\n" + answer}
