@@ -6,4 +6,5 @@ pub mod Positions
 pub mod Places
 pub mod InputPlaces
 pub mod Findings
+pub mod Roots
 pub mod Listings

@@ -9,11 +9,13 @@ use Rattle.fb_types.specs.Accepted.{IsLeastFault}
 use Rattle.fb_check_names.specs.TwiceLists.{twice_all}
 use Rattle.fb_check.specs.Faults.{number_of}
 use Rattle.fb_check.specs.Refusals as refusal
+use Rattle.fb_check.specs.types.Unknowns.{unknown_all}
 use Rattle.fb_check.specs.declared.fault.Fault.{Fault}
 use Rattle.fb_check.specs.declared.fault.Fault.TheVariants as check
 use Rattle.fb_check.specs.declared.location.Location.{Location}
 use Rattle.fb_check.specs.declared.location.Location.TheVariants as at
 use Rattle.fb_why.specs.Causes.{IsCause}
+use Rattle.fb_why.specs.Roots.{roots_of}
 use Rattle.fb_why.specs.Findings.{AppliesAt, AppliesNowhere, AreFed, Finds, FindsOf, IsPlan, IsSilent, IsSilentOf, IsUnread}
 use Rattle.fb_why.specs.declared.cause.Cause.{Cause}
 use Rattle.fb_why.specs.declared.cause.Cause.TheVariants as cause
@@ -32,9 +34,11 @@ locations_of f = map (λ r. r.finding.location) f.shown.items
 -- ---- Inputs that are read
 
 -- these are all locations of the number; of types that are too high and of limits one is listed at most, of a stimulus one
--- fault, and those of the others are all if the check refuses for this fault first
+-- fault, and those of the others are all if the check refuses for this fault first; of unknown names those are left out
+-- that follow from an unknown type
 abbrev pub AreAll : Fault → Library → Plan → List Stimulus → List Location → Type 0
 AreAll check.NameTwice lib plan stimuli found = found ≡ map (λ p. at.NameTwice p) (twice_all lib plan)
+AreAll check.NameUnknown lib plan stimuli found = IsLeastFault 21 lib plan stimuli → found ≡ roots_of lib (map (λ p. at.NameUnknown p) (unknown_all lib plan))
 AreAll check.TooHigh lib plan stimuli found = length found ≤ 1
 AreAll check.OverLimit lib plan stimuli found = length found ≤ 1
 AreAll flaw lib plan stimuli found = IsLeastFault (number_of flaw) lib plan stimuli → refusal.AreAll lib plan stimuli flaw found

@@ -3,11 +3,13 @@
 ghost use Rattle.std.specs.Prelude.{IfOk};
 ghost use Rattle.fb_why.specs.Listings.{AreLocations};
 
+use crate::roots::reported;
 use fb_check::{Case, Fault, Location, why_refused};
 use std::alloc::{AllocError, Global};
 
 /// The locations at which the refusal applies to inputs, if the check refuses them for this fault: all, in the order of
-/// the declaration or of the stimuli. Of types that are too high and of limits it is one.
+/// the declaration or of the stimuli. Of unknown names it is those that do not follow from an unknown type, of types that
+/// are too high and of limits one.
 pub fn locations_in(alloc: Global, fault: Fault, case: &Case) -> Result<Vec<Location>, AllocError>
     ensures { IfOk result (λ found. AreLocations fault case.now.library.now case.now.plan.now case.now.stimuli.now found.items) }
 {
@@ -17,5 +19,5 @@ pub fn locations_in(alloc: Global, fault: Fault, case: &Case) -> Result<Vec<Loca
     if refusal.fault.number() != fault.number() {
         return Ok(Vec::new(alloc));
     }
-    Ok(refusal.into_locations())
+    reported(alloc, fault, case.library, refusal.into_locations())
 }

@@ -8,11 +8,11 @@
 //! the inputs are refused for something else or can't be read. `find::text_refusal` returns a location in the text,
 //! with its line and column, at which a declaration is refused. The wording of the texts is not part of any contract.
 //!
-//! Read in this order: `explanation` and `table`; `cause` and `location`, what each number is about, and where. Then the
-//! bytes: `find`, the refusal of a text and its location; `further`, keys that a table may not have. Then a location as
-//! text: the modules `.._messages`, with `contents`. Then `refused` and `declared`, locations in bytes and in what they declare; `place` and `input_place`,
-//! where a location is in its text; `listing` and `finding`, which reads the bytes again. All of this runs only after
-//! a refusal.
+//! Read in this order: `explanation` and `table`; `cause` and `location`, what each number is about, and where.
+//! Then the bytes: `find`, the refusal of a text and its location; `further`, keys that a table may not have. Then
+//! a location as text: the modules `.._messages`, with `contents`. Then `refused`, `roots` and `declared`,
+//! locations in bytes and in what they declare; `place` and `input_place`, where a location is in its text;
+//! `listing` and `finding`, which reads the bytes again. All of this runs only after a refusal.
 #![tactic(auto)]
 
 pub mod cause;
@@ -31,6 +31,7 @@ pub mod location;
 mod operand_messages;
 pub mod place;
 mod refused;
+mod roots;
 pub mod rules_messages;
 pub mod stimuli_messages;
 mod stimulus_messages;

@@ -1,5 +1,7 @@
 -- The locations that the check lists, as those of a refusal.
-use Rattle.fb_types.proofs.Common.{◌≡◌, ◌≢◌, ℕ, ◌<◌, ◌≤◌, List, [], ◌∷◌, ◌∙◌, ap, length, map, refl, sym, subst, ⊎_elim, arith, All, eqb, if◌then◌else◌, cases_lt, All-cons, All-nil, inputs, NameTwice}
+use Rattle.std.proofs.Common.{Vec, not}
+use Rattle.std.proofs.lemmas.List.Elements.{All-filter}
+use Rattle.fb_types.proofs.Common.{Result, Ok, Err, IfOk, All-map, ◌≡◌, ◌≢◌, ℕ, ◌<◌, ◌≤◌, List, [], ◌∷◌, ◌∙◌, ap, length, map, refl, sym, subst, ⊎_elim, arith, All, eqb, if◌then◌else◌, cases_lt, All-cons, All-nil, inputs, NameTwice}
 use Rattle.fb_types.specs.declared.deploy.Plan.{Plan}
 use Rattle.fb_types.specs.declared.deploy.Stimulus.{Stimulus}
 use Rattle.fb_types.specs.declared.library.Library.{Library}
@@ -42,6 +44,8 @@ use Rattle.fb_check.specs.declared.fault.Fault.{Fault}
 use Rattle.fb_check.specs.declared.fault.Fault.TheVariants as check
 use Rattle.fb_check.specs.declared.location.Location.{Location}
 use Rattle.fb_check.specs.declared.location.Location.TheVariants as at
+use Rattle.fb_check_names.proofs.lemmas.twice.Repeating.{none_mapped}
+use Rattle.fb_why.specs.Roots.{follows, or_all, reported, roots_of, without_following}
 use Rattle.fb_why.proofs.lemmas.FindingsOfNumbers.{list_locations}
 
 -- ---- Another number
@@ -92,14 +96,31 @@ one f lib plan stimuli s ss e applies all =
       all = all;
     }
 
--- all locations of a refusal
+-- what holds of each location holds of each that is reported
+each_root : (P : Location → Type 0) (kept ss : List Location) → All P kept → All P ss → All P (or_all kept ss)
+each_root P [] ss some all = all
+each_root P (l ∷ ls) ss some all = some
+
+-- none is reported only if there is none
+none_root : (kept ss : List Location) → or_all kept ss ≡ [] → ss ≡ []
+none_root [] ss h = h
+none_root (l ∷ ls) ss h = absurd (let differ : l ∷ ls ≡ [] = h in cc)
+
+-- the locations of a refusal that are reported
 own :
-    (f : Fault) (lib : Library) (plan : Plan) (stimuli : List Stimulus) (ss : List Location) → refusal.AreAll lib plan stimuli f ss → AreLocations f lib plan stimuli ss
+    (f : Fault) (lib : Library) (plan : Plan) (stimuli : List Stimulus) (ss : List Location) → refusal.AreAll lib plan stimuli f ss → AreLocations f lib plan stimuli (reported f lib ss)
 own check.NameTwice lib plan stimuli ss all =
     list_locations check.NameTwice lib plan stimuli (λ (p : GivenTwice). at.NameTwice p) (twice_all lib plan) ss all (each_twice lib plan) (none_twice lib plan) refl
 own check.NameUnknown lib plan stimuli ss all =
-    list_locations check.NameUnknown lib plan stimuli (λ (p : UnknownName). at.NameUnknown p) (unknown_all lib plan) ss all (each_unknown lib plan)
-    (λ h least. passes_21 lib plan stimuli least.least (none_unknown lib plan h) 21 (omega arith) least.applies) (λ _. refl)
+    let P : Location → Type 0 = AppliesAt check.NameUnknown lib plan stimuli in
+    let at_name : UnknownName → Location = λ p. at.NameUnknown p in
+    let each : All P ss = subst (λ (ls : List Location). All P ls) (sym all) (All-map P at_name (unknown_all lib plan) (each_unknown lib plan)) in
+    let kept = without_following lib ss in
+    record {
+      each = each_root P kept ss (All-filter (λ l. not (follows lib l)) P ss each) each;
+      none = λ h least. passes_21 lib plan stimuli least.least (none_unknown lib plan (none_mapped at_name (unknown_all lib plan) (sym all ∙ none_root kept ss h))) 21 (omega arith) least.applies;
+      all = λ _. ap (λ (ls : List Location). roots_of lib ls) all;
+    }
 own check.KindWrong lib plan stimuli ss all =
     list_locations check.KindWrong lib plan stimuli (λ (p : KindWrongAt). at.KindWrong p) (kinds_wrong_all lib) ss all (each_kind_wrong lib)
     (λ h least. passes_22 lib plan stimuli least.least (none_kind_wrong lib h) 22 (omega arith) least.applies) (λ _. refl)
@@ -155,12 +176,21 @@ known check.NoEvent = refl
 known check.BadStimulus = refl
 known check.OverLimit = refl
 
-pub refused_answer :
+refused_list :
     (f : Fault) (lib : Library) (plan : Plan) (stimuli : List Stimulus) (r : Refusal) (ss : List Location) → IsRefusal (inputs lib plan stimuli) r → number_of r.fault ≡ number_of f
-    → ss ≡ r.locations.items → AreLocations f lib plan stimuli ss
-refused_answer f lib plan stimuli r ss is same all =
-    let said : refusal.AreAll lib plan stimuli r.fault ss = subst (λ (ss : List Location). refusal.AreAll lib plan stimuli r.fault ss) (sym all) is.all in
-    subst (λ (g : Fault). AreLocations g lib plan stimuli ss) (sym (known r.fault) ∙ ap by_number same ∙ known f) (own r.fault lib plan stimuli ss said)
+    → ss ≡ reported f lib r.locations.items → AreLocations f lib plan stimuli ss
+refused_list f lib plan stimuli r ss is same found =
+    let said : AreLocations f lib plan stimuli (reported f lib r.locations.items) =
+    subst (λ (g : Fault). AreLocations g lib plan stimuli (reported g lib r.locations.items)) (sym (known r.fault) ∙ ap by_number same ∙ known f)
+    (own r.fault lib plan stimuli r.locations.items is.all) in
+    subst (λ (ls : List Location). AreLocations f lib plan stimuli ls) (sym found) said
+
+pub refused_answer :
+    {E A : Type 0} (f : Fault) (lib : Library) (plan : Plan) (stimuli : List Stimulus) (r : Refusal) (all : List Location) (made : Result (Vec Location A) E) → IsRefusal (inputs lib plan stimuli) r
+    → number_of r.fault ≡ number_of f → all ≡ r.locations.items → IfOk made (λ v. v.items ≡ reported f lib all) → IfOk made (λ v. AreLocations f lib plan stimuli v.items)
+refused_answer f lib plan stimuli r all (Err e) is same these found = tt
+refused_answer f lib plan stimuli r all (Ok v) is same these found =
+    refused_list f lib plan stimuli r v.items is same (found ∙ ap (λ (ls : List Location). reported f lib ls) these)
 
 pub other_answer :
     (f : Fault) (lib : Library) (plan : Plan) (stimuli : List Stimulus) (r : Refusal) (ss : List Location) → IsRefusal (inputs lib plan stimuli) r → number_of r.fault ≢ number_of f → ss ≡ []

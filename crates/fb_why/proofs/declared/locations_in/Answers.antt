@@ -12,8 +12,8 @@ returns c =
     let plan = c.args.case.now.plan.now in
     let stimuli = c.args.case.now.stimuli.now in
     let same : number_of c.in-Some.refusal.fault ≡ number_of c.args.fault = first_of (search rules, grind (arith, common_steps)) in
-    refused_answer c.args.fault lib plan stimuli c.in-Some.refusal c.into_locations.result.items
-    (MatchOption-at_some (IsAccepted lib plan stimuli) (IsRefusal (inputs lib plan stimuli)) c.in-Some.refusal c.in-Some.is c.in_ok-refusal.ensures) same c.into_locations.ensures
+    refused_answer c.args.fault lib plan stimuli c.in-Some.refusal c.into_locations.result.items c.reported.result
+    (MatchOption-at_some (IsAccepted lib plan stimuli) (IsRefusal (inputs lib plan stimuli)) c.in-Some.refusal c.in-Some.is c.in_ok-refusal.ensures) same c.into_locations.ensures c.reported.ensures
 
 -- they are refused for another fault
 pub returns-then-number : goal.returns-then-number
