@@ -13,13 +13,13 @@ use Rattle.fb_types.specs.declared.run.Event.{Event}
 use Rattle.fb_types.specs.declared.run.Halt.{Halt}
 use Rattle.fb_types.specs.declared.run.Target.{Target}
 use Rattle.fb_laws.specs.Typed.{IsTypedEvent, IsTypedSystem}
-use Rattle.fb_system.specs.Ports.{IsCompositeAt, IsPort}
+use Rattle.fb_system.specs.Ports.{IsCompositeAt, IsPort, IsTarget}
 use Rattle.fb_net.specs.Arrivals.{Arrives, AreTypedAt, ComesTo, HasReacted, IsReady}
 use Rattle.fb_net.specs.Emitting.{HasEmitted}
 use Rattle.fb_net.specs.Events.{HasTaken, IsEventIn, Remembered, event_of}
 use Rattle.fb_net.specs.Outs.{StillAreOuts}
 use Rattle.fb_net.specs.declared.taking.Taking.{Taking}
-use Rattle.fb_net.specs.Worlds.{IsForest, Stands}
+use Rattle.fb_net.specs.Worlds.{InForest, IsForest, Stands}
 use Rattle.fb_net.specs.declared.resource.Forest.{Forest}
 
 abbrev pub system_in : Taking → System
@@ -134,3 +134,12 @@ pub record WasTaken (old : Taking) (e : Event) (left : ℕ) (end : Result (Unit 
   pub outs : Remembered end (ArePutOut old new)
   pub fewer : after ≤ left
   pub kept : IsKept old new
+
+-- What an event brings is set, and it arrives at a port. An arrival there is a taking of the event.
+pub record HasBrought (old : Taking) (e : Event) (at : Target) (new : Taking) : Type 0 where
+  pub target : IsTarget (system_in new) at
+  pub here : InForest new.system.now new.forest.now at.instance
+  pub ready : MayBegin new
+  pub typed : AreTypedAt new.system.now new.forest.now
+  pub whole : StaysWhole old new
+  pub taken : (left : ℕ) (end : Result (Unit {0}) Halt) (last : Taking) (after : ℕ) → HasArrived new at left end last after → StaysWhole new last → WasTaken old e left end last after

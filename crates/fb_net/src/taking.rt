@@ -1,8 +1,9 @@
 //! One event on its way through its resource.
 //!
-//! Read in this order: `take`, by the kind of event; `arrive`, where it arrives; `samples`, what an event samples and
-//! what composites show from inside; `bring`, slots and held copies that are set; `event_blocks` and `basic_blocks`, the
-//! reactions of leaves; `emit`, emissions with their lines, local events and messages.
+//! Read in this order: `take`, by what the event is and where it arrives; `arrive`, its arrival at a block of each kind;
+//! `samples`, what an event samples and what composites show from inside; `bring`, slots and held copies that are set;
+//! `event_blocks` and `basic_blocks`, the reactions of leaves; `emit`, emissions with their lines, local events and
+//! messages.
 
 mod arrive;
 mod basic_blocks;

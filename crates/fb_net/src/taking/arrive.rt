@@ -1,25 +1,22 @@
-//! The arrival of an event at a port of an instance.
+//! The arrival of an event at a block of each kind.
 
 ghost use Rattle.std.specs.Prelude.{◌≡◌, false, true, IfErr, OnOk};
 ghost use Rattle.fb_event.specs.Reactions.{PassesTo};
-ghost use Rattle.fb_net.specs.Arrivals.{AreTypedAt, entering, leaving, reacting, sampling};
-ghost use Rattle.fb_net.specs.Steps.{HasArrived, HasDone, MayBegin, MayChart, MayCross, MayReact, MaySample, StaysWhole};
-ghost use Rattle.fb_system.specs.OfSystem.{IsTarget, IsWith};
-ghost use Rattle.fb_net.specs.Worlds.{InForest};
+ghost use Rattle.fb_net.specs.Arrivals.{entering, leaving, reacting, sampling};
+ghost use Rattle.fb_net.specs.Steps.{HasArrived, HasDone, MayChart, MayCross, MayReact, MaySample, StaysWhole};
+ghost use Rattle.fb_system.specs.OfSystem.{IsWith};
 
 use crate::taking::Taking;
-use crate::taking::basic_blocks::react_basic;
+use crate::taking::basic_blocks::react_at;
 use crate::taking::bring::keep_samples;
 use crate::taking::emit::{indexes_of, row_of, send_out, write_taken};
 use crate::taking::event_blocks::react_event;
 use crate::taking::samples::{sampled_values, shown_values};
-use fb_check_names::TypeNumber;
 use fb_event::passes_to;
 use fb_st::Meter;
 use fb_system::{Source, With};
 use fb_types::{
-    BasicType, BlockType, Emission, Emits, EventKind, Halt, InstanceVariable, Target, TimerAsk,
-    Values,
+    BasicType, Emission, Emits, EventKind, Halt, InstanceVariable, Target, TimerAsk, Values,
 };
 use std::alloc::AllocError;
 
@@ -61,7 +58,12 @@ impl Taking<'_> {
     /// # Errors
     /// When memory runs out, and never a stop.
     #[inline(always)]
-    fn arrive_event(&mut self, kind: EventKind, at: Target, emits: &mut Emits) -> Result<(), Halt>
+    pub(crate) fn arrive_event(
+        &mut self,
+        kind: EventKind,
+        at: Target,
+        emits: &mut Emits,
+    ) -> Result<(), Halt>
         requires { MayReact self.old kind at }
         ensures reacted { OnOk result (HasDone (reacting self.old.system.now self.old.key.now kind at) self.old self.new) }
         ensures whole { StaysWhole self.old self.new }
@@ -83,7 +85,7 @@ impl Taking<'_> {
     }
 
     /// An event from outside arrives at an event input of a composite, and goes on inside.
-    fn enter(&mut self, at: Target) -> Result<(), AllocError>
+    pub(crate) fn enter(&mut self, at: Target) -> Result<(), AllocError>
         requires { MayCross self.old at false }
         ensures entered { OnOk result (HasDone (entering self.old.system.now self.old.key.now at) self.old self.new) }
         ensures whole { StaysWhole self.old self.new }
@@ -102,7 +104,7 @@ impl Taking<'_> {
 
     /// An event from inside arrives at an event output of a composite, which shows the outputs WITH the event and emits
     /// it.
-    fn leave(&mut self, at: Target) -> Result<(), AllocError>
+    pub(crate) fn leave(&mut self, at: Target) -> Result<(), AllocError>
         requires { MayCross self.old at true }
         ensures left { OnOk result (HasDone (leaving self.old.system.now self.old.key.now at) self.old self.new) }
         ensures whole { StaysWhole self.old self.new }
@@ -127,7 +129,7 @@ impl Taking<'_> {
     ///
     /// # Errors
     /// `Halt::Stop` where a reason ends the reaction: what was put out before it is kept.
-    fn arrive_basic(
+    pub(crate) fn arrive_basic(
         &mut self,
         block: &BasicType,
         at: Target,
@@ -138,59 +140,27 @@ impl Taking<'_> {
         ensures arrived { HasArrived self.old at meter.old.left result self.new meter.new.left }
         ensures whole { StaysWhole self.old self.new }
     {
+        let system = self.system;
+        // for the prover: the inputs are accepted
+        system.facts();
         let alloc = *self.effects.lines.allocator();
-        let row = row_of(self.system, at);
-        let values = sampled_values(alloc, self.forest, self.system, at, &row.with)?;
+        let row = row_of(system, at);
+        let values = sampled_values(alloc, self.forest, system, at, &row.with)?;
         emits.clear();
-        let end = react_basic(
-            self.forest,
-            self.system,
+        let (first, below) = self.forest.way(system, at.instance);
+        let end = react_at(
+            &mut self.forest.blocks,
+            first,
+            below,
             block,
-            at,
+            at.event,
             values.as_slice(),
             meter,
             emits,
         );
-        write_taken(self.effects, self.system, self.key, at, values)?;
+        write_taken(self.effects, system, self.key, at, values)?;
         self.emit_all(at.instance, emits)?;
         end
-    }
-
-    /// An event arrives at a port of an instance. `emits` is room for what a leaf emits.
-    ///
-    /// # Errors
-    /// `Halt::Stop` where a reason ends the reaction: what was put out before it is kept.
-    #[inline(always)]
-    pub(crate) fn arrive(
-        &mut self,
-        at: Target,
-        meter: &mut Meter,
-        emits: &mut Emits,
-    ) -> Result<(), Halt>
-        requires target { IsTarget self.old.system.now at }
-        requires here { InForest self.old.system.now self.old.forest.now at.instance }
-        requires ready { MayBegin self.old }
-        requires typed { AreTypedAt self.old.system.now self.old.forest.now }
-        ensures arrived { HasArrived self.old at meter.old.left result self.new meter.new.left }
-        ensures whole { StaysWhole self.old self.new }
-    {
-        let system = self.system;
-        // for the prover: the inputs are accepted
-        system.facts();
-        match system.kind(at.instance) {
-            TypeNumber::Event(kind) => self.arrive_event(kind, at, emits),
-            TypeNumber::Declared(index) => match system.library().blocks.get(index) {
-                Some(BlockType::Basic(block)) => self.arrive_basic(block, at, meter, emits),
-                Some(BlockType::Composite(_)) => {
-                    if at.is_output {
-                        Ok(self.leave(at)?)
-                    } else {
-                        Ok(self.enter(at)?)
-                    }
-                }
-                None => unreachable!(),
-            },
-        }
     }
 
     // Fast path: one variable is neither put together nor walked over. Without it, and `emit_value` for emissions, an

@@ -1,8 +1,8 @@
-//! Taking an event, by what it is.
+//! Taking an event, by what it is and where it arrives.
 
-ghost use Rattle.std.specs.Prelude.{ℕ, Ok, OnOk};
+ghost use Rattle.std.specs.Prelude.{◌≢◌, ℕ, Ok, OnOk};
 ghost use Rattle.fb_net.specs.Events.{event_in};
-ghost use Rattle.fb_net.specs.Steps.{IsSame, MayTake, StaysWhole, WasTaken};
+ghost use Rattle.fb_net.specs.Steps.{HasBrought, IsSame, MayTake, StaysWhole, WasTaken};
 
 use crate::arrival::Arrival;
 use crate::taking::Taking;
@@ -10,48 +10,41 @@ use crate::taking::bring::{hold_carried, set_slots};
 use crate::taking::event_blocks::expire_event;
 use fb_check_names::TypeNumber;
 use fb_st::Meter;
-use fb_types::{Emits, Event, GivenRow, Halt, TimerAsk};
+use fb_types::{BlockType, Emits, Event, Halt, Target, TimerAsk};
 use std::alloc::AllocError;
 
 impl Taking<'_> {
-    /// Takes a stimulus, which sets slots before its event arrives.
-    ///
-    /// # Errors
-    /// As `arrive`.
-    #[inline(never)]
-    fn take_stimulus(&mut self, row: u32, meter: &mut Meter, emits: &mut Emits) -> Result<(), Halt>
-        requires { MayTake self.old (Event.Stimulus row) }
-        ensures taken { WasTaken self.old (Event.Stimulus row) meter.old.left result self.new meter.new.left }
-        ensures same { IsSame self.old self.new }
+    /// Sets what an event brings, the slots of a stimulus or the held copies of a message, and says where it arrives. The
+    /// event is no timer.
+    #[inline(always)]
+    fn bring(&mut self, arrival: Arrival<'_>) -> Target
+        requires may { MayTake self.old (event_in arrival) }
+        requires no_timer { (instance : ℕ) → arrival ≢ Arrival.Timer instance }
+        ensures { HasBrought self.old (event_in arrival.entry) result self.new }
     {
-        let stimulus = self.system.stimulus(row);
-        let at = stimulus.target;
-        set_slots(self.forest, self.system, at.instance, stimulus.sets);
-        self.arrive(at, meter, emits)
-    }
-
-    /// Takes a stimulus that was given, which sets slots before its event arrives.
-    ///
-    /// # Errors
-    /// As `arrive`.
-    #[inline(never)]
-    fn take_given(
-        &mut self,
-        given: &GivenRow,
-        meter: &mut Meter,
-        emits: &mut Emits,
-    ) -> Result<(), Halt>
-        requires { MayTake self.old (Event.Given given.now) }
-        ensures taken { WasTaken self.old (Event.Given given.now) meter.old.left result self.new meter.new.left }
-        ensures same { IsSame self.old self.new }
-    {
-        let at = given.target;
-        set_slots(self.forest, self.system, at.instance, given.sets.as_slice());
-        self.arrive(at, meter, emits)
+        let system = self.system;
+        match arrival {
+            Arrival::Stimulus(row) => {
+                let stimulus = system.stimulus(row);
+                set_slots(self.forest, system, stimulus.target.instance, stimulus.sets);
+                stimulus.target
+            }
+            Arrival::Timer(_) => unreachable!(),
+            Arrival::Message(message) => {
+                hold_carried(self.forest, system, &message.values);
+                message.target
+            }
+            Arrival::Local { target, .. } => target,
+            Arrival::Given(given) => {
+                let sets = given.sets.as_slice();
+                set_slots(self.forest, system, given.target.instance, sets);
+                given.target
+            }
+        }
     }
 
     /// Takes the timer of an instance. Nothing happens where it is no event block. The error is that memory runs out: it
-    /// is returned in a register, where that of `arrive`, which may be a stop, goes through memory.
+    /// is returned in a register, where that of `take_event`, which may be a stop, goes through memory.
     fn take_timer(&mut self, instance: u32, emits: &mut Emits) -> Result<(), AllocError>
         requires { MayTake self.old (Event.Timer instance) }
         ensures taken { OnOk result ((left : ℕ) → WasTaken self.old (Event.Timer instance) left (Ok tt) self.new left) }
@@ -85,7 +78,7 @@ impl Taking<'_> {
     /// Takes an event, whatever it is. `emits` is room for what a leaf emits.
     ///
     /// # Errors
-    /// As `arrive`.
+    /// `Halt::Stop` where a reason ends the reaction: what was put out before it is kept.
     #[inline(always)]
     pub fn take_event(
         &mut self,
@@ -97,24 +90,26 @@ impl Taking<'_> {
         ensures taken { WasTaken self.old (event_in arrival.entry) meter.old.left result self.new meter.new.left }
         ensures same { IsSame self.old self.new }
     {
-        // A call puts its result into memory, and then that of each arm would go there. So that of the call for a
-        // stimulus is read, and that of the others stays in registers.
-        let at = match arrival {
-            Arrival::Stimulus(row) => {
-                self.take_stimulus(row, meter, emits)?;
-                return Ok(());
-            }
-            Arrival::Timer(instance) => return Ok(self.take_timer(instance, emits)?),
-            Arrival::Message(message) => {
-                hold_carried(self.forest, self.system, &message.values);
-                message.target
-            }
-            Arrival::Local { target, .. } => target,
-            Arrival::Given(given) => {
-                self.take_given(given, meter, emits)?;
-                return Ok(());
-            }
-        };
-        self.arrive(at, meter, emits)
+        if let Arrival::Timer(instance) = arrival {
+            return Ok(self.take_timer(instance, emits)?);
+        }
+        let at = self.bring(arrival);
+        let system = self.system;
+        // for the prover: the inputs are accepted
+        system.facts();
+        match system.kind(at.instance) {
+            TypeNumber::Event(kind) => self.arrive_event(kind, at, emits),
+            TypeNumber::Declared(index) => match system.library().blocks.get(index) {
+                Some(BlockType::Basic(block)) => self.arrive_basic(block, at, meter, emits),
+                Some(BlockType::Composite(_)) => {
+                    if at.is_output {
+                        Ok(self.leave(at)?)
+                    } else {
+                        Ok(self.enter(at)?)
+                    }
+                }
+                None => unreachable!(),
+            },
+        }
     }
 }

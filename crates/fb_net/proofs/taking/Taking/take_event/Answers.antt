@@ -1,129 +1,224 @@
-use Rattle.fb_net.proofs.lemmas.Common.{◌≡◌, ◌∙◌, Ok, Err, ap, arith, sym, subst, system_of, Target, Arrives, HasReacted, StillAreOuts, AreKept, InForest}
-use Rattle.fb_types.proofs.Common.{err_from_is_err_and, path_of}
+use Rattle.fb_types.proofs.Common.{◌≡◌, Ok, Err, refl, sym, ap, ◌∙◌, arith, subst, Some, slice_get, err_from_is_err_and, on_ok_weaker, Basic, Composite, kind_of, system_of, path_at}
+use Rattle.fb_types.specs.declared.library.Library.{Library}
+use Rattle.std.specs.Option.{option_map}
+use Rattle.fb_types.specs.declared.library.BlockType.TheVariants as block
 use Rattle.fb_types.specs.declared.run.Halt.TheVariants as halt
-use Rattle.fb_system.specs.Ports.{IsTarget}
-use Rattle.fb_laws.specs.Typed.{IsTypedEvent}
-use Rattle.fb_net.specs.Arrivals.{AreTypedAt}
-use Rattle.fb_net.specs.Events.{IsNumbered, event_in, event_of}
-use Rattle.fb_net.specs.Steps.{HasArrived, IsKept, MayTake, WasTaken}
+use Rattle.fb_laws.proofs.lemmas.typing.Accepted.{accepted_typed}
+use Rattle.fb_net.specs.Arrivals.{Arrives, entering, leaving, reacting}
+use Rattle.fb_net.specs.Events.{event_in}
+use Rattle.fb_net.specs.Steps.{HasArrived, MayTake, WasTaken}
 use Rattle.fb_net.specs.declared.arrival.Arrival.{Arrival}
-use Rattle.fb_net.specs.declared.taking.Taking.{Taking}
-use Rattle.fb_net.proofs.lemmas.taking.ByEvent.{arrival-taken, arrival-typed, local-taken}
-use Rattle.fb_net.proofs.lemmas.emitting.PortRows.{path-of_port}
-use Rattle.fb_net.proofs.lemmas.emitting.EffectsKept.{blocks-changed, remembered-then}
-use Rattle.fb_net.proofs.lemmas.blocks.BlocksKept.{kept-held, kept-then}
+use Rattle.fb_net.proofs.lemmas.emitting.PortRows.{basic_input, event_block_input}
+use Rattle.fb_net.proofs.lemmas.taking.Crossing.{composite-enters, composite-leaves, done-reacted, event-arrives, reacted-ended, reacting-left, reacting-stop, remembered-ended}
+use Rattle.fb_net.proofs.lemmas.taking.TakingSteps.{whole-after}
 use Rattle.fb_net.proofs.taking.Taking.take_event.Goals as goal
-use Rattle.fb_net.proofs.taking.Taking.take_event.Goals.{in-Message, in-Local}
+
+-- ---- A timer
 
 pub returns-in-Timer-clause-taken : goal.returns-in-Timer-clause-taken
 returns-in-Timer-clause-taken c =
     let left = c.args.meter.now.left in
-    subst (λ (a : Arrival). WasTaken c.args.self.now (event_in a) left (Ok tt) c.take_timer.new.self left) (sym c.in-Timer.is) (c.in_ok-take_timer-in-Timer.ensures.taken left)
+    subst (λ (a : Arrival). WasTaken c.args.self.now (event_in a) left (Ok tt) c.take_timer.new.self left) (sym c.in-Timer.is) (c.in_ok-take_timer.ensures.taken left)
 
-pub returns-in_err-take_timer-in-Timer-clause-taken : goal.returns-in_err-take_timer-in-Timer-clause-taken
-returns-in_err-take_timer-in-Timer-clause-taken c =
+pub returns-in_err-take_timer-clause-taken : goal.returns-in_err-take_timer-clause-taken
+returns-in_err-take_timer-clause-taken c =
     let left = c.args.meter.now.left in
-    let memory = err_from_is_err_and c.from_residual-in_err-take_timer-in-Timer.result c.from_residual-in_err-take_timer-in-Timer.ensures.1 in
+    let memory = err_from_is_err_and c.from_residual.result c.from_residual.ensures.1 in
     rw (memory.1, memory.2)
     (subst (λ (a : Arrival). WasTaken c.args.self.now (event_in a) left (Err halt.Memory) c.take_timer.new.self left) (sym c.in-Timer.is)
     (record { taken = tt; outs = tt; fewer = omega arith; kept = c.take_timer.ensures.whole.kept }))
 
-pub returns-in-Given-clause-taken : goal.returns-in-Given-clause-taken
-returns-in-Given-clause-taken c =
-    subst (λ (a : Arrival). WasTaken c.args.self.now (event_in a) c.args.meter.now.left (Ok tt) c.take_given.new.self c.take_given.new.meter.left) (sym c.in-Given.is)
-    c.in_ok-take_given-in-Given.ensures.taken
-
-pub returns-clause-taken : goal.returns-clause-taken
-returns-clause-taken c =
-    let i = c.args.self.now.system.now in
-    let k = c.args.self.now.key.now in
-    let f = c.args.self.now.forest.now in
-    let x = c.args.self.now.effects.now in
-    let left = c.args.meter.now.left in
-    let done = c.arrive in
-    let after = done.new.meter.left in
-    let z = done.new.self in
-    elim c.match-arrival.branch [
-      | in-Message w ↦
-          let mid = w.hold_carried.new.forest in
-          let holds = w.hold_carried.ensures in
-          let held = kept-held i f mid _ holds in
-          let arrived = subst (λ (t : Taking). HasArrived t c.match-arrival.at left done.result z after) w.self-is done.ensures.arrived in
-          let kept : AreKept i mid z.forest.now = subst (λ (t : Taking). IsKept t z) w.self-is done.ensures.whole.kept in
-          subst (λ (a : Arrival). WasTaken c.args.self.now (event_in a) left done.result z after) (sym w.in-Message.is)
-          (record {
-            taken = arrival-taken i k w.in-Message.message.now f mid holds z.forest.now x z.effects.now left after done.result
-                (subst (λ (at : Target). HasReacted i (Arrives i k at left) mid x done.result z.forest.now after z.effects.now) w.at-is arrived.reacted);
-            outs =
-                remembered-then (StillAreOuts i mid x z.forest.now z.effects.now) (StillAreOuts i f x z.forest.now z.effects.now) done.result
-                (λ still were. still (blocks-changed i f mid x held.resource were)) arrived.outs;
-            fewer = arrived.fewer;
-            kept = kept-then i f mid z.forest.now held kept;
-          })
-      | in-Local w ↦
-          let arrived = subst (λ (t : Taking). HasArrived t c.match-arrival.at left done.result z after) w.self-is done.ensures.arrived in
-          subst (λ (a : Arrival). WasTaken c.args.self.now (event_in a) left done.result z after) (sym w.in-Local.is)
-          (record {
-            taken = local-taken i k w.in-Local.target f z.forest.now x z.effects.now left after done.result
-                (subst (λ (at : Target). HasReacted i (Arrives i k at left) f x done.result z.forest.now after z.effects.now) w.at-is arrived.reacted);
-            outs = arrived.outs;
-            fewer = arrived.fewer;
-            kept = subst (λ (t : Taking). IsKept t z) w.self-is done.ensures.whole.kept;
-          })
-    ]
-
-pub arrive-requires-clause-target : goal.arrive-requires-clause-target
-arrive-requires-clause-target c =
-    let i = c.args.self.now.system.now in
-    elim c.match-arrival.branch [
-      | in-Message w ↦
-          subst (λ (t : Taking). IsTarget (system_of t.system.now) c.match-arrival.at) (sym w.self-is)
-          (subst (λ (at : Target). IsTarget (system_of i) at) (sym w.at-is) (subst (λ (a : Arrival). IsNumbered i (event_in a)) w.in-Message.is c.requires.event.numbered).0)
-      | in-Local w ↦
-          subst (λ (t : Taking). IsTarget (system_of t.system.now) c.match-arrival.at) (sym w.self-is)
-          (subst (λ (at : Target). IsTarget (system_of i) at) (sym w.at-is) (subst (λ (a : Arrival). IsNumbered i (event_in a)) w.in-Local.is c.requires.event.numbered))
-    ]
-
-pub arrive-requires-clause-here : goal.arrive-requires-clause-here
-arrive-requires-clause-here c =
-    let i = c.args.self.now.system.now in
-    let f = c.args.self.now.forest.now in
-    elim c.match-arrival.branch [
-      | in-Message w ↦
-          let mid = w.hold_carried.new.forest in
-          let here : InForest i mid w.in-Message.message.now.target.instance =
-          ap (system_of i).resource (sym (path-of_port (system_of i) w.in-Message.message.now.target))
-          ∙ subst (λ (a : Arrival). (system_of i).resource (path_of (event_of i (event_in a))) ≡ f.resource) w.in-Message.is c.requires.event.here
-          ∙ sym (kept-held i f mid _ w.hold_carried.ensures).resource in
-          subst (λ (t : Taking). InForest t.system.now t.forest.now c.match-arrival.at.instance) (sym w.self-is)
-          (subst (λ (at : Target). InForest i mid at.instance) (sym w.at-is) here)
-      | in-Local w ↦
-          let here : InForest i f w.in-Local.target.instance =
-          ap (system_of i).resource (sym (path-of_port (system_of i) w.in-Local.target))
-          ∙ subst (λ (a : Arrival). (system_of i).resource (path_of (event_of i (event_in a))) ≡ f.resource) w.in-Local.is c.requires.event.here in
-          subst (λ (t : Taking). InForest t.system.now t.forest.now c.match-arrival.at.instance) (sym w.self-is)
-          (subst (λ (at : Target). InForest i f at.instance) (sym w.at-is) here)
-    ]
-
-pub arrive-requires-clause-typed : goal.arrive-requires-clause-typed
-arrive-requires-clause-typed c =
-    let i = c.args.self.now.system.now in
-    let f = c.args.self.now.forest.now in
-    elim c.match-arrival.branch [
-      | in-Message w ↦
-          let mid = w.hold_carried.new.forest in
-          subst (λ (t : Taking). AreTypedAt t.system.now t.forest.now) (sym w.self-is)
-          (arrival-typed i c.args.self.now.key.now w.in-Message.message.now f mid w.hold_carried.ensures c.requires.belongs
-          (subst (λ (a : Arrival). IsTypedEvent (system_of i) (event_of i (event_in a))) w.in-Message.is c.requires.typed))
-      | in-Local w ↦
-          subst (λ (t : Taking). AreTypedAt t.system.now t.forest.now) (sym w.self-is) c.requires.belongs
-    ]
-
-pub take_stimulus-requires : goal.take_stimulus-requires
-take_stimulus-requires c = subst (λ (a : Arrival). MayTake c.args.self.now (event_in a)) c.in-Stimulus.is c.requires
-
 pub take_timer-requires : goal.take_timer-requires
 take_timer-requires c = subst (λ (a : Arrival). MayTake c.args.self.now (event_in a)) c.in-Timer.is c.requires
 
-pub take_given-requires : goal.take_given-requires
-take_given-requires c = subst (λ (a : Arrival). MayTake c.args.self.now (event_in a)) c.in-Given.is c.requires
+-- ---- Where another event arrives
+
+pub bring-at-requires-clause-no_timer : goal.bring-at-requires-clause-no_timer
+bring-at-requires-clause-no_timer c = λ n is. c.in_default.not-Timer n is
+
+pub arrive_event-requires : goal.arrive_event-requires
+arrive_event-requires c =
+    let brought = c.bring-at.ensures in
+    let a = c.bring-at.new.self in
+    let i = a.system.now in
+    let k = a.key.now in
+    let at = c.bring-at.result in
+    let left = c.args.meter.now.left in
+    record {
+      arrives = record { port = brought.target.port; stands = record { here = brought.here; whole = (brought.typed.0, brought.typed.1) }; ready = brought.ready };
+      input = event_block_input (system_of i) at c.in-Event.kind brought.target (sym c.in-Event.ensures);
+      of_kind = sym c.in-Event.ensures;
+      sound = (accepted_typed i c.facts.ensures.accepted).system;
+      typed = brought.typed;
+    }
+
+pub returns-in-Event-clause-taken : goal.returns-in-Event-clause-taken
+returns-in-Event-clause-taken c =
+    let brought = c.bring-at.ensures in
+    let a = c.bring-at.new.self in
+    let i = a.system.now in
+    let k = a.key.now in
+    let at = c.bring-at.result in
+    let left = c.args.meter.now.left in
+    let kind = c.in-Event.kind in
+    let f = a.forest.now in
+    let x = a.effects.now in
+    let done = c.arrive_event in
+    let z = done.new.self in
+    brought.taken left done.result z left
+    (record {
+      reacted = reacted-ended i (Arrives i k at left) f z.forest.now x z.effects.now left done.result done.ensures.only_memory
+          (on_ok_weaker done.result
+          (λ did. done-reacted i (reacting i k kind at) (Arrives i k at left) f z.forest.now x z.effects.now left
+          (event-arrives i k kind at (sym c.in-Event.ensures) left) (reacting-stop i k kind at left) (reacting-left i k kind at left) did.comes)
+          done.ensures.reacted);
+      outs = remembered-ended _ done.result done.ensures.only_memory (on_ok_weaker done.result (λ did. did.outs) done.ensures.reacted);
+      fewer = omega arith;
+    })
+    done.ensures.whole
+
+pub leave-requires : goal.leave-requires
+leave-requires c =
+    let brought = c.bring-at.ensures in
+    let a = c.bring-at.new.self in
+    let i = a.system.now in
+    let k = a.key.now in
+    let at = c.bring-at.result in
+    let left = c.args.meter.now.left in
+    let declared : slice_get i.library.blocks c.in-Declared.index ≡ Some (block.Composite c.in-Some-Composite.field-0-0) =
+    ap (λ (l : Library). slice_get l.blocks c.in-Declared.index) (sym c.library.ensures) ∙ sym c.in-Some-Composite.ensures.value ∙ ap Some c.in-Some-Composite.field-0-is in
+    record {
+      arrives = record { port = brought.target.port; stands = record { here = brought.here; whole = (brought.typed.0, brought.typed.1) }; ready = brought.ready };
+      side = c.if-at.true;
+      composite = (c.in-Some-Composite.field-0-0, sym c.in-Declared.ensures ∙ ap (option_map kind_of) declared);
+    }
+
+pub enter-requires : goal.enter-requires
+enter-requires c =
+    let brought = c.bring-at.ensures in
+    let a = c.bring-at.new.self in
+    let i = a.system.now in
+    let k = a.key.now in
+    let at = c.bring-at.result in
+    let left = c.args.meter.now.left in
+    let declared : slice_get i.library.blocks c.in-Declared.index ≡ Some (block.Composite c.in-Some-Composite.field-0-0) =
+    ap (λ (l : Library). slice_get l.blocks c.in-Declared.index) (sym c.library.ensures) ∙ sym c.in-Some-Composite.ensures.value ∙ ap Some c.in-Some-Composite.field-0-is in
+    record {
+      arrives = record { port = brought.target.port; stands = record { here = brought.here; whole = (brought.typed.0, brought.typed.1) }; ready = brought.ready };
+      side = c.if-at.false;
+      composite = (c.in-Some-Composite.field-0-0, sym c.in-Declared.ensures ∙ ap (option_map kind_of) declared);
+    }
+
+pub returns-in_ok-leave-in-Some-Composite-clause-taken : goal.returns-in_ok-leave-in-Some-Composite-clause-taken
+returns-in_ok-leave-in-Some-Composite-clause-taken c =
+    let brought = c.bring-at.ensures in
+    let a = c.bring-at.new.self in
+    let i = a.system.now in
+    let k = a.key.now in
+    let at = c.bring-at.result in
+    let left = c.args.meter.now.left in
+    let declared : slice_get i.library.blocks c.in-Declared.index ≡ Some (block.Composite c.in-Some-Composite.field-0-0) =
+    ap (λ (l : Library). slice_get l.blocks c.in-Declared.index) (sym c.library.ensures) ∙ sym c.in-Some-Composite.ensures.value ∙ ap Some c.in-Some-Composite.field-0-is in
+    let t = c.in-Some-Composite.field-0-0 in
+    let is : (system_of i).kind (path_at (system_of i) at.instance) ≡ Some (Composite t) = sym c.in-Declared.ensures ∙ ap (option_map kind_of) declared in
+    let did = c.in_ok-leave-in-Some-Composite.ensures.left in
+    let z = c.leave.new.self in
+    brought.taken left (Ok tt) z left
+    (record {
+      reacted = done-reacted i (leaving i k at) (Arrives i k at left) a.forest.now z.forest.now a.effects.now z.effects.now left
+          (composite-leaves i k at t is brought.target.port c.facts.ensures.accepted c.in-Declared.index declared c.if-at.true left) (λ w. refl) (λ w. refl) did.comes;
+      outs = did.outs;
+      fewer = omega arith;
+    })
+    c.leave.ensures.whole
+
+pub returns-in_ok-enter-in-Some-Composite-clause-taken : goal.returns-in_ok-enter-in-Some-Composite-clause-taken
+returns-in_ok-enter-in-Some-Composite-clause-taken c =
+    let brought = c.bring-at.ensures in
+    let a = c.bring-at.new.self in
+    let i = a.system.now in
+    let k = a.key.now in
+    let at = c.bring-at.result in
+    let left = c.args.meter.now.left in
+    let declared : slice_get i.library.blocks c.in-Declared.index ≡ Some (block.Composite c.in-Some-Composite.field-0-0) =
+    ap (λ (l : Library). slice_get l.blocks c.in-Declared.index) (sym c.library.ensures) ∙ sym c.in-Some-Composite.ensures.value ∙ ap Some c.in-Some-Composite.field-0-is in
+    let t = c.in-Some-Composite.field-0-0 in
+    let is : (system_of i).kind (path_at (system_of i) at.instance) ≡ Some (Composite t) = sym c.in-Declared.ensures ∙ ap (option_map kind_of) declared in
+    let did = c.in_ok-enter-in-Some-Composite.ensures.entered in
+    let z = c.enter.new.self in
+    brought.taken left (Ok tt) z left
+    (record {
+      reacted = done-reacted i (entering i k at) (Arrives i k at left) a.forest.now z.forest.now a.effects.now z.effects.now left
+          (composite-enters i k at t is brought.target.port c.if-at.false left) (λ w. refl) (λ w. refl) did.comes;
+      outs = did.outs;
+      fewer = omega arith;
+    })
+    c.enter.ensures.whole
+
+pub returns-in_err-leave-in-Some-Composite-clause-taken : goal.returns-in_err-leave-in-Some-Composite-clause-taken
+returns-in_err-leave-in-Some-Composite-clause-taken c =
+    let brought = c.bring-at.ensures in
+    let a = c.bring-at.new.self in
+    let i = a.system.now in
+    let k = a.key.now in
+    let at = c.bring-at.result in
+    let left = c.args.meter.now.left in
+    let failed = c.from_residual-in_err-leave-in-Some-Composite in
+    let memory = err_from_is_err_and failed.result failed.ensures.1 in
+    let ended : HasArrived a at left (Err halt.Memory) c.leave.new.self left = record { reacted = tt; outs = tt; fewer = omega arith } in
+    rw (memory.1, memory.2) (brought.taken left (Err halt.Memory) c.leave.new.self left ended c.leave.ensures.whole)
+
+pub returns-in_err-enter-in-Some-Composite-clause-taken : goal.returns-in_err-enter-in-Some-Composite-clause-taken
+returns-in_err-enter-in-Some-Composite-clause-taken c =
+    let brought = c.bring-at.ensures in
+    let a = c.bring-at.new.self in
+    let i = a.system.now in
+    let k = a.key.now in
+    let at = c.bring-at.result in
+    let left = c.args.meter.now.left in
+    let failed = c.from_residual-in_err-enter-in-Some-Composite in
+    let memory = err_from_is_err_and failed.result failed.ensures.1 in
+    let ended : HasArrived a at left (Err halt.Memory) c.enter.new.self left = record { reacted = tt; outs = tt; fewer = omega arith } in
+    rw (memory.1, memory.2) (brought.taken left (Err halt.Memory) c.enter.new.self left ended c.enter.ensures.whole)
+
+pub arrive_basic-requires : goal.arrive_basic-requires
+arrive_basic-requires c =
+    let brought = c.bring-at.ensures in
+    let a = c.bring-at.new.self in
+    let i = a.system.now in
+    let k = a.key.now in
+    let at = c.bring-at.result in
+    let left = c.args.meter.now.left in
+    let declared : slice_get i.library.blocks c.in-Declared.index ≡ Some (block.Basic c.in-Some-Basic.block) =
+    ap (λ (l : Library). slice_get l.blocks c.in-Declared.index) (sym c.library.ensures) ∙ sym c.in-Some-Basic.ensures.value ∙ ap Some c.in-Some-Basic.field-0-is in
+    let is : (system_of i).kind (path_at (system_of i) at.instance) ≡ Some (Basic c.in-Some-Basic.block) = sym c.in-Declared.ensures ∙ ap (option_map kind_of) declared in
+    record {
+      arrives = record { port = brought.target.port; stands = record { here = brought.here; whole = (brought.typed.0, brought.typed.1) }; ready = brought.ready };
+      input = basic_input (system_of i) at _ brought.target is;
+      of_kind = is;
+    }
+
+pub returns-in-Some-Basic-clause-taken : goal.returns-in-Some-Basic-clause-taken
+returns-in-Some-Basic-clause-taken c =
+    let done = c.arrive_basic in
+    c.bring-at.ensures.taken c.args.meter.now.left done.result done.new.self done.new.meter.left done.ensures.arrived done.ensures.whole
+
+-- ---- The taking is the same
+
+pub returns-in-Event-clause-same : goal.returns-in-Event-clause-same
+returns-in-Event-clause-same c = (whole-after c.args.self.now c.bring-at.new.self c.arrive_event.new.self c.bring-at.ensures.whole c.arrive_event.ensures.whole).same
+
+pub returns-in_ok-leave-in-Some-Composite-clause-same : goal.returns-in_ok-leave-in-Some-Composite-clause-same
+returns-in_ok-leave-in-Some-Composite-clause-same c = (whole-after c.args.self.now c.bring-at.new.self c.leave.new.self c.bring-at.ensures.whole c.leave.ensures.whole).same
+
+pub returns-in_ok-enter-in-Some-Composite-clause-same : goal.returns-in_ok-enter-in-Some-Composite-clause-same
+returns-in_ok-enter-in-Some-Composite-clause-same c = (whole-after c.args.self.now c.bring-at.new.self c.enter.new.self c.bring-at.ensures.whole c.enter.ensures.whole).same
+
+pub returns-in_err-leave-in-Some-Composite-clause-same : goal.returns-in_err-leave-in-Some-Composite-clause-same
+returns-in_err-leave-in-Some-Composite-clause-same c = (whole-after c.args.self.now c.bring-at.new.self c.leave.new.self c.bring-at.ensures.whole c.leave.ensures.whole).same
+
+pub returns-in_err-enter-in-Some-Composite-clause-same : goal.returns-in_err-enter-in-Some-Composite-clause-same
+returns-in_err-enter-in-Some-Composite-clause-same c = (whole-after c.args.self.now c.bring-at.new.self c.enter.new.self c.bring-at.ensures.whole c.enter.ensures.whole).same
+
+pub returns-in-Some-Basic-clause-same : goal.returns-in-Some-Basic-clause-same
+returns-in-Some-Basic-clause-same c = (whole-after c.args.self.now c.bring-at.new.self c.arrive_basic.new.self c.bring-at.ensures.whole c.arrive_basic.ensures.whole).same
