@@ -1,6 +1,6 @@
 //! The text of the lines of one resource, with marks by which it is joined with that of others, tick by tick.
 
-ghost use Rattle.std.specs.Prelude.{◌≡◌, ◌+◌, ◌<◌, ◌≤◌, [], ◌∷◌, ◌++◌, length, take, All, IfOk, OnOk, Some};
+ghost use Rattle.std.specs.Prelude.{◌≡◌, ◌+◌, ◌<◌, ◌≤◌, ◌^◌, [], ◌∷◌, ◌++◌, length, take, All, IfOk, OnOk, Some};
 ghost use Rattle.fb_system.specs.OfSystem.{BelongsTo};
 ghost use Rattle.fb_trace.specs.Fronts.{tick_at};
 ghost use Rattle.fb_trace.specs.Marks.{IsMarkedText, IsRun, text_of_lines};
@@ -91,12 +91,10 @@ fn add_mark(
     in_memory: usize,
     waiting: usize,
 ) -> Result<(), AllocError>
+    requires { in_memory + waiting < 2 ^ 64 }
     ensures { OnOk result (marks.new.items ≡ marks.old.items ++ record { tick = tick; end = in_memory + waiting } ∷ []) }
 {
-    let Some(end) = in_memory.checked_add(waiting) else {
-        // No memory holds that many bytes.
-        return Err(AllocError);
-    };
+    let end = in_memory + waiting;
     marks.push(Mark { tick, end })?;
     Ok(())
 }

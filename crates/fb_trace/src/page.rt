@@ -88,7 +88,8 @@ impl Page {
 
     /// How many bytes wait.
     pub(crate) fn waiting_count(&self) -> usize
-        ensures { result ≡ length self.now.waiting }
+        ensures count { result ≡ length self.now.waiting }
+        ensures few { result ≤ SIZE }
     {
         self.bytes[..self.used].len()
     }

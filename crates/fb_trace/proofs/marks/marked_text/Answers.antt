@@ -18,6 +18,10 @@ loop-first-preserved c =
       marked = is_marked_more c.args.system.now c.args.form c.args.lines.now l.marks.items c.add_mark.new.marks.items m
           l.text.items l.page.waiting c.put_run.new.text.items c.put_run.new.page.waiting l.rest.now c.split_at.result.0.now c.split_at.result.1.now
           l.invariant.marked cut.by_index.0 (subst (IsRun m.tick) (sym cut.front) c.run_length.ensures.run) c.in_ok-put_run.ensures
-          (omega (arith, c.len.ensures, c.waiting_count.ensures)) c.in_ok-add_mark.ensures;
+          (omega (arith, c.len.ensures, c.waiting_count.ensures.count)) c.in_ok-add_mark.ensures;
       belong = subst (λ (z : List Line). All P z) (sym cut.back) (All-drop P c.run_length.result l.rest.now l.invariant.belong);
     }
+
+-- a vector has fewer than 2^63 bytes, and a page far fewer
+pub add_mark-requires : goal.add_mark-requires
+add_mark-requires c = omega (arith, c.len.ensures, c.waiting_count.ensures.few, c.put_run.new.text.ok.1, c.put_run.new.text.small)
