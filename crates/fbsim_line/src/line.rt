@@ -153,7 +153,7 @@ const WAVE_ABOUT: &str = "Converts a trace to a value change dump, which wavefor
 const WAVE_EXAMPLE: &str = "Example: fbsim wave cell.iec --deploy cell.toml cell.trace";
 
 const STATES_HELP: &str =
-    "Adds the state of each basic block, its internal variables and the events that it lost.";
+    "Adds the state of each basic block, its variables that no line has and the events that it lost.";
 
 const WAVE_STEPS_HELP: &str =
     "With --states: the limit of steps of the run that wrote the trace, 1 to 10000000, if it stopped for them.";
