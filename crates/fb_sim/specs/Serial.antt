@@ -9,6 +9,7 @@ use Rattle.fb_types.specs.declared.deploy.Plan.{Plan}
 use Rattle.fb_types.specs.declared.deploy.Stimulus.{Stimulus}
 use Rattle.fb_types.specs.declared.library.Library.{Library}
 use Rattle.fb_read.specs.Front.{bad_byte, bad_token}
+use Rattle.fb_read.specs.Refusals.{IsRightError}
 use Rattle.fb_read.specs.Whole.{IsDerived, IsLibraryText, IsMemory, IsNesting, IsGrammarFault, HasTokenFault, HasTokens, most_bytes}
 use Rattle.fb_read.specs.declared.error.ReadError.{ReadError}
 use Rattle.fb_read.specs.declared.error.ReadError.TheVariants as read
@@ -81,6 +82,7 @@ pub record IsReadFault (text : List ℕ) (e : ReadError) : Type 0 where
   pub token : (e ≡ read.Token) ↔ HasTokenFault bad_token text
   pub grammar : IsGrammarFault e → HasTokens text
   pub nesting : (library : Library) → IsDerived text library → IsNesting e
+  pub exact : IsRightError text e
 
 -- The text declares a library, and the deployment is refused under this number.
 pub record IsNoPlan (given : Given) (n : ℕ) : Type 0 where

@@ -1,6 +1,7 @@
 -- Why nothing is run.
 use Rattle.fb_types.proofs.Common.{◌≡◌, ◌<◌, ◌↔◌, ◌⊎◌, inl, inr, ℕ, List, length, Result, Ok, Err, refl, ap, Inputs}
 use Rattle.fb_types.specs.declared.library.Library.{Library}
+use Rattle.fb_read.specs.Refusals.{IsRightError}
 use Rattle.fb_read.specs.Front.{bad_byte, bad_token}
 use Rattle.fb_read.specs.Whole.{IsDerived, IsLibraryText, IsMemory, IsNesting, IsGrammarFault, HasTokenFault, HasTokens, RefusesWhere, most_bytes}
 use Rattle.fb_read.specs.declared.error.ReadError.{ReadError}
@@ -38,8 +39,9 @@ pub read_fault : (text : List ℕ) (e : ReadError) → (e ≡ error.Memory → �
     → RefusesWhere (refused e) error.Byte (HasTokenFault bad_byte text)
     → RefusesWhere (refused e) error.Token (HasTokenFault bad_token text)
     → (IsGrammarFault e → HasTokens text)
+    → IsRightError text e
     → IsReadFault text e
-read_fault text e other none nesting too_long byte token grammar =
+read_fault text e other none nesting too_long byte token grammar exact =
     let refusal = not_memory e other in
     record {
       refusal = refusal;
@@ -49,6 +51,7 @@ read_fault text e other none nesting too_long byte token grammar =
       token = (λ is. token.only (ap refused is), λ has. here (token.always has));
       grammar = grammar;
       nesting = nesting refusal;
+      exact = exact;
     }
   where
     here : {f : ReadError} → (refused e ≡ refused f) ⊎ (refused e ≡ refused error.Memory) → e ≡ f

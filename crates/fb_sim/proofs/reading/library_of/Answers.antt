@@ -13,5 +13,5 @@ returns-in_default c = record {
       let e = c.in-Err.error in
       let said = c.in-Err.ensures in
       subst (λ (x : List ℕ). IsReadFault x e) (ap (λ g. g.declaration) c.inputs.view_is)
-      (read_fault _ e c.in_default.not-Memory said.none said.nesting said.too_long said.byte said.token said.grammar);
+      (read_fault _ e c.in_default.not-Memory said.none said.nesting said.too_long said.byte said.token said.grammar said.exact);
 }
