@@ -1,5 +1,5 @@
 -- Where a location is in the deployment or in the stimuli (this project's own).
-use Rattle.std.specs.Prelude.{◌≡◌, ◌⊎◌, ℕ, ◌+◌, ◌-◌, nat_lt, if◌then◌else◌, List, [], ◌∷◌, ◌++◌, Contains, codes, length, Option, Some, None, Ok, IfSome}
+use Rattle.std.specs.Prelude.{◌≡◌, ◌⊎◌, ℕ, ◌+◌, ◌-◌, nat_lt, if◌then◌else◌, List, [], ◌∷◌, ◌++◌, codes, length, Option, Some, None, Ok, IfSome}
 use Rattle.fb_types.specs.declared.deploy.Plan.{Plan}
 use Rattle.fb_types.specs.declared.deploy.ResourceEntry.{ResourceEntry}
 use Rattle.fb_read.specs.declared.token.Span.{Span}
@@ -44,12 +44,6 @@ Text = List ℕ
 
 -- ---- Keys that a table may not have
 
--- the keys that a table may have
-abbrev pub known_keys : TableLocation → List Text
-known_keys table.Top = codes "resource" ∷ codes "link" ∷ []
-known_keys (table.Resource r) = codes "device" ∷ codes "name" ∷ codes "instances" ∷ []
-known_keys (table.Link l) = codes "from" ∷ codes "to" ∷ codes "latency" ∷ codes "latencies" ∷ []
-
 -- The bytes are the two brackets that begin the heading of the first array of tables at a key of the document.
 abbrev pub IsArrayAt : Text → (key : Text) → Span → Type 0
 IsArrayAt text key span = IsHeadingAt text (codes "[[" ++ key ++ codes "]]") 0 span
@@ -58,9 +52,9 @@ IsArrayAt text key span = IsHeadingAt text (codes "[[" ++ key ++ codes "]]") 0 s
 abbrev pub IsKeyOrHeading : Text → TableLocation → (key : Text) → Span → Type 0
 IsKeyOrHeading text t key span = IsNamedKeyAt text t key span ⊎ ((t ≡ table.Top) × IsArrayAt text key span)
 
--- The same for a key that the table may not have.
+-- The same for some key. That it is the first one which the table may not have is only tested.
 abbrev pub IsFurtherAt : Text → TableLocation → Span → Type 0
-IsFurtherAt text t span = (key : Text) × (¬ Contains (known_keys t) key) × IsKeyOrHeading text t key span
+IsFurtherAt text t span = (key : Text) × IsKeyOrHeading text t key span
 
 -- ---- Positions
 
@@ -132,9 +126,13 @@ abbrev pub IsListedIn : (deploy : Option Text) → (index : ℕ) → InputPositi
 IsListedIn deploy index position =
     (bytes : Text) × (plan : Plan) × (deploy ≡ Some bytes) × (deploy_of bytes ≡ Ok plan) × (listed_at 0 plan.resources index ≡ Some position)
 
--- The position is that of a key which the table of the deployment may not have.
+-- The position is that of a key which the table in these bytes may not have.
+abbrev pub IsFurtherOf : (bytes : Text) → TableLocation → InputPosition → Type 0
+IsFurtherOf bytes t position = (span : Span) × IsFurtherAt bytes t span × (position ≡ input.Further span)
+
+-- The same in the deployment.
 abbrev pub IsFurtherIn : (deploy : Option Text) → TableLocation → InputPosition → Type 0
-IsFurtherIn deploy t position = (bytes : Text) × (span : Span) × (deploy ≡ Some bytes) × IsFurtherAt bytes t span × (position ≡ input.Further span)
+IsFurtherIn deploy t position = (bytes : Text) × (deploy ≡ Some bytes) × IsFurtherOf bytes t position
 
 -- The location is shown at the position. A further key is shown at its table if it is not found.
 abbrev pub IsInputPosition : (deploy : Option Text) → FindingLocation → InputPosition → Type 0

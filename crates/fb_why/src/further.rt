@@ -1,6 +1,6 @@
 //! Keys that a table of a deployment may not have, and where they are.
 
-ghost use Rattle.std.specs.Prelude.{◌≡◌, ◌↔◌, Contains, IfSome, IsTrue, map};
+ghost use Rattle.std.specs.Prelude.{IfSome};
 ghost use Rattle.fb_why.specs.InputPlaces as spec;
 ghost use Rattle.fb_why.specs.InputPlaces.{IsFurtherAt, IsKeyOrHeading};
 
@@ -10,9 +10,7 @@ use std::alloc::Global;
 use toml::{Table, Value};
 
 /// The keys that a table may have.
-pub(crate) fn known_keys(table: TableLocation) -> &'static [&'static str]
-    ensures { map (λ k. k.now) result.now ≡ spec.known_keys table }
-{
+pub(crate) fn known_keys(table: TableLocation) -> &'static [&'static str] {
     match table {
         TableLocation::Top => &["resource", "link"],
         TableLocation::Resource(_) => &["device", "name", "instances"],
@@ -21,16 +19,17 @@ pub(crate) fn known_keys(table: TableLocation) -> &'static [&'static str]
 }
 
 /// Whether a word is one of these.
-fn is_among(word: &str, known: &[&str]) -> bool
-    ensures { IsTrue result ↔ Contains (map (λ k. k.now) known.now) word.now }
-{
-    known.iter().any(|other| *other == word)
+fn is_among(word: &str, known: &[&str]) -> bool {
+    for other in known {
+        if *other == word {
+            return true;
+        }
+    }
+    false
 }
 
 /// The first key of a table that is none of these.
-pub(crate) fn further_key<'a>(keys: &'a Table, known: &[&str]) -> Option<&'a str>
-    ensures { IfSome result (λ key. ¬ Contains (map (λ k. k.now) known.now) key.now) }
-{
+pub(crate) fn further_key<'a>(keys: &'a Table, known: &[&str]) -> Option<&'a str> {
     for (key, _) in keys {
         if !is_among(key.as_str(), known) {
             return Some(key.as_str());

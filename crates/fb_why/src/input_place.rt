@@ -3,7 +3,7 @@
 ghost use Rattle.std.specs.Prelude.{◌≡◌, ◌⊎◌, IfOk, IfSome, map, option_map};
 ghost use Rattle.std.specs.List.{AllZip};
 ghost use Rattle.fb_why.specs.InputPlaces as spec;
-ghost use Rattle.fb_why.specs.InputPlaces.{IsFurtherIn, IsInputPosition, IsListedIn, IsNearIn, IsPlaceFor, IsPlaceOf, IsShownAt};
+ghost use Rattle.fb_why.specs.InputPlaces.{IsFurtherIn, IsFurtherOf, IsInputPosition, IsListedIn, IsNearIn, IsPlaceFor, IsPlaceOf, IsShownAt};
 ghost use Rattle.fb_why.specs.InputStretches.{IsDeployPlace};
 
 use crate::further::further_span;
@@ -177,16 +177,22 @@ fn listed_in(
     }
 }
 
+/// The position of the first key that a table in these bytes may not have, or else that of the table.
+fn further_in(alloc: Global, bytes: &[u8], table: TableLocation) -> InputPosition
+    ensures { IsFurtherOf bytes.now table result ⊎ (result ≡ spec.begin_of table) }
+{
+    match further_span(alloc, bytes, table) {
+        Some(span) => InputPosition::Further(span),
+        None => InputPosition::Deployment(DeployPosition::Table(table)),
+    }
+}
+
 /// The position of the first key that a table of a deployment may not have, or else that of the table.
 fn further_position(alloc: Global, deploy: Option<&[u8]>, table: TableLocation) -> InputPosition
     ensures { IsFurtherIn (option_map (λ b. b.now) deploy.entry) table result ⊎ (result ≡ spec.begin_of table) }
 {
-    let found = match deploy {
-        Some(bytes) => further_span(alloc, bytes, table),
-        None => None,
-    };
-    match found {
-        Some(span) => InputPosition::Further(span),
+    match deploy {
+        Some(bytes) => further_in(alloc, bytes, table),
         None => InputPosition::Deployment(DeployPosition::Table(table)),
     }
 }

@@ -72,7 +72,10 @@ fn instance_of(library: &Library, name: UnknownName) -> Option<&Instance>
 fn has_no_type(types: &BlockTypes<'_>, instance: &Instance) -> bool
     ensures { result ≡ spec.has_no_type types.now.library.now instance.now }
 {
-    types.ports_named(&instance.block_type).is_none()
+    match types.ports_named(&instance.block_type) {
+        Some(_) => false,
+        None => true,
+    }
 }
 
 /// Whether a location follows from an unknown type.
