@@ -2,7 +2,7 @@
 use Rattle.std.specs.Prelude.{◌≡◌, ℕ, Bool, true, false, not, ◌&&◌, ◌||◌, ◌==◌, nat_lt, if◌then◌else◌, List, [], ◌∷◌, length, drop, unwrap_or, codes, decimal}
 use Rattle.std.specs.Str.{bytes_eq}
 use Rattle.fb_types.specs.declared.run.Form.{Form}
-use Rattle.fb_expect.specs.Events.{IsLine, event_of}
+use Rattle.fb_expect.specs.Events.{Event, IsLine, event_of}
 use Rattle.fb_expect.specs.Reports.{joined}
 use Rattle.fb_expect.specs.Traces.{IsEndOf, tick_of}
 use Rattle.fb_expect.specs.Words.{Text, before}
@@ -17,7 +17,7 @@ abbrev pub IsKind : Text → LineKind → Type 0
 IsKind line (kind.Event e) = (form : Form) × IsLine form line (event_of e)
 IsKind line (kind.Last t) = (end : End) × IsEndOf line end × (tick_of end ≡ t)
 IsKind line kind.Missing = line ≡ []
-IsKind line kind.Other = Unit {0}
+IsKind line kind.Other = (line ≡ [] → ⊥) × ((end : End) → IsEndOf line end → ⊥) × ((form : Form) (e : Event) → IsLine form line e → ⊥)
 
 -- ---- What differs
 

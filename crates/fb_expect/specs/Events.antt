@@ -1,9 +1,8 @@
 -- Lines of events (docs/FORMATS.md, "Trace text"; this project's profile).
 use Rattle.std.specs.Prelude.{◌≡◌, ℕ, ◌^◌, ◌-◌, Bool, true, [], ◌++◌, Some, is_some, codes, if◌then◌else◌}
-use Rattle.std.specs.List.{list_all}
 use Rattle.fb_types.specs.declared.run.Form.{Form}
 use Rattle.fb_types.specs.declared.run.Form.TheVariants.{One, Two}
-use Rattle.fb_expect.specs.Words.{Text, is_binding, is_name, is_port, magnitude, natural, words_after}
+use Rattle.fb_expect.specs.Words.{Text, are_values, is_name, is_port, magnitude, natural}
 use Rattle.fb_expect.specs.declared.entry.Entry.{Entry}
 
 -- What a line says: the tick, the resource, whether the event is taken, its port, and what comes after the port.
@@ -55,7 +54,7 @@ pub record IsStart (text : Text) (tick : ℕ) (resource rest : Text) : Type 0 wh
 -- The text is a port, what may come after it, and a line feed.
 pub record IsPortText (text port values : Text) : Type 0 where
   pub port_is : is_port port ≡ true
-  pub values_are : list_all is_binding (words_after values) ≡ true
+  pub values_are : are_values values ≡ true
   pub parts : text ≡ port ++ (values ++ codes "\n")
 
 -- The text is the line of the event in a form, with its line feed.
@@ -66,5 +65,5 @@ pub record IsLine (form : Form) (text : Text) (e : Event) : Type 0 where
   pub tick_is : magnitude digits ≡ Some e.tick
   pub resource_is : is_name e.resource ≡ true
   pub port_is : is_port e.port ≡ true
-  pub values_are : list_all is_binding (words_after e.values) ≡ true
+  pub values_are : are_values e.values ≡ true
   pub parts : text ≡ head ++ event_text digits e

@@ -1,8 +1,10 @@
 -- What comes of rules at a trace (this project's own).
-use Rattle.std.specs.Prelude.{◌≡◌, ℕ, ◌+◌, List, [], ◌∷◌, ◌++◌, length, map, All, Option, Some, None, IfSome}
+use Rattle.std.specs.Prelude.{◌≡◌, ◌⊎◌, ℕ, ◌+◌, ◌≤◌, List, [], ◌∷◌, ◌++◌, length, map, All, Option, Some, None, IfSome}
+use Rattle.std.specs.Io.BufRead.{take_through}
 use Rattle.std.specs.Io.KnownBytes.{Consumes}
 use Rattle.fb_types.specs.declared.run.Form.{Form}
-use Rattle.fb_expect.specs.Events.{Event}
+use Rattle.fb_types.specs.declared.run.Form.TheVariants.{One, Two}
+use Rattle.fb_expect.specs.Events.{Event, IsLine}
 use Rattle.fb_expect.specs.Deciding.{IsDecided, Tallies}
 use Rattle.fb_expect.specs.Hits.{hits_of}
 use Rattle.fb_expect.specs.Paired.{IsPairVerdict, KnowsPairs, pair_hits_of, within_of}
@@ -10,10 +12,12 @@ use Rattle.fb_expect.specs.Passing.{Covers}
 use Rattle.fb_expect.specs.Rules.{IsVerdict}
 use Rattle.fb_expect.specs.Sights.{sights_of}
 use Rattle.fb_expect.specs.Lines.{IsOneLine}
-use Rattle.fb_expect.specs.Traces.{AreBelow, AreLines, IsTrace, RiseFrom, last_tick, tick_of}
+use Rattle.fb_expect.specs.Traces.{AreBelow, AreLines, EndsAfter, IsLast, IsTrace, RiseFrom, last_tick, tick_of}
 use Rattle.fb_expect.specs.Watching.{Knows}
 use Rattle.fb_expect.specs.Words.{Text}
 use Rattle.fb_expect.specs.declared.ending.End.{End}
+use Rattle.fb_expect.specs.declared.fault.TraceError.{TraceError}
+use Rattle.fb_expect.specs.declared.fault.TraceError.TheVariants as trace
 use Rattle.fb_expect.specs.declared.judging.Cut.{Cut}
 use Rattle.fb_expect.specs.declared.judging.Judged.{Judged}
 use Rattle.fb_expect.specs.declared.judging.State.{State}
@@ -47,6 +51,54 @@ pub record Judges (cut : Cut) (text : Text) (rules : List Rule) (js : List Judge
   pub end : End
   pub trace : IsTrace cut text events end
   pub judged : AreJudged events end rules js
+
+-- ---- A text that is no trace
+
+-- after these lines of a form a line may be one of this form: before the first line, of either
+abbrev pub MayHave : (form : Form) → List Event → Form → Type 0
+MayHave form [] f = Unit {0}
+MayHave form (e ∷ es) f = f ≡ form
+
+-- the line is that of no event that may come after these
+abbrev pub HasNoEvent : (form : Form) → List Event → (line : Text) → Type 0
+HasNoEvent form es line = (f : Form) (e : Event) → MayHave form es f → IsLine f line e → last_tick 0 es ≤ e.tick → ⊥
+
+-- the line is an end that may come after these
+abbrev pub HasEnd : Cut → List Event → (line : Text) → Type 0
+HasEnd cut es line = (end : End) × IsLast cut line end × EndsAfter (last_tick 0 es) end
+
+-- The line of this number is not what a trace has there: neither that of an event nor an end that may come there, or one more after the end.
+pub record IsRefused (cut : Cut) (text : Text) (number : ℕ) : Type 0 where
+  pub form : Form
+  pub events : List Event
+  pub lines : Text
+  pub line : Text
+  pub rest : Text
+  pub are_lines : AreLines form lines events
+  pub rise : RiseFrom 0 events
+  pub parts : text ≡ (lines ++ line) ++ rest
+  pub whole : line ≡ take_through 10 (line ++ rest)
+  pub wrong :
+      ((number ≡ length events + 1) × HasNoEvent form events line × (HasEnd cut events line → ⊥))
+      ⊎ ((number ≡ length events + 2) × HasEnd cut events line × (rest ≡ [] → ⊥))
+
+-- a trace is refused only for such a line
+abbrev pub IsRefusal : Cut → (input : Option Text) → TraceError → Type 0
+IsRefusal cut input (trace.Refused number) = IfSome input (λ text. IsRefused cut text number)
+IsRefusal cut input trace.Memory = Unit {0}
+IsRefusal cut input trace.Read = Unit {0}
+
+-- why an end in the line of this number is refused: it can't come after this tick, or there is more after it
+abbrev pub IsEndRefusal : (tick : ℕ) → End → (number : ℕ) → (left : Option Text) → TraceError → Type 0
+IsEndRefusal tick end number left (trace.Refused n) =
+    ((n ≡ number) × (EndsAfter tick end → ⊥)) ⊎ ((n ≡ number + 1) × EndsAfter tick end × IfSome left (λ rest. rest ≡ [] → ⊥))
+IsEndRefusal tick end number left trace.Memory = Unit {0}
+IsEndRefusal tick end number left trace.Read = Unit {0}
+
+-- a trace that begins with this line has this form, or is no trace
+abbrev pub IsFormOf : Form → (line : Text) → Type 0
+IsFormOf One line = (e : Event) → IsLine Two line e → ⊥
+IsFormOf Two line = (e : Event) × IsLine Two line e
 
 -- ---- While a trace is read
 
@@ -110,3 +162,5 @@ pub record IsRead (form : Form) (input left : Option Text) (line : Text) (tick n
   pub last : tick ≡ last_tick 0 events
   pub read : Consumes input left (lines ++ line)
   pub one : IsOneLine line
+  pub whole : (text rest : Text) → input ≡ Some text → left ≡ Some rest → line ≡ take_through 10 (line ++ rest)
+  pub first : events ≡ [] → IsFormOf form line

@@ -12,6 +12,7 @@ pub mod Locations
 pub mod Fingerprints
 pub mod Lines
 pub mod Events
+pub mod LineReading
 pub mod Traces
 pub mod Patterns
 pub mod Hits
@@ -22,6 +23,7 @@ pub mod Deciding
 pub mod Paired
 pub mod Passing
 pub mod Judging
+pub mod Laws
 pub mod Timeless
 pub mod Parting
 pub mod Reports

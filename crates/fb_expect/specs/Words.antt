@@ -100,6 +100,11 @@ value_of z =
 unfoldable pub is_binding : Text → Bool
 is_binding w = is_some (split_at_mark 61 w >>= λ p. if is_name p.0 then value_of p.1 else None)
 
+-- nothing, or a blank and bindings with a blank between each and the next
+abbrev pub are_values : Text → Bool
+are_values [] = true
+are_values (b ∷ z) = (b == 32) && list_all is_binding (slice_split (nat_eq 32) z)
+
 -- the words after the blank that a text begins with
 abbrev pub words_after : Text → List Text
 words_after [] = []

@@ -1,17 +1,19 @@
 //! Reports how two lines differ.
 
-ghost use Rattle.std.specs.Prelude.{◌≡◌, IfOk};
+ghost use Rattle.std.specs.Prelude.{◌≡◌, IfNone, IfOk, IfSome};
 ghost use Rattle.std.specs.Str.{bytes_eq};
 ghost use Rattle.fb_expect.specs.DifferenceReport as spec;
 ghost use Rattle.fb_expect.specs.DifferenceReport.{IsKind, ShowsDifference};
+ghost use Rattle.fb_expect.specs.Events.{Event, IsLine};
+ghost use Rattle.fb_types.specs.declared.run.Form.{Form as FormModel};
 
 use crate::ending::read_end;
 use crate::entry::Entry;
 use crate::event::read_entry;
-use crate::judging::form_of;
 use crate::parting::Difference;
 use crate::tap::{digits_of, join};
 use crate::words::before;
+use fb_types::Form;
 use std::alloc::{AllocError, Global};
 
 /// The kind of a line of a text.
@@ -32,12 +34,23 @@ fn kind_of(line: &[u8]) -> LineKind<'_>
     if line.is_empty() {
         return LineKind::Missing;
     }
-    if let Some(end) = read_end(line) {
-        return LineKind::Last(end.tick());
+    match read_end(line) {
+        Some(end) => LineKind::Last(end.tick()),
+        None => match entry_in(line) {
+            Some(entry) => LineKind::Event(entry),
+            None => LineKind::Other,
+        },
     }
-    match read_entry(form_of(line), line) {
-        Some(entry) => LineKind::Event(entry),
-        None => LineKind::Other,
+}
+
+/// The entry whose text this is, in either form.
+fn entry_in(line: &[u8]) -> Option<Entry<'_>>
+    ensures some { IfSome result (λ e. IsKind line.now (LineKind.Event e)) }
+    ensures none { IfNone result ((form : FormModel) (e : Event) → IsLine form line.now e → ⊥) }
+{
+    match read_entry(Form::One, line) {
+        Some(entry) => Some(entry),
+        None => read_entry(Form::Two, line),
     }
 }
 

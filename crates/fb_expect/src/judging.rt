@@ -1,13 +1,14 @@
 //! A trace, line by line, against rules.
 
-ghost use Rattle.std.specs.Prelude.{◌≡◌, ◌+◌, List, [], IfOk, IfSome, OnOk, IsTrue, Some, length};
+ghost use Rattle.std.specs.Prelude.{◌≡◌, ◌+◌, ◌^◌, ◌<◌, ◌≤◌, List, [], IfErr, IfNone, IfOk, IfSome, OnOk, IsTrue, Some, length, true};
 ghost use Rattle.std.specs.Io.KnownBytes.{IsAtEnd};
-ghost use Rattle.fb_expect.specs.Events.{Event, event_of};
-ghost use Rattle.fb_expect.specs.Judging.{AllFollow, AllMove, AreJudged, Concludes, Follows, IsFollowed, IsJudged, Judges, KnowsState, Moves, StateOn, rules_of};
+ghost use Rattle.fb_expect.specs.Events.{Event, IsLine, event_of};
+ghost use Rattle.fb_expect.specs.Judging.{AllFollow, AllMove, AreJudged, Concludes, Follows, IsEndRefusal, IsFollowed, IsFormOf, IsJudged, IsRefusal, Judges, KnowsState, Moves, StateOn, rules_of};
 ghost use Rattle.fb_expect.specs.Hits.{hit_of};
 ghost use Rattle.fb_expect.specs.Lines.{IsOneLine};
 ghost use Rattle.fb_expect.specs.Paired.{PairsOn, pair_hit_of, within_of};
 ghost use Rattle.fb_expect.specs.Traces.{AreBelow, EndsAfter, HasNoEnd, IsLast, tick_of};
+ghost use Rattle.fb_expect.specs.declared.ending.End.{End as EndModel};
 ghost use Rattle.fb_expect.specs.declared.rule.Pairing.{Pairing as PairingModel};
 
 use crate::ending::{End, can_end, read_end};
@@ -23,7 +24,6 @@ use crate::sight::{Sights, begin_sights, see_line};
 use crate::tally::{Tally, begin_tally, count_line, decided_by};
 use crate::verdict::{Verdict, verdict_of};
 use crate::watch::{Watch, begin, step};
-use crate::words::cut;
 use fb_types::Form;
 use std::alloc::{AllocError, Global};
 use std::io::BufRead;
@@ -77,12 +77,13 @@ pub enum Cut {
     Allowed,
 }
 
-/// The form of the lines of a trace that begins with this one. In form two the second word is a number, and in form one
-/// it is a name.
-pub(crate) fn form_of(line: &[u8]) -> Form {
-    match cut(line) {
-        Some((_, [_, first, ..])) if first.is_ascii_digit() => Form::Two,
-        _ => Form::One,
+/// The form of the lines of a trace that begins with this one.
+fn form_of(line: &[u8]) -> Form
+    ensures { IsFormOf result line.now }
+{
+    match read_entry(Form::Two, line) {
+        Some(_) => Form::Two,
+        None => Form::One,
     }
 }
 
@@ -262,7 +263,8 @@ fn conclude(
 
 /// Whether a trace can be cut off before this line: before none, or before one that has no end.
 fn is_cut(line: &[u8]) -> bool
-    ensures { IsTrue result → IsOneLine line.now → HasNoEnd line.now }
+    ensures cut { IsTrue result → IsOneLine line.now → HasNoEnd line.now }
+    ensures whole { HasNoEnd line.now → result ≡ true }
 {
     match line.last() {
         Some(last) => *last != b'\n',
@@ -272,11 +274,35 @@ fn is_cut(line: &[u8]) -> bool
 
 /// The end in a line, or that there is before it where a trace may be cut off.
 fn end_at(line: &[u8], tick: u64, cut: Cut) -> Option<End>
-    ensures { IfSome result (λ end. IsOneLine line.now → IsLast cut line.now end) }
+    ensures last { IfSome result (λ end. IsOneLine line.now → IsLast cut line.now end) }
+    ensures only { (end : EndModel) → IsOneLine line.now → IsLast cut line.now end → EndsAfter tick end → result ≡ Some end }
 {
     match cut {
-        Cut::Allowed if is_cut(line) => Some(End::Cut(tick)),
-        _ => read_end(line),
+        Cut::Allowed => {
+            if is_cut(line) {
+                Some(End::Cut(tick))
+            } else {
+                read_end(line)
+            }
+        }
+        Cut::Refused => read_end(line),
+    }
+}
+
+/// The entry in a line of this form that may come after a line of this tick.
+fn next_entry(form: Form, line: &[u8], tick: u64) -> Option<Entry<'_>>
+    ensures some { IfSome result (λ e. IsLine form line.now (event_of e) × (tick ≤ e.tick)) }
+    ensures none { IfNone result ((e : Event) → IsLine form line.now e → tick ≤ e.tick → ⊥) }
+{
+    match read_entry(form, line) {
+        Some(entry) => {
+            if tick <= entry.tick {
+                Some(entry)
+            } else {
+                None
+            }
+        }
+        None => None,
     }
 }
 
@@ -293,6 +319,7 @@ pub fn judge<R: BufRead>(
 ) -> Result<Vec<Judged>, TraceError>
     ensures judged { IfOk result (λ js. IfSome (R.remaining input.old) (λ text. Judges cut text rules.now js.items)) }
     ensures counted { IfOk result (λ js. length js.items ≡ length rules.now) }
+    ensures refused { IfErr result (IsRefusal cut (R.remaining input.old)) }
 {
     let mut watchers = begun(alloc, rules)?;
     let mut line = Vec::new(alloc);
@@ -312,6 +339,7 @@ fn follow<R: BufRead>(
     requires { AllFollow [] watchers.old.items }
     ensures rules { OnOk result (rules_of watchers.new.items ≡ rules_of watchers.old.items) }
     ensures followed { IfOk result (λ p. IsFollowed cut (R.remaining input.old) watchers.new.items p.0 p.1) }
+    ensures refused { IfErr result (IsRefusal cut (R.remaining input.old)) }
 {
     next_line(input, line)?;
     let form = form_of(line.as_slice());
@@ -321,13 +349,11 @@ fn follow<R: BufRead>(
             finish(tick, end, number, line, input)?;
             return Ok((number, end));
         }
-        match read_entry(form, line.as_slice()) {
-            Some(entry) if tick <= entry.tick => {
-                take_line(alloc, watchers.as_mut_slice(), number, &entry)?;
-                tick = entry.tick;
-            }
-            _ => return Err(TraceError::Refused(number)),
-        }
+        let Some(entry) = next_entry(form, line.as_slice(), tick) else {
+            return Err(TraceError::Refused(number));
+        };
+        take_line(alloc, watchers.as_mut_slice(), number, &entry)?;
+        tick = entry.tick;
         next_line(input, line)?;
     }
     Err(TraceError::Read)
@@ -341,7 +367,9 @@ fn finish<R: BufRead>(
     line: &mut Vec<u8>,
     input: &mut R,
 ) -> Result<(), TraceError>
-    ensures { OnOk result (EndsAfter tick end × IsAtEnd (R.remaining input.old)) }
+    requires { number + 1 < 2 ^ 64 }
+    ensures ends { OnOk result (EndsAfter tick end × IsAtEnd (R.remaining input.old)) }
+    ensures refused { IfErr result (IsEndRefusal tick end number (R.remaining input.old)) }
 {
     if !can_end(tick, end) {
         return Err(TraceError::Refused(number));

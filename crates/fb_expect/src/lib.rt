@@ -2,9 +2,9 @@
 //!
 //! Guarantees to callers: `read_rules` gives the rules that the definitions make of the tree of the TOML reader, or the
 //! number of the refusal. `judge` gives for each rule whether it holds of the lines of a trace, breaks (and at which
-//! line first), or is undecided, and how often it was decided, as the definitions say of the whole list of lines. `part`
-//! says that two texts are the same, or are without their ticks, exactly if they are, and otherwise gives the first lines
-//! in which they differ.
+//! line first), or is undecided, and how often it was decided, as the definitions say of the whole list of lines. It
+//! refuses no trace: the line that it names is not what a trace has there (`laws`). `part` says that two texts are the
+//! same, or are without their ticks, exactly if they are, and otherwise gives the first lines in which they differ.
 //!
 //! The report and the text of a difference are the texts that the definitions make of these answers.
 //!
@@ -22,7 +22,7 @@
 //! - `tally`: how often a rule was decided;
 //! - `sight`: what a trace never has;
 //! - `fingerprint` and `port_set`: which lines are passed over;
-//! - `judging`: a trace line by line;
+//! - `judging`: a trace line by line; `laws`: what its definitions have in common;
 //! - `tap` and `junit`: the reports;
 //! - `timeless`, `parting` and `difference_report`: where two texts first differ.
 #![tactic(auto)]
@@ -39,6 +39,7 @@ mod fingerprint;
 mod hit;
 pub mod judging;
 pub mod junit;
+pub mod laws;
 pub mod lines;
 pub mod location;
 pub mod meeting;

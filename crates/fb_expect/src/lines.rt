@@ -1,6 +1,6 @@
 //! Reads a text line by line.
 
-ghost use Rattle.std.specs.Prelude.{◌≡◌, [], IfOk, IfSome, OnOk, IsTrue};
+ghost use Rattle.std.specs.Prelude.{◌≡◌, [], IfOk, IfSome, OnOk, IsTrue, false};
 ghost use Rattle.std.specs.Io.BufRead.{DropsThrough, take_through};
 ghost use Rattle.std.specs.Io.KnownBytes.{Consumes, IsAtEnd};
 ghost use Rattle.fb_expect.specs.Lines.{IsOneLine};
@@ -48,7 +48,8 @@ pub(crate) fn next_line<R: BufRead>(input: &mut R, line: &mut Vec<u8>) -> Result
 
 /// Whether the text is at its end. Otherwise this reads a line.
 pub(crate) fn is_over<R: BufRead>(input: &mut R, line: &mut Vec<u8>) -> Result<bool, ReadFault>
-    ensures { IfOk result (λ over. IsTrue over → IsAtEnd (R.remaining input.old)) }
+    ensures over { IfOk result (λ over. IsTrue over → IsAtEnd (R.remaining input.old)) }
+    ensures more { IfOk result (λ over. over ≡ false → IfSome (R.remaining input.old) (λ rest. rest ≡ [] → ⊥)) }
 {
     next_line(input, line)?;
     Ok(line.is_empty())

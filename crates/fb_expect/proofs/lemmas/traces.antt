@@ -3,3 +3,4 @@ pub mod Alikeness
 pub mod Differing
 pub mod Gathering
 pub mod Numbering
+pub mod Excluding

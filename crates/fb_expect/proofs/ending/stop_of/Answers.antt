@@ -14,5 +14,5 @@ stop text tick resource rest reason start blank is = record {
   parts = start.parts ∙ ap (λ (t : Text). start.digits ++ (codes " " ++ (resource ++ t))) blank;
 }
 
-pub returns-then-is_reason : goal.returns-then-is_reason
-returns-then-is_reason c = stop _ _ _ _ _ c.in_ok-tick.ensures c.in_ok-after_front.ensures.parts (c.is_reason.ensures c.if-is_reason.true)
+pub returns-then-is_reason-clause-text : goal.returns-then-is_reason-clause-text
+returns-then-is_reason-clause-text c = stop _ _ _ _ _ c.in_ok-tick.ensures.parts c.in_ok-after_front.ensures.parts (c.is_reason.ensures.reason c.if-is_reason.true)

@@ -16,5 +16,5 @@ key text first second (Some rest) a b c = (
       ∙ sym (append_assoc a.0 (b.0 ++ c.0) rest.now),
 )
 
-pub returns : goal.returns
-returns c = key c.args.text.now c.in_ok-after_class.after_class.now c.in_ok-after_first.after_first.now c.after_number-3.result c.in_ok-after_class.ensures c.in_ok-after_first.ensures c.after_number-3.ensures
+pub returns-clause-parts : goal.returns-clause-parts
+returns-clause-parts c = key c.args.text.now c.in_ok-after_class.after_class.now c.in_ok-after_first.after_first.now c.after_number-3.result c.in_ok-after_class.ensures.parts c.in_ok-after_first.ensures.parts c.after_number-3.ensures.parts

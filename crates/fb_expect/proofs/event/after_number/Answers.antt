@@ -9,7 +9,7 @@ number most text digits rest None parts is blank = tt
 number most text digits rest (Some r) parts is blank =
     (digits ++ codes " ", (digits, is, refl), parts ∙ ap (λ (t : Text). digits ++ t) blank ∙ sym (append_assoc digits (codes " ") r.now))
 
-pub returns-then-is_number : goal.returns-then-is_number
-returns-then-is_number c =
+pub returns-then-is_number-clause-parts : goal.returns-then-is_number-clause-parts
+returns-then-is_number-clause-parts c =
     number c.args.most c.args.text.now c.in_ok-digits.digits.now c.in_ok-digits.rest.now c.after_front.result c.in_ok-digits.ensures.parts (sym c.is_number.ensures ∙ c.if-is_number.true)
     c.after_front.ensures.parts
