@@ -68,10 +68,9 @@ pub use event::read_entry;
 pub use fault::TraceError;
 pub use judging::{Cut, Judged, judge};
 pub use junit::{SUITES_HEAD, SUITES_TAIL, put_suite};
-pub use lines::ReadFault;
 pub use location::{RuleFault, RuleKey, RulesLocation, key_text, pattern_keys, rules_location};
 pub use meeting::{is_at, meets};
-pub use parting::{Difference, part};
+pub use parting::{Difference, PartFault, part};
 pub use pattern::{
     Comparison, Condition, Operand, Pattern, PatternFault, PatternPart, Way, pattern_fault,
     pattern_of,

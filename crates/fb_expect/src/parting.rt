@@ -1,6 +1,8 @@
 //! Where two texts first differ.
 
-ghost use Rattle.std.specs.Prelude.{◌≡◌, IfOk};
+ghost use Rattle.std.specs.Prelude.{◌≡◌, [], IfOk, IfSome, OnOk};
+ghost use Rattle.std.specs.Io.BufRead.{DropsThrough, take_through};
+ghost use Rattle.std.specs.Io.KnownBytes.{IsAtEnd};
 ghost use Rattle.fb_expect.specs.Parting as spec;
 ghost use Rattle.fb_expect.specs.Parting.{MayFind, MayPart};
 
@@ -19,6 +21,34 @@ pub struct Difference {
     pub right: Vec<u8>,
 }
 
+/// Why two texts are not compared.
+#[derive(Clone, Copy)]
+pub enum PartFault {
+    /// There is no memory for a line.
+    Memory,
+    /// The reader of the first failed, other than for memory.
+    First,
+    /// That of the second did.
+    Second,
+}
+
+/// Reads the next line of a text, or fails as that text does.
+fn read_line<R: BufRead>(
+    input: &mut R,
+    line: &mut Vec<u8>,
+    unread: PartFault,
+) -> Result<(), PartFault>
+    ensures line { OnOk result (IfSome (R.remaining input.old) (λ xs. line.new.items ≡ take_through 10 xs)) }
+    ensures rest { OnOk result (DropsThrough (R.remaining input.old) (R.remaining input.new) 10) }
+    ensures end { OnOk result (line.new.items ≡ [] → IsAtEnd (R.remaining input.old)) }
+{
+    match next_line(input, line) {
+        Ok(()) => Ok(()),
+        Err(ReadFault::Memory) => Err(PartFault::Memory),
+        Err(ReadFault::Read) => Err(unread),
+    }
+}
+
 /// Whether two lines are the same, or are without their ticks.
 fn are_alike(is_without_ticks: bool, left: &[u8], right: &[u8]) -> bool
     ensures { result ≡ spec.are_alike is_without_ticks left.now right.now }
@@ -35,13 +65,13 @@ fn are_alike(is_without_ticks: bool, left: &[u8], right: &[u8]) -> bool
 /// each line.
 ///
 /// # Errors
-/// `Memory` if there is no memory for a line, `Read` if a reader fails otherwise.
+/// `Memory` if there is no memory for a line, else which of the two can't be read.
 pub fn part<R: BufRead, S: BufRead>(
     alloc: Global,
     is_without_ticks: bool,
     first: &mut R,
     second: &mut S,
-) -> Result<Option<Difference>, ReadFault>
+) -> Result<Option<Difference>, PartFault>
     ensures { IfOk result (MayPart is_without_ticks (R.remaining first.old) (S.remaining second.old)) }
 {
     let mut left = Vec::new(alloc);
@@ -64,12 +94,12 @@ fn parting<R: BufRead, S: BufRead>(
     second: &mut S,
     left: &mut Vec<u8>,
     right: &mut Vec<u8>,
-) -> Result<Option<u64>, ReadFault>
+) -> Result<Option<u64>, PartFault>
     ensures { IfOk result (MayFind is_without_ticks (R.remaining first.old) (S.remaining second.old) left.new.items right.new.items) }
 {
     for number in 1..u64::MAX {
-        next_line(first, left)?;
-        next_line(second, right)?;
+        read_line(first, left, PartFault::First)?;
+        read_line(second, right, PartFault::Second)?;
         if left.is_empty() && right.is_empty() {
             return Ok(None);
         }
@@ -77,5 +107,6 @@ fn parting<R: BufRead, S: BufRead>(
             return Ok(Some(number));
         }
     }
-    Err(ReadFault::Read)
+    // 2^64 lines are more than any text has
+    Err(PartFault::First)
 }
