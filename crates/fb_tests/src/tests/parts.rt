@@ -18,7 +18,7 @@ mod messages;
 mod narrow;
 mod numbers;
 mod readers;
-mod seats;
 mod shared;
+mod shell_indexes;
 mod timers;
 mod wiring;
