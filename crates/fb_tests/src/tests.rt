@@ -7,6 +7,7 @@ mod advances;
 mod board;
 mod calls;
 mod clocks;
+mod crews;
 mod examples;
 mod gates;
 mod jobs;

@@ -38,6 +38,8 @@ pub struct Squares {
     passed: AtomicU64,
     /// Whether a job was run that had not passed the gate once, or the first one gave up.
     is_wrong: AtomicBool,
+    /// Whether jobs pass another gate than this one.
+    has_other_gate: AtomicBool,
 }
 
 impl Squares {
@@ -50,7 +52,15 @@ impl Squares {
             ended: AtomicU64::new(0),
             passed: AtomicU64::new(0),
             is_wrong: AtomicBool::new(false),
+            has_other_gate: AtomicBool::new(false),
         }
+    }
+
+    /// Where the gate is another one.
+    pub fn unseen() -> Squares {
+        let squares = Squares::new(false);
+        squares.has_other_gate.store(true, SeqCst);
+        squares
     }
 
     /// Another list of jobs is to be run.
@@ -98,7 +108,7 @@ impl Deal for Squares {
 impl Work for Squares {
     // A job is its own number.
     fn run(&self, _alloc: Global, job: u32) -> u64 {
-        if !self.has_passed_once(job as usize) {
+        if !self.has_other_gate.load(SeqCst) && !self.has_passed_once(job as usize) {
             self.is_wrong.store(true, SeqCst);
         }
         if self.begun.fetch_add(1, SeqCst) == 0 && self.first_waits && !self.nine_have_ended() {
@@ -111,7 +121,7 @@ impl Work for Squares {
 }
 
 /// The numbers below a count.
-fn numbers(rt: &impl Abort, alloc: Global, count: u32) -> Vec<u32> {
+pub fn numbers(rt: &impl Abort, alloc: Global, count: u32) -> Vec<u32> {
     let mut jobs = Vec::new(alloc);
     for job in 0..count {
         let Ok(()) = jobs.push(job) else {
