@@ -1,7 +1,8 @@
 -- What contracts see of a board, of its opener and of its seats.
 -- This project's own profile: no clause of IEC 61499 speaks of a claim board.
-use Rattle.std.specs.Prelude.{◌≡◌, ℕ, ◌+◌, List, length, slice_get, Some, None, IsTrue}
+use Rattle.std.specs.Prelude.{◌≡◌, ℕ, ◌+◌, ◌-◌, List, length, slice_get, Some, None, IsTrue}
 use Rattle.atomic_table.specs.Seated.{TableId}
+use Rattle.fb_board.specs.declared.board.TheConstants.{MAX_SEATS}
 use Rattle.fb_board.specs.declared.rule.View.{View}
 use Rattle.fb_board.specs.View.{new_seat_view}
 
@@ -54,3 +55,7 @@ module _ {J : Type 0} where
   -- the opener of this board, with room for what is made of each of its jobs
   abbrev pub IsOpenerOf : BoardModel J → OpenerModel J → Type 0
   IsOpenerOf board opener = (opener.board ≡ board.id) × (opener.room ≡ length board.jobs)
+
+  -- how many seats were split off it
+  abbrev pub seats_of : OpenerModel J → ℕ
+  seats_of opener = MAX_SEATS - opener.knows.spare

@@ -1,48 +1,71 @@
 //! Threads that live for many phases. Between them they sleep, so that a phase does not start any.
+//!
+//! Shifts wait under a lock, and a thread that finds none sleeps at its condition. What was served comes back through the
+//! channel of its phase.
+
+ghost use Rattle.std.specs.Prelude.{◌≤◌, vec_len};
 
 use crate::gate::Gate;
-use crate::phase::Shift;
+use crate::shift::Shift;
 use crate::work::Work;
 use std::alloc::Global;
-use std::hint::spin_loop;
+use std::sync::atomic::AtomicU64;
 use std::sync::atomic::Ordering::SeqCst;
-use std::sync::atomic::{AtomicBool, AtomicU64};
-use std::sync::{Mutex, Wait};
+use std::sync::{Condvar, Mutex, Wait};
 use std::thread::Threads;
 use std::{mem, thread};
 
-/// How often the thread that calls looks whether the others are done, before it sleeps: a job mostly takes no longer, and
-/// a thread that sleeps has to be woken.
-const LOOKS: u32 = 2000;
+/// What a crew's lock keeps.
+#[derive(Drop)]
+struct Desk<W: Work> {
+    /// The number of the phase whose shifts wait.
+    phase: u64,
+    /// The shifts that nobody has taken.
+    waiting: Vec<Shift<W>>,
+    is_dismissed: bool,
+}
+
+impl<W: Work> Desk<W> {
+    /// Puts the shifts of a phase among those that wait. It gives back those that it does not put there: while shifts of
+    /// another phase wait, and if there is no memory for them.
+    fn put(&mut self, phase: u64, mut shifts: Vec<Shift<W>>) -> Vec<Shift<W>>
+        ensures { vec_len result ≤ vec_len shifts }
+    {
+        if self.waiting.is_empty() {
+            self.phase = phase;
+            return mem::replace(&mut self.waiting, shifts);
+        }
+        if self.phase == phase {
+            let _ = self.waiting.append(&mut shifts);
+        }
+        shifts
+    }
+}
 
 /// A crew of threads. They share it by reference, with the one thread that calls them.
 ///
-/// A thread with nothing to do sleeps until the bell rings. Nobody waits for a thread that has taken no shift. So if no
+/// A thread with nothing to do sleeps until it is called. Nobody waits for a thread that has taken no shift. So if no
 /// thread can be started, or none wakes, the one that calls does everything.
 #[derive(Drop)]
 pub struct Crew<W: Work> {
-    /// The shifts that nobody has taken.
-    waiting: Mutex<Vec<Shift<W>>>,
-    /// How many shifts were taken and are not done.
-    out: AtomicU64,
-    /// How often it has rung, for shifts and for the dismissal.
-    bell: AtomicU64,
-    is_dismissed: AtomicBool,
-}
-
-/// The part of a word that a thread compares before it sleeps.
-fn low_half(word: u64) -> u32 {
-    (word % 0x1_0000_0000) as u32
+    desk: Mutex<Desk<W>>,
+    /// Shifts wait, or the crew is dismissed.
+    called: Condvar,
+    /// How many phases have begun.
+    phases: AtomicU64,
 }
 
 impl<W: Work> Crew<W> {
     /// A crew with no threads yet.
     pub fn new(alloc: Global) -> Crew<W> {
         Crew {
-            waiting: Mutex::new(Vec::new(alloc)),
-            out: AtomicU64::new(0),
-            bell: AtomicU64::new(0),
-            is_dismissed: AtomicBool::new(false),
+            desk: Mutex::new(Desk {
+                phase: 0,
+                waiting: Vec::new(alloc),
+                is_dismissed: false,
+            }),
+            called: Condvar::new(),
+            phases: AtomicU64::new(0),
         }
     }
 
@@ -67,92 +90,57 @@ impl<W: Work> Crew<W> {
     /// Serves until the crew is dismissed.
     pub(crate) fn stand_by<R: Wait, P: Gate>(&self, rt: &R, alloc: Global, work: &W, gate: &P) {
         for _ in rt.forever() {
-            // Read before the look at the shifts: if it rings after that look, the sleep ends at once.
-            let rung = self.bell.load(SeqCst);
-            if self.is_dismissed.load(SeqCst) {
+            let Some(shift) = self.next(rt) else {
                 return;
-            }
-            match self.take(rt) {
-                Some(shift) => {
-                    shift.serve(rt, alloc, work, gate);
-                    self.report();
-                }
-                None => self.bell.park(rt, low_half(rung)),
-            }
+            };
+            shift.serve(rt, alloc, work, gate);
         }
     }
 
-    /// Takes a shift, if one waits. It is counted under the lock: whoever finds it gone finds it counted.
-    fn take<R: Wait>(&self, rt: &R) -> Option<Shift<W>> {
-        let mut waiting = self.waiting.lock(rt);
-        let shift = waiting.pop()?;
-        self.out.fetch_add(1, SeqCst);
-        Some(shift)
-    }
-
-    /// A shift that was taken is done. The last one wakes who waits for all.
-    fn report(&self) {
-        if self.out.fetch_sub(1, SeqCst) == 1 {
-            self.out.wake_all();
+    /// Sleeps until a shift waits, and takes it. There is none once the crew is dismissed.
+    fn next<R: Wait>(&self, rt: &R) -> Option<Shift<W>> {
+        let mut desk = self.called.wait_while(rt, self.desk.lock(rt), |desk| {
+            !desk.is_dismissed && desk.waiting.is_empty()
+        });
+        if desk.is_dismissed {
+            return None;
         }
+        desk.waiting.pop()
     }
 
-    /// Wakes a thread for each of these shifts. Those of an earlier call are all done or taken back.
-    pub(crate) fn call<R: Wait>(&self, rt: &R, shifts: Vec<Shift<W>>) {
-        let count = shifts.len();
-        let before = mem::replace(&mut *self.waiting.lock(rt), shifts);
-        drop(before);
-        self.bell.fetch_add(1, SeqCst);
-        for _ in 0..count {
-            self.bell.wake_one();
-        }
+    /// The number of the next phase, from 1.
+    pub(crate) fn next_phase(&self) -> u64 {
+        self.phases.fetch_add(1, SeqCst).wrapping_add(1)
     }
 
-    /// Wakes a thread for each of these shifts too. If there is no memory for one, it is dropped.
-    pub(crate) fn call_more<R: Wait>(&self, rt: &R, shifts: Vec<Shift<W>>) {
+    /// Hands out these shifts of a phase, and wakes a thread for each. It gives back those that it does not hand out: while
+    /// shifts of another phase wait, and if there is no memory for them.
+    pub(crate) fn call<R: Wait>(&self, rt: &R, phase: u64, shifts: Vec<Shift<W>>) -> Vec<Shift<W>>
+        ensures { vec_len result ≤ vec_len shifts }
+    {
         let count = shifts.len();
         if count == 0 {
-            return;
+            return shifts;
         }
-        for shift in shifts {
-            let _ = self.waiting.lock(rt).push(shift);
+        let kept = self.desk.lock(rt).put(phase, shifts);
+        for _ in 0..count - kept.len() {
+            self.called.notify_one();
         }
-        self.bell.fetch_add(1, SeqCst);
-        for _ in 0..count {
-            self.bell.wake_one();
-        }
+        kept
     }
 
-    /// Drops the shifts that nobody has taken, and waits until those that were taken are done: their threads are awake.
-    pub(crate) fn recall<R: Wait>(&self, rt: &R, alloc: Global) {
-        let left = mem::replace(&mut *self.waiting.lock(rt), Vec::new(alloc));
-        drop(left);
-        for _ in rt.forever() {
-            let out = self.look();
-            if out == 0 {
-                return;
-            }
-            self.out.park(rt, low_half(out));
+    /// Takes back the shifts of a phase that nobody has taken.
+    pub(crate) fn take_back<R: Wait>(&self, rt: &R, alloc: Global, phase: u64) -> Vec<Shift<W>> {
+        let mut desk = self.desk.lock(rt);
+        if desk.phase != phase {
+            return Vec::new(alloc);
         }
-    }
-
-    /// How many shifts are not done, after a while if there are any.
-    fn look(&self) -> u64 {
-        let mut out = self.out.load(SeqCst);
-        for _ in 0..LOOKS {
-            if out == 0 {
-                return 0;
-            }
-            spin_loop();
-            out = self.out.load(SeqCst);
-        }
-        out
+        mem::replace(&mut desk.waiting, Vec::new(alloc))
     }
 
     /// Lets each thread end once it has done what it took.
-    pub fn dismiss(&self) {
-        self.is_dismissed.store(true, SeqCst);
-        self.bell.fetch_add(1, SeqCst);
-        self.bell.wake_all();
+    pub fn dismiss<R: Wait>(&self, rt: &R) {
+        self.desk.lock(rt).is_dismissed = true;
+        self.called.notify_all();
     }
 }

@@ -141,7 +141,7 @@ fn run_workers<R: Threads + Wait + Sync, W: Write, P: Gate, C: Clock + CpuClock>
             ensures { (given : Given) → Declares given system.entry.now → IfOk result (λ o. Writes given options (W.contents out.entry.now) (W.contents out.exit.now) (ending_of o)) × IfErr result (FailsRun given options (W.contents out.entry.now) (W.contents out.exit.now)) }
         {
             let ended = run_rounds(rt, alloc, system, options, out, &pool, clock);
-            crew.dismiss();
+            crew.dismiss(rt);
             ended
         },
     );

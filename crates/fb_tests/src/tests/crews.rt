@@ -158,7 +158,7 @@ fn expect_crew<R: Abort + Threads + Wait + Sync>(
             for phase in 0..PHASES {
                 expect_phase(rt, alloc, naps, work, Some(&crew), (phase, workers));
             }
-            crew.dismiss();
+            crew.dismiss(rt);
         },
     );
     expect_together(rt, naps, least);

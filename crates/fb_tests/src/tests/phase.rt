@@ -236,7 +236,7 @@ fn squares_come_in_order_from_a_crew(rt: HostRuntime) {
         || {
             expect_done_meanwhile(&rt, alloc, &work, &crew);
             expect_all(&rt, alloc, &work, Some(&crew));
-            crew.dismiss();
+            crew.dismiss(&rt);
         },
     );
     expect_all(&rt, alloc, &work, Some(&crew));

@@ -68,5 +68,9 @@ returns-clause-seats g c =
 pub returns-clause-numbered : goal.returns-clause-numbered
 returns-clause-numbered g c = c.loop.invariant.numbered
 
+pub returns-clause-counted : goal.returns-clause-counted
+returns-clause-counted g c =
+    let spare = c.loop.invariant.spare in let end = c.loop-test.false in let within = c.loop.auto.counter-end in omega arith
+
 pub invariant_of-opener : goal.invariant_of-opener
 invariant_of-opener g c = ap (λ v. v.items) c.loop.invariant.same_room ∙ c.opener.invariant

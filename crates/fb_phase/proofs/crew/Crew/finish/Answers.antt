@@ -1,7 +1,7 @@
-use Rattle.std.proofs.Common.{ap, ◌∙◌, subst}
+use Rattle.std.proofs.Common.{subst, IfOk}
 use Rattle.std.specs.List.{AllZip}
 use Rattle.fb_phase.proofs.crew.Crew.finish.Goals as goal
 
 -- the phase is seen as its board's jobs
-pub returns-in-Ok : goal.returns-in-Ok
-returns-in-Ok g c = subst (λ jobs. AllZip g.W.Deal.does jobs c.in-Ok.done.items) (ap (λ b. b.jobs) c.in-Some.ensures ∙ c.phase.view_is) c.in-Ok.ensures.done
+pub returns : goal.returns
+returns g c = subst (λ jobs. IfOk c.close.result (λ v. AllZip g.W.Deal.does jobs v.items)) c.phase.view_is c.close.ensures
