@@ -1,6 +1,6 @@
 //! How the steps of one tick were used, up to the stop of a simulation.
 
-ghost use Rattle.std.specs.Prelude.{◌≡◌, ◌^◌, ◌<◌, ◌≤◌, ◌==◌, ◌&&◌, IfNone, IfOk, IfSome, IsTrue, None, OnOk, length, replicate};
+ghost use Rattle.std.specs.Prelude.{◌≡◌, ◌^◌, ◌<◌, ◌≤◌, ◌==◌, ◌&&◌, IfNone, IfOk, IfSome, IsTrue, None, OnOk, false, length, replicate};
 ghost use Rattle.fb_types.specs.Headline.{stimuli_of};
 ghost use Rattle.fb_types.specs.Keys.{without};
 ghost use Rattle.fb_types.specs.States.{State};
@@ -12,6 +12,7 @@ ghost use Rattle.fb_net.specs.Events.{IsEventIn, IsKeyOf, event_of};
 ghost use Rattle.fb_resource.specs.Counts.{meter_of};
 ghost use Rattle.fb_sim_machine.specs.Machines.{IsAt, IsReady};
 ghost use Rattle.fb_sim_machine.specs.Runs.{IsSpent};
+ghost use Rattle.fb_stop.specs.Found.{NeverStops};
 ghost use Rattle.fb_stop.specs.Spent.{AreNone, AreSpent, Charges, HasSpent, IsMost, is_of};
 
 use crate::found::instance_of;
@@ -115,6 +116,7 @@ fn go_on(
     requires few { limit ≤ 10 ^ 7 }
     requires counted { length spent.old.items ≡ instance_count system.now }
     ensures spent { IfOk result (λ stops. IsTrue stops → AreSpent system.now horizon limit moment spent.old.items spent.new.items) }
+    ensures none { IfOk result (λ stops. stops ≡ false → NeverStops system.now horizon limit) }
     ensures counted { OnOk result (length spent.new.items ≡ instance_count system.now) }
 {
     let mut least = Least::new();
@@ -143,6 +145,7 @@ pub(crate) fn steps_spent(
     requires early { horizon ≤ 10 ^ 12 }
     requires few { limit ≤ 10 ^ 7 }
     ensures spent { IfOk result (λ o. IfSome o (λ v. AreSpent system.now horizon limit (record { tick = tick; resource = resource }) (replicate (instance_count system.now) 0) v.items)) }
+    ensures none { IfOk result (λ o. IfNone o (NeverStops system.now horizon limit)) }
     ensures counted { IfOk result (λ o. IfSome o (λ v. length v.items ≡ instance_count system.now)) }
 {
     let moment = Moment { tick, resource };

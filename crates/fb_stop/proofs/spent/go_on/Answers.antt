@@ -1,9 +1,10 @@
-use Rattle.fb_types.proofs.Common.{◌∷◌, ◌++◌, ◌∙◌, [], Option, None, refl, subst, arith, Taken, after, opening, system_of, stimuli_of}
+use Rattle.fb_types.proofs.Common.{◌∷◌, ◌++◌, ◌∙◌, [], Option, None, refl, subst, arith, true≢false, Taken, after, opening, system_of, stimuli_of}
 use Rattle.fb_types.specs.declared.value.Reason.{Reason}
 use Rattle.fb_net.specs.Events.{event_of}
 use Rattle.fb_sim_machine.proofs.lemmas.AgendaIs.{all_falls, at_left, machine_left, takes_least}
 use Rattle.fb_sim_machine.proofs.lemmas.JoinedRuns.{reaches_more, reaches_none}
 use Rattle.fb_stop.specs.Spent.{ChargesAll, HasSpent, is_of, used}
+use Rattle.fb_stop.proofs.lemmas.runs.Ending.{never_stops}
 use Rattle.fb_stop.proofs.lemmas.runs.Spending.{are_spent, charged_alike, charged_on}
 use Rattle.fb_stop.proofs.spent.go_on.Goals as goal
 
@@ -108,3 +109,11 @@ returns-in-Some-clause-counted c =
 
 pub returns-clause-counted : goal.returns-clause-counted
 returns-clause-counted c = c.loop-moment.invariant.counted
+
+pub returns-in-Some-clause-none : goal.returns-in-Some-clause-none
+returns-in-Some-clause-none c = λ no. absurd (true≢false no)
+
+pub returns-clause-none : goal.returns-clause-none
+returns-clause-none c = λ _.
+    let inv = c.loop-moment.invariant in
+    never_stops c.args.system.now c.args.horizon c.args.limit inv.at inv.taken inv.reaches c.loop-moment.run.traffic.agenda inv.is.agenda c.loop-moment-test.ensures.none
