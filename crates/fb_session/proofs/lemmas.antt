@@ -9,4 +9,5 @@ pub mod UntilIs
 pub mod NextIs
 pub mod ReadRows
 pub mod BreakingIs
+pub mod HittingIs
 pub mod Showing

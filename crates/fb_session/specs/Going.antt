@@ -1,16 +1,17 @@
 -- Taking events, pausing, and ending (this project's profile).
-use Rattle.std.specs.Prelude.{◌≡◌, ◌+◌, ◌^◌, ◌<◌, ◌≤◌, ◌++◌, ℕ, List, [], ◌∷◌, IsSome, None, Option, Some, Result, Ok, Err}
+use Rattle.std.specs.Prelude.{◌≡◌, ◌⊎◌, ◌+◌, ◌^◌, ◌<◌, ◌≤◌, ◌++◌, ℕ, List, [], ◌∷◌, length, IsSome, None, Option, Some, Result, Ok, Err}
 use Rattle.std.specs.Io.KnownBytes.{Appends}
 use Rattle.fb_types.specs.Headline.{IsTrace, system_of}
 use Rattle.fb_types.specs.Keys.{NoneBelow, Precedes}
-use Rattle.fb_types.specs.Simulation.{Taken, Chain, Ending, lines_of}
+use Rattle.fb_types.specs.Simulation.{Taken, Chain, Ending, ending_of, lines_of}
 use Rattle.fb_types.specs.States.{Config}
-use Rattle.fb_types.specs.Text.{lines_text}
+use Rattle.fb_types.specs.Text.{last_line, lines_text}
 use Rattle.fb_types.specs.declared.key.Key.{Key}
 use Rattle.fb_laws.specs.Sound.{AreGood}
-use Rattle.fb_trace.specs.End.{ending_of}
-use Rattle.fb_trace.specs.Progress.{IsPartWritten}
+use Rattle.fb_trace.specs.End as outcome
+use Rattle.fb_trace.specs.Progress.{IsPartWritten, bounded}
 use Rattle.fb_session.specs.declared.stage.Stage.TheVariants as stage
+use Rattle.fb_session.specs.Hitting.{IsHitBy, PassBreaks}
 use Rattle.fb_session.specs.Pasts.{IsOf, Past, StandsBy, Talk, now, stop_text, told, with_rows}
 use Rattle.fb_session.specs.declared.fault.SessionFault.{SessionFault}
 use Rattle.fb_session.specs.declared.going.End.{End}
@@ -26,6 +27,10 @@ now_of t p = now t.inputs p
 
 -- ---- Taking
 
+-- These bytes were written since, and are counted, up to the greatest count.
+abbrev pub CountsMore : (old new : Talk) → (bytes : List ℕ) → Type 0
+CountsMore old new bytes = bounded new.written ≡ bounded (old.written + length bytes)
+
 -- From where the session stood by a past, more was taken, and the writer got its lines and nothing else.
 pub record HasTaken (old new : Talk) (p : Past) (more : List Taken) (written now : Option (List ℕ)) : Type 0 where
   pub of : IsOf old new
@@ -33,14 +38,19 @@ pub record HasTaken (old new : Talk) (p : Past) (more : List Taken) (written now
   pub breaks : new.breaks ≡ old.breaks
   pub stands : StandsBy new (record p { taken = p.taken ++ more })
   pub got : Appends written now (lines_text old.form (system_of old.inputs) (lines_of more) ++ stop_text (system_of old.inputs) new.stage)
+  pub counted : CountsMore old new (lines_text old.form (system_of old.inputs) (lines_of more) ++ stop_text (system_of old.inputs) new.stage)
 
--- Where a session that goes on comes to, at most to this tick.
+-- Where a session that goes on comes to, at most to this tick. It pauses after the first event with a line of a break, and after no
+-- other: the break is the one with the least number.
 abbrev pub Reaches : (to : ℕ) → (old new : Talk) → Past → List Taken → Until → Type 0
 Reaches to old new p more until.At =
-    (new.stage ≡ stage.Running) × (new.reached ≡ to) × NoneBelow (now old.inputs (record p { taken = p.taken ++ more })).agenda to
+    (new.stage ≡ stage.Running) × (new.reached ≡ to) × NoneBelow (now old.inputs (record p { taken = p.taken ++ more })).agenda to × PassBreaks (system_of old.inputs) old.breaks more
 Reaches to old new p more (until.Break number tick) =
     (new.stage ≡ stage.Running) × (before : List Taken) × (t : Taken) × (more ≡ before ++ t ∷ []) × (t.key.tick ≡ tick) × (tick < to) × (new.reached ≡ tick + 1)
-Reaches to old new p more (until.Stop m) = (new.stage ≡ stage.Stopped m) × (m.tick < to) × (new.reached ≡ m.tick + 1)
+    × PassBreaks (system_of old.inputs) old.breaks before × IsHitBy (system_of old.inputs) old.breaks t.effect.lines (Some number)
+Reaches to old new p more (until.Stop m) =
+    (new.stage ≡ stage.Stopped m) × (m.tick < to) × (new.reached ≡ m.tick + 1)
+    × ((before : List Taken) × (t : Taken) × (more ≡ before ++ t ∷ []) × PassBreaks (system_of old.inputs) old.breaks before)
 Reaches to old new p more until.Stopped = ⊥
 Reaches to old new p more (until.Below reached) = ⊥
 
@@ -48,12 +58,17 @@ Reaches to old new p more (until.Below reached) = ⊥
 abbrev pub Stays : (old new : Talk) → (written now : Option (List ℕ)) → Type 0
 Stays old new written now = (new ≡ old) × (now ≡ written)
 
--- What the writer got, after what was told before, is some of the bytes that the next takings have.
+-- nothing, or the last line of what ends with these takings at a horizon
+abbrev pub IsLastAfter : (old : Talk) → (more : List Taken) → (end : List ℕ) → Type 0
+IsLastAfter old more end = (end ≡ []) ⊎ ((horizon : ℕ) × (end ≡ last_line (system_of old.inputs) (ending_of horizon more)))
+
+-- What the writer got, after what was told before, is some of the bytes that the next takings have, with the last line after
+-- them, if they end so. Its count is that of the call.
 abbrev pub IsBeginning : (old : Talk) → Past → SessionFault → (written now : Option (List ℕ)) → Type 0
 IsBeginning old p fault.Memory written now =
     (more : List Taken) × Chain (system_of old.inputs) old.steps (now_of old p) more × Appends written now (lines_text old.form (system_of old.inputs) (lines_of more))
 IsBeginning old p (fault.Write n) written now =
-    (more : List Taken) × (end : List ℕ) × Chain (system_of old.inputs) old.steps (now_of old p) more
+    (more : List Taken) × (end : List ℕ) × Chain (system_of old.inputs) old.steps (now_of old p) more × IsLastAfter old more end
     × IsPartWritten written now (lines_text old.form (system_of old.inputs) (lines_of more) ++ end) n
 
 -- The writer got some first bytes of what there would have been, of this length, or of whole lines where memory ran out.
@@ -61,6 +76,7 @@ IsBeginning old p (fault.Write n) written now =
 pub record HasFailed (old new : Talk) (e : SessionFault) (written now : Option (List ℕ)) : Type 0 where
   pub failed : new.stage ≡ stage.Failed
   pub of : IsOf old new
+  pub counted : new.written ≡ old.written
   pub beginning : (p : Past) → StandsBy old p → IsBeginning old p e written now
 
 abbrev pub GoesUntil : (to : ℕ) → (old new : Talk) → (written now : Option (List ℕ)) → Result Until SessionFault → Type 0
@@ -73,9 +89,10 @@ GoesUntil to old new written now (Err e) = HasFailed old new e written now
 
 -- With the horizon at this tick, what was written before and now is the whole trace of the inputs with all rows: the headline,
 -- with its texts as they are.
-abbrev pub IsWhole : (to : ℕ) → Talk → (written now : Option (List ℕ)) → Ending → Type 0
-IsWhole to old written now end =
-    (p : Past) → StandsBy old p → (bytes : List ℕ) × Appends written now bytes × IsTrace (with_rows old.inputs p.given) old.form to old.steps (told old p ++ bytes) end
+abbrev pub IsWhole : (to : ℕ) → (old new : Talk) → (written now : Option (List ℕ)) → Ending → Type 0
+IsWhole to old new written now end =
+    (p : Past) → StandsBy old p
+    → (bytes : List ℕ) × Appends written now bytes × CountsMore old new bytes × IsTrace (with_rows old.inputs p.given) old.form to old.steps (told old p ++ bytes) end
 
 -- What a session has written is a beginning of the trace of the inputs with all rows, with some horizon.
 pub record IsFront (t : Talk) (p : Past) (bytes : List ℕ) : Type 0 where
@@ -109,7 +126,7 @@ TakesOne old new written now (Err e) = HasFailed old new e written now
 -- With an end the trace is whole. Below the least tick nothing changes.
 abbrev pub EndsAt : (to : ℕ) → (old new : Talk) → (written now : Option (List ℕ)) → Result End SessionFault → Type 0
 EndsAt to old new written now (Ok (end.Below n)) = (n ≡ old.reached) × (to < n) × Stays old new written now
-EndsAt to old new written now (Ok (end.Over o)) = IsWhole to old written now (ending_of o)
+EndsAt to old new written now (Ok (end.Over o)) = IsWhole to old new written now (outcome.ending_of o)
 EndsAt to old new written now (Err e) = HasFailed old new e written now
 
 -- The least event that waits below the greatest tick, by its tick and its resource.

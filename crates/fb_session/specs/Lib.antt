@@ -1,4 +1,5 @@
 pub mod Pasts
+pub mod Hitting
 pub mod Breaking
 pub mod Giving
 pub mod Running

@@ -1,9 +1,17 @@
 //! Breaks: patterns of lines after which a session pauses.
 
-ghost use Rattle.std.specs.Prelude.{◌≡◌, ◌⊎◌, ◌↔◌, [], All, Contains, IfOk, IfSome, IsTrue, Some};
+ghost use Rattle.std.specs.Prelude.{◌≡◌, ◌⊎◌, ◌↔◌, ◌++◌, [], All, Contains, IfOk, IfSome, IsTrue, OnOk, Some, map, option_map, true};
+ghost use Rattle.fb_expect.specs.Events.{event_of};
+ghost use Rattle.fb_expect.specs.Patterns as patterns;
 ghost use Rattle.fb_system.specs.OfSystem.{BelongsTo};
+ghost use Rattle.fb_types.specs.OfSystem.{line_of, line_text};
+ghost use Rattle.fb_types.specs.States as states;
+ghost use Rattle.fb_types.specs.Headline.{Inputs, system_of};
 ghost use Rattle.fb_types.specs.declared.run.Line as run;
+ghost use Rattle.fb_types.specs.declared.run.Form.TheVariants.{One};
 ghost use Rattle.fb_session.specs.Breaking.{OnlyBreaks};
+ghost use Rattle.fb_session.specs.Hitting as spec;
+ghost use Rattle.fb_session.specs.Hitting.{IsFor, IsHitBy, IsLeastOf};
 
 use crate::session::Session;
 use crate::stage::Stage;
@@ -136,6 +144,7 @@ impl Breaks {
         requires { All (BelongsTo system.now) lines.now }
         ensures set { (self.new.set.items ≡ self.old.set.items) × (self.new.count ≡ self.old.count) }
         ensures hit { IfOk result (λ o. IfSome o (λ h. (l : run.Line) × Contains lines.now l × (l.key.tick ≡ h.1))) }
+        ensures least { IfOk result (λ o. IsHitBy (system_of system.now) self.old.set.items (map (line_of system.now) lines.now) (option_map (λ h. h.0) o)) }
     {
         if self.set.is_empty() {
             return Ok(None);
@@ -144,30 +153,51 @@ impl Breaks {
         for line in lines {
             self.text.clear();
             render(&mut self.text, system, line)?;
-            // the text of a line is one
-            let number = match read_entry(Form::One, self.text.as_slice()) {
-                Some(entry) => number_for(self.set.as_slice(), &entry),
-                None => None,
-            };
+            let number = number_at(self.set.as_slice(), self.text.as_slice());
             least = earlier(least, number, line.key.tick);
         }
         Ok(least)
     }
 }
 
-/// The number of the first of these breaks that a line is for.
-fn number_for(set: &[Break], entry: &Entry<'_>) -> Option<u64> {
-    for one in set {
-        if meets(&one.pattern, entry) {
-            return Some(one.number);
-        }
+/// The least number of the breaks that a line with this text in form one is for.
+fn number_at(set: &[Break], text: &[u8]) -> Option<u64>
+    ensures { (i : Inputs) (l : states.Line) → text.now ≡ line_text One i l → IsLeastOf (IsFor (system_of i) l) set.now result }
+{
+    match read_entry(Form::One, text) {
+        Some(entry) => number_for(set, &entry),
+        // The text of a line is always one.
+        None => None,
     }
-    None
 }
 
-/// The lesser number of the two.
+/// The least number of the breaks that an entry is for.
+fn number_for(set: &[Break], entry: &Entry<'_>) -> Option<u64>
+    ensures { IsLeastOf (λ b. patterns.meets b.pattern (event_of entry.now) ≡ true) set.now result }
+{
+    let mut least = None;
+    for one in set {
+        if meets(&one.pattern, entry) {
+            least = lesser(least, one.number);
+        }
+    }
+    least
+}
+
+/// The lesser of two numbers, if the first is there.
+fn lesser(least: Option<u64>, number: u64) -> Option<u64>
+    ensures { result ≡ spec.lesser least (Some number) }
+{
+    match least {
+        Some(before) if before <= number => Some(before),
+        _ => Some(number),
+    }
+}
+
+/// The lesser number of the two, with the tick of its line.
 fn earlier(least: Option<(u64, u64)>, number: Option<u64>, tick: u64) -> Option<(u64, u64)>
-    ensures { IfSome result (λ h. (h.1 ≡ tick) ⊎ (least ≡ Some h)) }
+    ensures tick { IfSome result (λ h. (h.1 ≡ tick) ⊎ (least ≡ Some h)) }
+    ensures number { option_map (λ h. h.0) result ≡ spec.lesser (option_map (λ h. h.0) least) number }
 {
     match (least, number) {
         (Some((before, _)), Some(number)) if number < before => Some((number, tick)),
@@ -179,6 +209,7 @@ fn earlier(least: Option<(u64, u64)>, number: Option<u64>, tick: u64) -> Option<
 /// Appends the text of a line in form one.
 fn render(text: &mut Vec<u8>, system: &System, line: &Line) -> Result<(), AllocError>
     requires { BelongsTo system.now line.now }
+    ensures { OnOk result (text.new.items ≡ text.old.items ++ line_text One system.now (line_of system.now line.now)) }
 {
     match write_lines(text, system, Form::One, from_ref(line)) {
         Ok(()) => Ok(()),

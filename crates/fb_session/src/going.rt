@@ -1,11 +1,11 @@
 //! How events are taken, and the end.
 
-ghost use Rattle.std.specs.Prelude.{◌≡◌, ◌^◌, ◌≤◌, IfErr, IfOk, OnOk};
+ghost use Rattle.std.specs.Prelude.{◌≡◌, ◌+◌, ◌^◌, ◌≤◌, IfErr, IfOk, OnErr, OnOk, length};
 ghost use Rattle.std.specs.Io.KnownBytes.{Appends};
 ghost use Rattle.fb_trace.specs.End.{ending_of};
 ghost use Rattle.fb_trace.specs.OfSystem.{EndsIn};
 ghost use Rattle.fb_types.specs.OfSystem.{last_line};
-ghost use Rattle.fb_trace.specs.Progress.{IsPartWritten};
+ghost use Rattle.fb_trace.specs.Progress.{bounded};
 ghost use Rattle.fb_session.specs.Going.{EndsAt, GoesUntil, IsBeginning, IsWhole, Peeks, TakesOne};
 ghost use Rattle.fb_session.specs.Pasts.{IsOf, Past, StandsBy};
 ghost use Rattle.fb_session.specs.Running.{IsWriteAfter};
@@ -17,7 +17,7 @@ use crate::session::Session;
 use crate::stage::Stage;
 use fb_sim_machine::Step;
 use fb_system::System;
-use fb_trace::{Outcome, write_last, write_lines_with_count};
+use fb_trace::{Outcome, write_last_with_count, write_lines_with_count};
 use fb_types::{LATEST_TICK, StopMark};
 use std::io::Write;
 
@@ -58,7 +58,7 @@ pub enum End {
     Below(u64),
 }
 
-/// Writes the last line of a trace, after this many bytes of the call.
+/// Writes the last line of a trace, after this many bytes of the call. Returns the count of all bytes of the call.
 ///
 /// # Errors
 /// If the writer fails. The fault has the count of all bytes of the call.
@@ -67,13 +67,14 @@ fn write_end<W: Write>(
     system: &System,
     end: Outcome,
     written: u128,
-) -> Result<(), SessionFault>
+) -> Result<u128, SessionFault>
     requires { EndsIn system.now end }
     ensures whole { OnOk result (Appends (W.contents out.old) (W.contents out.new) (last_line system.now (ending_of end))) }
+    ensures counted { IfOk result (λ n. n ≡ bounded (written + length (last_line system.now (ending_of end)))) }
     ensures part { IfErr result (IsWriteAfter (W.contents out.old) (W.contents out.new) (last_line system.now (ending_of end)) written) }
 {
-    match write_last(out, system, end) {
-        Ok(()) => Ok(()),
+    match write_last_with_count(out, system, end) {
+        Ok(bytes) => Ok(written.saturating_add(bytes)),
         Err(fault) => Err(SessionFault::Write(written.saturating_add(fault.written))),
     }
 }
@@ -102,31 +103,33 @@ impl Session<'_, '_> {
             is_watched: !self.breaks.is_empty(),
         };
         match run_on(self.system, &mut self.machine, &mut self.breaks, reach, out) {
-            Ok((end, written)) => {
-                self.written = self.written.saturating_add(written);
-                match end {
-                    Until::At => {
-                        self.reached = to;
-                        Ok(Until::At)
-                    }
-                    Until::Break(number, tick) => {
-                        self.reached = tick + 1;
-                        Ok(Until::Break(number, tick))
-                    }
-                    Until::Stop(mark) => {
-                        self.reached = mark.tick + 1;
-                        self.stage = Stage::Stopped(mark);
-                        match write_end(out, self.system, Outcome::Stop(mark), written) {
-                            Ok(()) => Ok(Until::Stop(mark)),
-                            Err(fault) => {
-                                self.stage = Stage::Failed;
-                                Err(fault)
-                            }
+            Ok((end, written)) => match end {
+                Until::At => {
+                    self.written = self.written.saturating_add(written);
+                    self.reached = to;
+                    Ok(Until::At)
+                }
+                Until::Break(number, tick) => {
+                    self.written = self.written.saturating_add(written);
+                    self.reached = tick + 1;
+                    Ok(Until::Break(number, tick))
+                }
+                Until::Stop(mark) => {
+                    self.reached = mark.tick + 1;
+                    match write_end(out, self.system, Outcome::Stop(mark), written) {
+                        Ok(bytes) => {
+                            self.written = self.written.saturating_add(bytes);
+                            self.stage = Stage::Stopped(mark);
+                            Ok(Until::Stop(mark))
+                        }
+                        Err(fault) => {
+                            self.stage = Stage::Failed;
+                            Err(fault)
                         }
                     }
-                    Until::Stopped | Until::Below(_) => unreachable!(),
                 }
-            }
+                Until::Stopped | Until::Below(_) => unreachable!(),
+            },
             Err(fault) => {
                 self.stage = Stage::Failed;
                 Err(fault)
@@ -165,18 +168,24 @@ impl Session<'_, '_> {
             }
         };
         self.machine.clear_lines();
-        self.written = self.written.saturating_add(written);
         match step {
-            Step::Nothing => Ok(Next::Nothing),
+            Step::Nothing => {
+                self.written = self.written.saturating_add(written);
+                Ok(Next::Nothing)
+            }
             Step::Took(tick) => {
+                self.written = self.written.saturating_add(written);
                 self.reached = tick + 1;
                 Ok(Next::Took(tick))
             }
             Step::Stopped(mark) => {
                 self.reached = mark.tick + 1;
-                self.stage = Stage::Stopped(mark);
                 match write_end(out, self.system, Outcome::Stop(mark), written) {
-                    Ok(()) => Ok(Next::Stop(mark)),
+                    Ok(bytes) => {
+                        self.written = self.written.saturating_add(bytes);
+                        self.stage = Stage::Stopped(mark);
+                        Ok(Next::Stop(mark))
+                    }
                     Err(fault) => {
                         self.stage = Stage::Failed;
                         Err(fault)
@@ -219,8 +228,9 @@ impl Session<'_, '_> {
         requires least { self.old.reached ≤ to }
         requires most { to ≤ 10 ^ 12 }
         requires running { self.old.stage ≡ going.Running }
-        ensures whole { IfOk result (λ o. IsWhole to self.old (W.contents out.old) (W.contents out.new) (ending_of o)) }
+        ensures whole { IfOk result (λ o. IsWhole to self.old self.new (W.contents out.old) (W.contents out.new) (ending_of o)) }
         ensures of { IsOf self.old self.new }
+        ensures counted { OnErr result (self.new.written ≡ self.old.written) }
         ensures failed { IfErr result (λ e. (p : Past) → StandsBy self.old p → IsBeginning self.old p e (W.contents out.old) (W.contents out.new)) }
     {
         let reach = Reach {
@@ -232,11 +242,13 @@ impl Session<'_, '_> {
         let (end, written) = run_on(self.system, &mut self.machine, &mut self.breaks, reach, out)?;
         match end {
             Until::At => {
-                write_end(out, self.system, Outcome::End(to), written)?;
+                let bytes = write_end(out, self.system, Outcome::End(to), written)?;
+                self.written = self.written.saturating_add(bytes);
                 Ok(Outcome::End(to))
             }
             Until::Stop(mark) => {
-                write_end(out, self.system, Outcome::Stop(mark), written)?;
+                let bytes = write_end(out, self.system, Outcome::Stop(mark), written)?;
+                self.written = self.written.saturating_add(bytes);
                 Ok(Outcome::Stop(mark))
             }
             Until::Break(..) | Until::Stopped | Until::Below(_) => unreachable!(),

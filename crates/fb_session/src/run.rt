@@ -1,10 +1,13 @@
 //! Taking events and writing their lines, up to a tick, a break or a stop.
 
-ghost use Rattle.std.specs.Prelude.{◌≡◌, ◌^◌, ◌≤◌, ℕ, [], All, Contains, IsTrue, IfOk, IfSome};
+ghost use Rattle.std.specs.Prelude.{◌≡◌, ◌^◌, ◌≤◌, ℕ, [], All, Contains, IsTrue, IfOk, IfSome, map, option_map};
+ghost use Rattle.fb_types.specs.Headline.{system_of};
+ghost use Rattle.fb_types.specs.OfSystem.{line_of};
 ghost use Rattle.fb_types.specs.States.{Config};
 ghost use Rattle.fb_types.specs.declared.run.Line as written_lines;
 ghost use Rattle.fb_sim_machine.specs.Machines.{IsAt, IsReady};
 ghost use Rattle.fb_system.specs.OfSystem.{BelongsTo};
+ghost use Rattle.fb_session.specs.Hitting.{IsHitBy};
 ghost use Rattle.fb_session.specs.Running.{RunsOn};
 
 use crate::breaks::Breaks;
@@ -47,6 +50,7 @@ impl Reach {
     ) -> Result<Option<(u64, u64)>, AllocError>
         requires { All (BelongsTo system.now) lines.now }
         ensures hit { IfOk result (λ o. IfSome o (λ h. IsTrue self.is_watched × (l : written_lines.Line) × Contains lines.now l × (l.key.tick ≡ h.1))) }
+        ensures least { IsTrue self.is_watched → IfOk result (λ o. IsHitBy (system_of system.now) breaks.old.set.items (map (line_of system.now) lines.now) (option_map (λ h. h.0) o)) }
         ensures set { (breaks.new.set.items ≡ breaks.old.set.items) × (breaks.new.count ≡ breaks.old.count) }
     {
         if self.is_watched {
@@ -74,7 +78,7 @@ pub(crate) fn run_on<W: Write>(
     requires none { machine.old.traffic.effects.lines.items ≡ [] }
     requires early { reach.to ≤ 10 ^ 12 }
     requires few { reach.steps ≤ 10 ^ 7 }
-    ensures runs { (c : Config) → IsAt system.now c.state c.agenda machine.old → RunsOn system.now reach c machine.old machine.new (W.contents out.old) (W.contents out.new) result }
+    ensures runs { (c : Config) → IsAt system.now c.state c.agenda machine.old → RunsOn system.now reach breaks.old.set.items c machine.old machine.new (W.contents out.old) (W.contents out.new) result }
     ensures set { (breaks.new.set.items ≡ breaks.old.set.items) × (breaks.new.count ≡ breaks.old.count) }
 {
     let mut written: u128 = 0;
@@ -90,11 +94,10 @@ pub(crate) fn run_on<W: Write>(
         match pause {
             Pause::Horizon => return Ok((Until::At, written)),
             Pause::Stop(mark) => return Ok((Until::Stop(mark), written)),
-            Pause::Lines => {
-                if let Some((number, tick)) = hit {
-                    return Ok((Until::Break(number, tick), written));
-                }
-            }
+            Pause::Lines => match hit {
+                Some((number, tick)) => return Ok((Until::Break(number, tick), written)),
+                None => {}
+            },
         }
     }
 }

@@ -29,7 +29,7 @@ pub struct Session<'j, 's> {
     pub(crate) reached: u64,
     pub(crate) stage: Stage,
     pub(crate) breaks: Breaks,
-    /// How many bytes of lines of events all calls have written, up to the greatest `u128`.
+    /// How many bytes all calls have written, up to the greatest `u128`. A call that fails is not counted.
     pub(crate) written: u128,
 }
 
@@ -102,8 +102,8 @@ impl<'j, 's> Session<'j, 's> {
         self.rows
     }
 
-    /// How many bytes of lines of events all calls have written, up to the greatest `u128`: the line of a stop is not
-    /// counted. A fault has the count of its call alone.
+    /// How many bytes all calls have written, up to the greatest `u128`. A call that fails is not counted: its fault has
+    /// the count of its own bytes.
     pub fn written(&self) -> u128
         ensures { result ≡ self.now.written }
     {

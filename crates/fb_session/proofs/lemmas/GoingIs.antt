@@ -1,5 +1,5 @@
 -- Where a session stands after it has taken events.
-use Rattle.fb_types.proofs.Common.{◌≡◌, ℕ, ◌+◌, ◌^◌, ◌<◌, ◌≤◌, List, [], ◌∷◌, ◌++◌, length, All, Option, Some, None, refl, sym, ap, ◌∙◌, subst, arith, append-nil, Appends, All-append, Inputs, system_of, Each, AtStop, Chain, Taken, ending_by, ending_of, last, lines_of, Config, lines_text}
+use Rattle.fb_types.proofs.Common.{◌≡◌, ℕ, ◌+◌, ◌^◌, ◌<◌, ◌≤◌, List, [], ◌∷◌, ◌++◌, length, All, Option, Some, None, refl, sym, ap, ◌∙◌, subst, arith, append-nil, Appends, All-append, Inputs, system_of, Each, AtStop, Chain, Taken, ending_by, ending_of, last, lines_of, Config, lines_text, last_line, inl, inr}
 use Rattle.fb_types.specs.declared.run.StopMark.{StopMark}
 use Rattle.fb_types.specs.declared.value.Reason.{Reason}
 use Rattle.fb_sim_machine.specs.Machines.{IsAt, IsReady}
@@ -118,6 +118,7 @@ module _ (old : Talk) (p : Past) where
         h.0,
         [],
         subst (λ n. Chain (system_of old.inputs) n (now old.inputs p) h.0) steps h.1,
+        inl refl,
         subst (λ (t : List ℕ). IsPartWritten written now' t n) (sym (append-nil (lines_text old.form (system_of old.inputs) (lines_of h.0))))
             (subst (λ f. IsPartWritten written now' (lines_text f (system_of old.inputs) (lines_of h.0)) n) form h.2),
       )
@@ -125,12 +126,13 @@ module _ (old : Talk) (p : Past) where
   -- the last line was not written whole
   pub fails_end : (more : List Taken) (e : SessionFault) (written mid now' : Option (List ℕ)) (text : List ℕ) (n : ℕ) → Chain (system_of old.inputs) old.steps (now old.inputs p) more
       → Appends written mid (text_of old.inputs old.form more) → n ≡ bounded (length (text_of old.inputs old.form more)) → IsWriteAfter mid now' text n e
-      → IsBeginning old p e written now'
-  fails_end more fault.Memory written mid now' text n chain got counted h = absurd h
-  fails_end more (fault.Write k) written mid now' text n chain got counted h = (
+      → (horizon : ℕ) → text ≡ last_line (system_of old.inputs) (ending_of horizon more) → IsBeginning old p e written now'
+  fails_end more fault.Memory written mid now' text n chain got counted h horizon is = absurd h
+  fails_end more (fault.Write k) written mid now' text n chain got counted h horizon is = (
     more,
     text,
     chain,
+    inr (horizon, is),
     subst (λ z. IsPartWritten written now' (lines_text old.form (system_of old.inputs) (lines_of more) ++ text) z) (sym h.2)
         (part-after (text_of old.inputs old.form more) got counted h.1),
   )

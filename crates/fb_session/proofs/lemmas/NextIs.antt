@@ -1,5 +1,5 @@
 -- What comes of taking one event.
-use Rattle.fb_types.proofs.Common.{◌≡◌, ℕ, ◌+◌, ◌^◌, ◌<◌, ◌≤◌, List, [], ◌∷◌, ◌++◌, length, map, All, Option, Some, None, refl, sym, ap, ◌∙◌, subst, arith, append-nil, Appends, Appends-trans, All-append, All-nil, All-push, Inputs, system_of, NoneBelow, line_of, AtHorizon, AtStop, Taken, ending_by, ending_of, last, lines_of, Agenda, State, last_line, lines_text}
+use Rattle.fb_types.proofs.Common.{◌≡◌, ℕ, ◌+◌, ◌^◌, ◌<◌, ◌≤◌, List, [], ◌∷◌, ◌++◌, length, map, All, Option, Some, None, refl, sym, ap, ◌∙◌, subst, arith, append-nil, Appends, Appends-trans, All-append, All-nil, All-push, Inputs, system_of, NoneBelow, line_of, AtHorizon, AtStop, Taken, ending_by, ending_of, last, lines_of, Agenda, State, last_line, lines_text, inl}
 use Rattle.fb_types.specs.declared.run.StopMark.{StopMark}
 use Rattle.fb_types.specs.declared.value.Reason.{Reason}
 use Rattle.fb_system.specs.Lines.{BelongsTo}
@@ -16,6 +16,7 @@ use Rattle.fb_session.specs.declared.fault.SessionFault.{SessionFault}
 use Rattle.fb_session.specs.declared.fault.SessionFault.TheVariants as fault
 use Rattle.fb_session.specs.declared.stage.Stage.{Stage}
 use Rattle.fb_session.specs.declared.stage.Stage.TheVariants as stage
+use Rattle.fb_session.proofs.lemmas.Texts.{bounded-after, bounded-both}
 use Rattle.fb_session.proofs.lemmas.GoingIs.{alive, at_event, ends_on, ends_stopped, fails_end, stands_on}
 
 module _ (v : Talk) (p : Past) (was : StandsBy v p) (running : v.stage ≡ stage.Running) (m1 m2 : Machine) where
@@ -50,16 +51,22 @@ module _ (v : Talk) (p : Past) (was : StandsBy v p) (running : v.stage ≡ stage
       let short = (subst (λ (t : List ℕ). IsPartWritten w0 w1 t k) none part).short in
       absurd (omega (arith, short))
   piece_fails (Took tick) s w0 w1 k part =
-      (s.0 ∷ [], [], s.1.chain, subst (λ (t : List ℕ). IsPartWritten w0 w1 t k) (piece_is (s.0 ∷ []) s.1 ∙ sym (append-nil (text_of i v.form (s.0 ∷ [])))) part)
+      (s.0 ∷ [], [], s.1.chain, inl refl, subst (λ (t : List ℕ). IsPartWritten w0 w1 t k) (piece_is (s.0 ∷ []) s.1 ∙ sym (append-nil (text_of i v.form (s.0 ∷ [])))) part)
   piece_fails (Stopped mark) s w0 w1 k part =
-      (s.0 ∷ [], [], s.1.chain, subst (λ (t : List ℕ). IsPartWritten w0 w1 t k) (piece_is (s.0 ∷ []) s.1 ∙ sym (append-nil (text_of i v.form (s.0 ∷ [])))) part)
+      (s.0 ∷ [], [], s.1.chain, inl refl, subst (λ (t : List ℕ). IsPartWritten w0 w1 t k) (piece_is (s.0 ∷ []) s.1 ∙ sym (append-nil (text_of i v.form (s.0 ∷ [])))) part)
 
   -- the lines were written and dropped
   module _ (none : m2.traffic.effects.lines.items ≡ []) (on : (s : State) (a : Agenda) → IsAt i s a m1 → IsAt i s a m2)
-      (clear : (t : ℕ) → IsReady i v.steps t m1 → IsReady i v.steps t m2) (w0 w1 : Option (List ℕ)) (got : Appends w0 w1 piece) where
-    pub next_nothing : (w k : ℕ) → Steps i (10 ^ 12) v.steps (now i p) v.machine m1 Nothing
+      (clear : (t : ℕ) → IsReady i v.steps t m1 → IsReady i v.steps t m2) (w0 w1 : Option (List ℕ)) (got : Appends w0 w1 piece) (n : ℕ) (counted : n ≡ bounded (length piece)) where
+    -- the bytes of what was taken are counted
+    counted_on : (w : ℕ) (ts : List Taken) → w ≡ bounded (v.written + n) → piece ≡ text_of i v.form ts → bounded w ≡ bounded (v.written + length (text_of i v.form ts ++ stop_text (system_of i) v.stage))
+    counted_on w ts is same =
+        bounded-after v.written n w (text_of i v.form ts) (counted ∙ ap (λ (z : List ℕ). bounded (length z)) same) is
+        ∙ ap (λ (z : List ℕ). bounded (v.written + length z)) (sym (append-nil (text_of i v.form ts)) ∙ ap (λ (z : Stage). text_of i v.form ts ++ stop_text (system_of i) z) (sym running))
+
+    pub next_nothing : (w : ℕ) → w ≡ bounded (v.written + n) → Steps i (10 ^ 12) v.steps (now i p) v.machine m1 Nothing
         → HasTaken v (record v { written = w; machine = m2 }) p [] w0 w1 × NoneBelow (now i p).agenda (10 ^ 12)
-    next_nothing w k s =
+    next_nothing w is s =
         let goes = was.goes (alive v p was running) in
         let empty : piece ≡ [] = ap (λ z. lines_text v.form (system_of i) (map (line_of (system_of i)) z)) (s.2 ∙ was.none (alive v p was running)) in
         let below = All-append (λ (x : Taken). x.key.tick < v.reached) p.taken [] was.before (All-nil (λ (x : Taken). x.key.tick < v.reached)) in
@@ -73,6 +80,7 @@ module _ (v : Talk) (p : Past) (was : StandsBy v p) (running : v.stage ≡ stage
             breaks = refl;
             stands = subst (λ (z : Stage). StandsBy (record v { stage = z; written = w; machine = m2 }) (record p { taken = p.taken ++ [] })) (sym running) stands;
             got = subst (λ (z : Stage). Appends w0 w1 (text_of i v.form [] ++ stop_text (system_of i) z)) (sym running) (subst (λ (t : List ℕ). Appends w0 w1 t) empty got);
+            counted = counted_on w [] is empty;
           },
           s.0,
         )
@@ -93,8 +101,12 @@ module _ (v : Talk) (p : Past) (was : StandsBy v p) (running : v.stage ≡ stage
       got_text : Appends w0 w1 (text_of i v.form (t ∷ []))
       got_text = subst (λ (z : List ℕ). Appends w0 w1 z) (piece_is (t ∷ []) x) got
 
-      pub next_took : (w : ℕ) → t.effect.stop ≡ None → HasTaken v (record v { reached = tick + 1; written = w; machine = m2 }) p (t ∷ []) w0 w1
-      next_took w go =
+      -- it stops its resource
+      stop_is : (r : ℕ) (reason : Reason) → t.key.resource ≡ r → t.effect.stop ≡ Some reason → ending_of 0 (t ∷ []) ≡ AtStop tick r reason
+      stop_is r reason own stop = ap (λ (z : Option Reason). ending_by z t.key (AtHorizon 0)) stop ∙ (λ j. AtStop (at_is j) (own j) reason)
+
+      pub next_took : (w : ℕ) → w ≡ bounded (v.written + n) → t.effect.stop ≡ None → HasTaken v (record v { reached = tick + 1; written = w; machine = m2 }) p (t ∷ []) w0 w1
+      next_took w is go =
           let stands =
           at_event v p was running m2 (t ∷ []) x.chain here none stage.Running tick w v.set v.breaks less (ends_on v p was running m2 (t ∷ []) x.chain here none (go, tt)) onward in
           record {
@@ -104,22 +116,25 @@ module _ (v : Talk) (p : Past) (was : StandsBy v p) (running : v.stage ≡ stage
             stands = subst (λ (z : Stage). StandsBy (record v { stage = z; reached = tick + 1; written = w; machine = m2 }) (record p { taken = p.taken ++ t ∷ [] })) (sym running) stands;
             got = subst (λ (z : Stage). Appends w0 w1 (text_of i v.form (t ∷ []) ++ stop_text (system_of i) z)) (sym running)
                 (subst (λ (z : List ℕ). Appends w0 w1 z) (sym (append-nil (text_of i v.form (t ∷ [])))) got_text);
+            counted = counted_on w (t ∷ []) is (piece_is (t ∷ []) x);
           }
 
-      pub next_stopped : (r : ℕ) (reason : Reason) (w : ℕ) → t.key.resource ≡ r → t.effect.stop ≡ Some reason → (w2 : Option (List ℕ)) → Appends w1 w2 (last_line (system_of i) (AtStop tick r reason))
+      pub next_stopped : (r : ℕ) (reason : Reason) (w b : ℕ) → b ≡ bounded (n + length (last_line (system_of i) (AtStop tick r reason))) → w ≡ bounded (v.written + b) → t.key.resource ≡ r → t.effect.stop ≡ Some reason → (w2 : Option (List ℕ)) → Appends w1 w2 (last_line (system_of i) (AtStop tick r reason))
           → HasTaken v (record v { stage = stage.Stopped (record { tick = tick; resource = r; reason = reason }); reached = tick + 1; written = w; machine = m2 }) p (t ∷ []) w0 w2
-      next_stopped r reason w own stop w2 last =
+      next_stopped r reason w b whole sum own stop w2 last =
           let mark : StopMark = record { tick = tick; resource = r; reason = reason } in
-          let is : ending_of 0 (t ∷ []) ≡ AtStop tick r reason = ap (λ (z : Option Reason). ending_by z t.key (AtHorizon 0)) stop ∙ (λ j. AtStop (at_is j) (own j) reason) in
           record {
             of = record { inputs = refl; steps = refl; form = refl };
             rows = refl;
             breaks = refl;
             stands = at_event v p was running m2 (t ∷ []) x.chain here none (stage.Stopped mark) tick w v.set v.breaks less
-                (ends_stopped v p was running m2 (t ∷ []) x.chain here none 0 mark is) onward;
+                (ends_stopped v p was running m2 (t ∷ []) x.chain here none 0 mark (stop_is r reason own stop)) onward;
             got = Appends-trans w0 w1 w2 (text_of i v.form (t ∷ [])) (last_line (system_of i) (AtStop tick r reason)) got_text last;
+            counted = bounded-both v.written n b w (text_of i v.form (t ∷ [])) (last_line (system_of i) (AtStop tick r reason)) (counted ∙ ap (λ (z : List ℕ). bounded (length z)) (piece_is (t ∷ []) x)) whole sum;
           }
 
-      pub stopped_fails : (n : ℕ) (text : List ℕ) → n ≡ bounded (length piece) → (e : SessionFault) (w2 : Option (List ℕ)) → IsWriteAfter w1 w2 text n e → IsBeginning v p e w0 w2
-      stopped_fails n text counted e w2 h =
-          fails_end v p (t ∷ []) e w0 w1 w2 text n x.chain got_text (counted ∙ ap (λ (z : List ℕ). bounded (length z)) (piece_is (t ∷ []) x)) h
+      pub stopped_fails : (r : ℕ) (reason : Reason) → t.key.resource ≡ r → t.effect.stop ≡ Some reason → (e : SessionFault) (w2 : Option (List ℕ))
+          → IsWriteAfter w1 w2 (last_line (system_of i) (AtStop tick r reason)) n e → IsBeginning v p e w0 w2
+      stopped_fails r reason own stop e w2 h =
+          fails_end v p (t ∷ []) e w0 w1 w2 (last_line (system_of i) (AtStop tick r reason)) n x.chain got_text (counted ∙ ap (λ (z : List ℕ). bounded (length z)) (piece_is (t ∷ []) x)) h 0
+          (ap (last_line (system_of i)) (sym (stop_is r reason own stop)))

@@ -22,6 +22,14 @@ bounded-sum a b = omega arith
 pub bounded-length : (x y : List ℕ) → bounded (bounded (length x) + bounded (length y)) ≡ bounded (length (x ++ y))
 bounded-length x y = rw length-append (bounded-sum (length x) (length y))
 
+-- a text was written after this many bytes
+pub bounded-after : (a n w : ℕ) (x : List ℕ) → n ≡ bounded (length x) → w ≡ bounded (a + n) → bounded w ≡ bounded (a + length x)
+bounded-after a n w x counted is = omega (arith, counted, is)
+
+-- and then another text
+pub bounded-both : (a n m w : ℕ) (x y : List ℕ) → n ≡ bounded (length x) → m ≡ bounded (n + length y) → w ≡ bounded (a + m) → bounded w ≡ bounded (a + length (x ++ y))
+bounded-both a n m w x y first second is = rw length-append (omega (arith, first, second, is))
+
 take_after : (x y : List ℕ) (n : ℕ) → take (length x + n) (x ++ y) ≡ x ++ take n y
 take_after [] y n = let e : 0 + n ≡ n = omega arith in ap (λ k. take k y) e
 take_after (a ∷ x) y n =

@@ -225,15 +225,15 @@ module _ (g : Opening) (now : Option Text) (t : Talk) (h : HasTold g now t) wher
   failed_by running new (fault.Write n) Read b is = absurd is
   failed_by running new (fault.Write n) (Write m) b is =
       let piece = Trace (text_of t.inputs t.form b.0) in
-      (h.pieces ++ piece ∷ [], b.1, length (all_of h.pieces) + b.3.count, front_more running b.0 b.2, got_part g.start now new h.pieces piece b.1 b.3.count h.got b.3.got)
+      (h.pieces ++ piece ∷ [], b.1, length (all_of h.pieces) + b.4.count, front_more running b.0 b.2, got_part g.start now new h.pieces piece b.1 b.4.count h.got b.4.got)
 
   pub failed : t.stage ≡ stage.Running → (new : Option Text) (u : Talk) (s : SessionFault) (e : TalkFault) → HasFailed t u s now new → IsFaultOf s e → Fails g new e
   failed running new u s e x is = failed_by running new s e (x.beginning h.past h.stands) is
 
   -- ---- The end
 
-  pub ended : (to : ℕ) (new : Option Text) (o : Outcome) → IsWhole to t now new (end_of o) → Ends g new o
-  ended to new o whole =
+  pub ended : (to : ℕ) (u : Talk) (new : Option Text) (o : Outcome) → IsWhole to t u now new (end_of o) → Ends g new o
+  ended to u new o whole =
       let w = whole h.past h.stands in
       let piece = Trace w.0 in
       let ps = h.pieces ++ piece ∷ [] in (
@@ -244,7 +244,7 @@ module _ (g : Opening) (now : Option Text) (t : Talk) (h : HasTold g now t) wher
               given = h.past.given;
               rows = h.stands.rows;
               horizon = to;
-              trace = subst (λ (x : Text). IsTrace (with_rows t.inputs h.past.given) t.form to t.steps x (end_of o)) (sym (told_more h.pieces piece ∙ ap (λ (x : Text). x ++ w.0) h.told_is)) w.2;
+              trace = subst (λ (x : Text). IsTrace (with_rows t.inputs h.past.given) t.form to t.steps x (end_of o)) (sym (told_more h.pieces piece ∙ ap (λ (x : Text). x ++ w.0) h.told_is)) w.3;
             }),
         got_more g.start now new h.pieces piece h.got w.1,
       )

@@ -9,7 +9,7 @@ invariant-loop-pause g l = record {
   ready : (tick : ℕ) × IsReady l.system l.reach.steps tick l.machine;
   set : (l.breaks.set.items ≡ l.initial.breaks.set.items) × (l.breaks.count ≡ l.initial.breaks.count);
   gone : (c : Config) → IsAt l.system c.state c.agenda l.initial.machine
-      → Gone l.system l.reach c l.initial.machine l.machine (g.W.Write.contents l.initial.out) (g.W.Write.contents l.out) l.written;
+      → Gone l.system l.reach l.initial.breaks.set.items c l.initial.machine l.machine (g.W.Write.contents l.initial.out) (g.W.Write.contents l.out) l.written;
 }
 
 abbrev pub decreases-loop-pause : goal.decreases-loop-pause

@@ -1,21 +1,25 @@
-use Rattle.std.proofs.Common.{◌∙◌, ap, sym}
-use Rattle.fb_session.specs.declared.breaks.Breaks.{Breaks}
+use Rattle.fb_types.proofs.Common.{rules, ◌≡◌, ◌∙◌, List, Option, ℕ, ap, line_of, line_text, option_map, subst, sym, system_of}
+use Rattle.fb_types.specs.declared.run.Form.TheVariants.{One}
+use Rattle.fb_session.specs.Hitting.{IsFor, IsLeastOf}
+use Rattle.fb_session.specs.declared.breaks.Break.{Break}
 use Rattle.fb_session.proofs.lemmas.BreakingIs.{hit_on}
+use Rattle.fb_session.proofs.lemmas.HittingIs.{hit_next}
 use Rattle.fb_session.proofs.breaks.Breaks.first_for.Goals as goal
-use Rattle.fb_session.proofs.breaks.Breaks.first_for.Goals.{in-Some, in-None}
 
 pub loop-line-preserved : goal.loop-line-preserved
 loop-line-preserved c =
     let inv = c.loop-line.invariant in
+    let i = c.args.system.now in
+    let sys = system_of i in
+    let l = c.line-item.result in
+    let text : c.as_slice-in-loop-line.result.now ≡ line_text One sys (line_of sys l) = c.as_slice-in-loop-line.ensures.value ∙ c.in_ok-render.ensures in
+    let number : IsLeastOf (IsFor sys (line_of sys l)) c.loop-line.self.set.items c.number_at-number.result =
+    subst (λ (xs : List Break). IsLeastOf (IsFor sys (line_of sys l)) xs c.number_at-number.result) c.as_slice.ensures.value (c.number_at-number.ensures i (line_of sys l) text)
+    in
     record {
-      set = elim c.match-read_entry.branch [
-        | in-Some w ↦ ap (λ (b : Breaks). b.set.items) w.self-is ∙ inv.set
-        | in-None w ↦ ap (λ (b : Breaks). b.set.items) w.self-is ∙ inv.set
-      ];
-      count = elim c.match-read_entry.branch [
-        | in-Some w ↦ ap (λ (b : Breaks). b.count) w.self-is ∙ inv.count
-        | in-None w ↦ ap (λ (b : Breaks). b.count) w.self-is ∙ inv.count
-      ];
-      hit = hit_on c.args.lines.now c.line-item.result c.loop-line.least c.earlier-least.result
-          (c.loop-line.line-index, c.loop-line-test.true, sym c.line-item.is) inv.hit c.earlier-least.ensures;
+      set = inv.set;
+      count = inv.count;
+      hit = hit_on c.args.lines.now l c.loop-line.least c.earlier-least.result (c.loop-line.line-index, c.loop-line-test.true, sym c.line-item.is) inv.hit c.earlier-least.ensures.tick;
+      least = hit_next sys c.args.self.now.set.items c.loop-line.self.set.items (line_of sys) c.args.lines.now c.loop-line.line-index l (option_map (λ h. h.0) c.loop-line.least)
+          c.number_at-number.result (option_map (λ h. h.0) c.earlier-least.result) c.loop-line-test.true c.line-item.is inv.set inv.least number c.earlier-least.ensures.number;
     }

@@ -7,7 +7,6 @@ use Rattle.fb_session.proofs.lemmas.GoingIs.{alive, fails_run}
 use Rattle.fb_session.proofs.lemmas.Seen.{seen}
 use Rattle.fb_session.proofs.lemmas.UntilIs.{end_fails, reach_of, stop_fails, whole_at, whole_stop}
 use Rattle.fb_session.proofs.session.Session.finish.Goals as goal
-use Rattle.fb_session.proofs.session.Session.finish.Goals.{in-At+in_ok-write_end-in-At, in-Stop+in_ok-write_end-in-Stop}
 
 -- a fault that is passed on
 passed_on : {A : Type 0} (P : SessionFault → Type 0) (r : Result A SessionFault) (e : SessionFault) → IsErrAnd r (λ f. f ≡ e) → P e → IfErr r P
@@ -24,18 +23,18 @@ returns-in_err-end-clause-failed g c =
     (rw (← c.self.view_is)
     (λ p was. fails_run v p (reach_of v c.args.to false) c.in_err-end.field-0.0 _ _ refl refl (c.in_err-end.ensures.runs (now i p) (was.at (alive v p was running)))))
 
-pub returns-in_err-write_end-in-At-clause-failed : goal.returns-in_err-write_end-in-At-clause-failed
-returns-in_err-write_end-in-At-clause-failed g c =
+pub returns-in_err-bytes-in-At-clause-failed : goal.returns-in_err-bytes-in-At-clause-failed
+returns-in_err-bytes-in-At-clause-failed g c =
     let v = seen c.self.inside in
     let i = c.self.inside.system.now in
     let running = subst (λ (x : Talk). x.stage ≡ stage.Running) (sym c.self.view_is) c.requires.running in
     let later = subst (λ (x : Talk). x.reached ≤ c.args.to) (sym c.self.view_is) c.requires.least in
     passed_on (λ e. (p : Past) → StandsBy c.args.self.now p → IsBeginning c.args.self.now p e (g.W.Write.contents c.args.out.now) (g.W.Write.contents c.write_end.new.out))
-    c.from_residual-in_err-write_end-in-At.result c.in_err-write_end-in-At.field-0.0 c.from_residual-in_err-write_end-in-At.ensures.1
+    c.from_residual-in_err-bytes-in-At.result c.in_err-bytes-in-At.field-0.0 c.from_residual-in_err-bytes-in-At.ensures.1
     (rw (← c.self.view_is)
     (λ p was.
     end_fails v p was running c.run_on.new.machine c.args.to false later c.requires.most _ _ c.in_ok-end.written
-    (rw c.in-At.is at c.in_ok-end.ensures.runs (now i p) (was.at (alive v p was running))) c.in_err-write_end-in-At.field-0.0 _ c.in_err-write_end-in-At.ensures.part))
+    (rw c.in-At.is at c.in_ok-end.ensures.runs (now i p) (was.at (alive v p was running))) c.in_err-bytes-in-At.field-0.0 _ c.in_err-bytes-in-At.ensures.part))
 
 pub write_end-requires-in-Stop : goal.write_end-requires-in-Stop
 write_end-requires-in-Stop g c =
@@ -47,18 +46,18 @@ write_end-requires-in-Stop g c =
     let r = rw c.in-Stop.is at c.in_ok-end.ensures.runs (now i p) (was.at (alive v p was running)) in
     r.2.0
 
-pub returns-in_err-write_end-in-Stop-clause-failed : goal.returns-in_err-write_end-in-Stop-clause-failed
-returns-in_err-write_end-in-Stop-clause-failed g c =
+pub returns-in_err-bytes-in-Stop-clause-failed : goal.returns-in_err-bytes-in-Stop-clause-failed
+returns-in_err-bytes-in-Stop-clause-failed g c =
     let v = seen c.self.inside in
     let i = c.self.inside.system.now in
     let running = subst (λ (x : Talk). x.stage ≡ stage.Running) (sym c.self.view_is) c.requires.running in
     let later = subst (λ (x : Talk). x.reached ≤ c.args.to) (sym c.self.view_is) c.requires.least in
     passed_on (λ e. (p : Past) → StandsBy c.args.self.now p → IsBeginning c.args.self.now p e (g.W.Write.contents c.args.out.now) (g.W.Write.contents c.write_end-in-Stop.new.out))
-    c.from_residual-in_err-write_end-in-Stop.result c.in_err-write_end-in-Stop.field-0.0 c.from_residual-in_err-write_end-in-Stop.ensures.1
+    c.from_residual-in_err-bytes-in-Stop.result c.in_err-bytes-in-Stop.field-0.0 c.from_residual-in_err-bytes-in-Stop.ensures.1
     (rw (← c.self.view_is)
     (λ p was.
     stop_fails v p was running c.run_on.new.machine c.args.to false later c.requires.most _ _ c.in_ok-end.written c.in-Stop.mark
-    (rw c.in-Stop.is at c.in_ok-end.ensures.runs (now i p) (was.at (alive v p was running))) c.in_err-write_end-in-Stop.field-0.0 _ c.in_err-write_end-in-Stop.ensures.part))
+    (rw c.in-Stop.is at c.in_ok-end.ensures.runs (now i p) (was.at (alive v p was running))) c.in_err-bytes-in-Stop.field-0.0 _ c.in_err-bytes-in-Stop.ensures.part))
 
 pub unreachable-requires : goal.unreachable-requires
 unreachable-requires g c =
@@ -76,20 +75,26 @@ unreachable-requires g c =
       ]
     ]
 
-pub returns-clause-whole : goal.returns-clause-whole
-returns-clause-whole g c =
+pub returns-in_ok-bytes-in-At-clause-whole : goal.returns-in_ok-bytes-in-At-clause-whole
+returns-in_ok-bytes-in-At-clause-whole g c =
     let v = seen c.self.inside in
     let i = c.self.inside.system.now in
     let running = subst (λ (x : Talk). x.stage ≡ stage.Running) (sym c.self.view_is) c.requires.running in
     let later = subst (λ (x : Talk). x.reached ≤ c.args.to) (sym c.self.view_is) c.requires.least in
-    let runs = c.in_ok-end.ensures.runs in
-    elim c.match-end.branch [
-      | in-At+in_ok-write_end-in-At w ↦ rw (w.result-is, w.out-is) (rw (← c.self.view_is)
-          (λ p was.
-          whole_at v p was running c.run_on.new.machine c.args.to false later c.requires.most _ _ c.in_ok-end.written
-          (rw w.in-At.is at runs (now i p) (was.at (alive v p was running))) _ w.in_ok-write_end-in-At.ensures.whole))
-      | in-Stop+in_ok-write_end-in-Stop w ↦ rw (w.result-is, w.out-is) (rw (← c.self.view_is)
-          (λ p was.
-          whole_stop v p was running c.run_on.new.machine c.args.to false later c.requires.most _ _ c.in_ok-end.written w.in-Stop.mark
-          (rw w.in-Stop.is at runs (now i p) (was.at (alive v p was running))) _ w.in_ok-write_end-in-Stop.ensures.whole))
-    ]
+    rw (← c.self.view_is)
+    (λ p was.
+    whole_at v p was running c.run_on.new.machine c.args.to false later c.requires.most _ _ c.in_ok-end.written
+    (rw c.in-At.is at c.in_ok-end.ensures.runs (now i p) (was.at (alive v p was running))) _ c.in_ok-bytes-in-At.bytes c.in_ok-bytes-in-At.ensures.counted c.saturating_add-self-inside.ensures _
+    c.in_ok-bytes-in-At.ensures.whole)
+
+pub returns-in_ok-bytes-in-Stop-clause-whole : goal.returns-in_ok-bytes-in-Stop-clause-whole
+returns-in_ok-bytes-in-Stop-clause-whole g c =
+    let v = seen c.self.inside in
+    let i = c.self.inside.system.now in
+    let running = subst (λ (x : Talk). x.stage ≡ stage.Running) (sym c.self.view_is) c.requires.running in
+    let later = subst (λ (x : Talk). x.reached ≤ c.args.to) (sym c.self.view_is) c.requires.least in
+    rw (← c.self.view_is)
+    (λ p was.
+    whole_stop v p was running c.run_on.new.machine c.args.to false later c.requires.most _ _ c.in_ok-end.written c.in-Stop.mark
+    (rw c.in-Stop.is at c.in_ok-end.ensures.runs (now i p) (was.at (alive v p was running))) _ c.in_ok-bytes-in-Stop.bytes c.in_ok-bytes-in-Stop.ensures.counted c.saturating_add-self-inside-in-Stop.ensures _
+    c.in_ok-bytes-in-Stop.ensures.whole)

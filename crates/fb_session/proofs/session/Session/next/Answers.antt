@@ -29,6 +29,7 @@ returns-in-Err-write_lines_with_count g c =
     rw (← c.self.view_is) (record {
       failed = refl;
       of = record { inputs = refl; steps = refl; form = refl };
+      counted = refl;
       beginning = λ p was.
           piece_fails v p was on m m c.in-Ok.step (c.in-Ok.ensures (now i p) (was.at (alive v p was on))) _ _ c.in-Err-write_lines_with_count.fault.written
           (rw c.lines.ensures at c.in-Err-write_lines_with_count.ensures.part);
@@ -78,13 +79,14 @@ returns-in-Nothing g c =
     let w0 = g.W.Write.contents c.args.out.now in
     let w1 = g.W.Write.contents c.write_lines_with_count.new.out in
     let got = rw c.lines.ensures at c.in-Ok-write_lines_with_count.ensures.whole in
+    let counted = rw c.lines.ensures at c.in-Ok-write_lines_with_count.ensures.counted in
     let new : Talk = record v { written = c.saturating_add-self-inside.result; machine = c.clear_lines.new.self } in
     subst (λ (x : Talk). TakesOne x new w0 w1 (Ok next.Nothing)) c.self.view_is (
       on,
       on,
       refl,
       λ p was.
-          next_nothing v p was on m c.clear_lines.new.self c.clear_lines.ensures.none (c.clear_lines.ensures.at i) (c.clear_lines.ensures.ready i v.steps) w0 w1 got new.written v.set
+          next_nothing v p was on m c.clear_lines.new.self c.clear_lines.ensures.none (c.clear_lines.ensures.at i) (c.clear_lines.ensures.ready i v.steps) w0 w1 got c.in-Ok-write_lines_with_count.bytes counted new.written c.saturating_add-self-inside.ensures
           (rw c.in-Nothing.is at c.in-Ok.ensures (now i p) (was.at (alive v p was on))),
     )
 
@@ -95,6 +97,7 @@ returns-in-Took g c =
     let on = c.in-Running.is in
     let m = c.take_next.new.self in
     let got = rw c.lines.ensures at c.in-Ok-write_lines_with_count.ensures.whole in
+    let counted = rw c.lines.ensures at c.in-Ok-write_lines_with_count.ensures.counted in
     rw (← c.self.view_is) (
       on,
       refl,
@@ -102,7 +105,7 @@ returns-in-Took g c =
           let s = rw c.in-Took.is at c.in-Ok.ensures (now i p) (was.at (alive v p was on)) in
           let goes = was.goes (alive v p was on) in
           let r = s.5 goes.0 goes.2 in
-          (s.0, next_took v p was on m c.clear_lines.new.self c.clear_lines.ensures.none (c.clear_lines.ensures.at i) (c.clear_lines.ensures.ready i v.steps) _ _ got s.0 c.in-Took.tick s.1 s.2 s.3 r.0 r.1 _ s.4, s.2),
+          (s.0, next_took v p was on m c.clear_lines.new.self c.clear_lines.ensures.none (c.clear_lines.ensures.at i) (c.clear_lines.ensures.ready i v.steps) _ _ got c.in-Ok-write_lines_with_count.bytes counted s.0 c.in-Took.tick s.1 s.2 s.3 r.0 r.1 _ c.saturating_add-self-inside-in-Took.ensures s.4, s.2),
     )
 
 pub returns-in-Ok-write_end : goal.returns-in-Ok-write_end
@@ -112,6 +115,7 @@ returns-in-Ok-write_end g c =
     let on = c.in-Running.is in
     let m = c.take_next.new.self in
     let got = rw c.lines.ensures at c.in-Ok-write_lines_with_count.ensures.whole in
+    let counted = rw c.lines.ensures at c.in-Ok-write_lines_with_count.ensures.counted in
     rw (← c.self.view_is) (
       refl,
       refl,
@@ -120,7 +124,7 @@ returns-in-Ok-write_end g c =
           let goes = was.goes (alive v p was on) in
           let r = s.7 goes.0 goes.2 in
           let mark = c.in-Stopped.mark in
-          (s.0, next_stopped v p was on m c.clear_lines.new.self c.clear_lines.ensures.none (c.clear_lines.ensures.at i) (c.clear_lines.ensures.ready i v.steps) _ _ got s.0 mark.tick s.1 s.2 s.3 r.0 r.1 mark.resource mark.reason _ s.4 s.5 _ c.in-Ok-write_end.ensures.whole),
+          (s.0, next_stopped v p was on m c.clear_lines.new.self c.clear_lines.ensures.none (c.clear_lines.ensures.at i) (c.clear_lines.ensures.ready i v.steps) _ _ got c.in-Ok-write_lines_with_count.bytes counted s.0 mark.tick s.1 s.2 s.3 r.0 r.1 mark.resource mark.reason _ c.in-Ok-write_end.bytes c.in-Ok-write_end.ensures.counted c.saturating_add-self-inside-in-Ok-write_end.ensures s.4 s.5 _ c.in-Ok-write_end.ensures.whole),
     )
 
 pub returns-in-Err-write_end : goal.returns-in-Err-write_end
@@ -134,11 +138,12 @@ returns-in-Err-write_end g c =
     rw (← c.self.view_is) (record {
       failed = refl;
       of = record { inputs = refl; steps = refl; form = refl };
+      counted = refl;
       beginning = λ p was.
           let s = rw c.in-Stopped.is at c.in-Ok.ensures (now i p) (was.at (alive v p was on)) in
           let goes = was.goes (alive v p was on) in
           let r = s.7 goes.0 goes.2 in
           let mark = c.in-Stopped.mark in
-          stopped_fails v p was on m c.clear_lines.new.self c.clear_lines.ensures.none (c.clear_lines.ensures.at i) (c.clear_lines.ensures.ready i v.steps) _ _ got s.0 mark.tick s.1 s.2 s.3 r.0 r.1 c.in-Ok-write_lines_with_count.bytes _ counted c.in-Err-write_end.fault _
+          stopped_fails v p was on m c.clear_lines.new.self c.clear_lines.ensures.none (c.clear_lines.ensures.at i) (c.clear_lines.ensures.ready i v.steps) _ _ got c.in-Ok-write_lines_with_count.bytes counted s.0 mark.tick s.1 s.2 s.3 r.0 r.1 mark.resource mark.reason s.4 s.5 c.in-Err-write_end.fault _
           c.in-Err-write_end.ensures.part;
     })

@@ -1,11 +1,18 @@
-use Rattle.std.proofs.Common.{Ok, arith, inl, inr, not, refl, subst, sym, true}
+use Rattle.std.proofs.Common.{◌≡◌, ◌+◌, ◌↔◌, Bool, IsTrue, List, [], Ok, arith, false, inl, inr, not, refl, subst, sym, true}
+use Rattle.fb_session.specs.declared.breaks.Break.{Break}
 use Rattle.fb_session.specs.Going.{GoesUntil}
 use Rattle.fb_session.specs.Pasts.{StandsBy, Talk, now}
 use Rattle.fb_session.specs.declared.going.Until.TheVariants as until
+use Rattle.fb_session.specs.declared.stage.Stage.TheVariants as stage
 use Rattle.fb_session.proofs.lemmas.GoingIs.{alive, fails_run}
 use Rattle.fb_session.proofs.lemmas.Seen.{seen}
 use Rattle.fb_session.proofs.lemmas.UntilIs.{reach_of, stop_fails, until_at, until_break, until_stop}
 use Rattle.fb_session.proofs.session.Session.until.Goals as goal
+
+-- breaks are watched unless none is set
+unset : (b : Bool) (bs : List Break) → (IsTrue b ↔ (bs ≡ [])) → not b ≡ false → bs ≡ []
+unset true bs both is = both.0 refl
+unset false bs both is = absurd cc
 
 pub run_on-requires-clause-ready : goal.run_on-requires-clause-ready
 run_on-requires-clause-ready g c =
@@ -63,25 +70,41 @@ returns-in-At g c =
     let new : Talk = record v { reached = c.args.to; written = c.saturating_add-self-inside.result; set = c.run_on.new.breaks.count; breaks = c.run_on.new.breaks.set.items; machine = c.run_on.new.machine } in
     subst (λ (x : Talk). GoesUntil c.args.to x new w0 w1 (Ok until.At)) c.self.view_is
     (λ p was.
-    until_at v p was c.in-Running.is c.run_on.new.machine c.args.to (not c.is_empty.result) c.if-to-self.false c.requires.most w0 w1 c.in-Ok.written new.written new.set new.breaks
+    until_at v p was c.in-Running.is c.run_on.new.machine c.args.to (not c.is_empty.result) c.if-to-self.false c.requires.most w0 w1 c.in-Ok.written (unset c.is_empty.result v.breaks c.is_empty.ensures) new.written new.set new.breaks c.saturating_add-self-inside.ensures
     c.run_on.ensures.set.0 (rw c.in-At.is at c.in-Ok.ensures.runs (now c.self.inside.system.now p) (was.at (alive v p was c.in-Running.is))))
 
 pub returns-in-Break : goal.returns-in-Break
-returns-in-Break g c = rw (← c.self.view_is)
+returns-in-Break g c =
+    let v = seen c.self.inside in
+    let w0 = g.W.Write.contents c.args.out.now in
+    let w1 = g.W.Write.contents c.run_on.new.out in
+    let number = c.in-Break.number in
+    let tick = c.in-Break.tick in
+    let new : Talk = record v { reached = tick + 1; written = c.saturating_add-self-inside-in-Break.result; set = c.run_on.new.breaks.count; breaks = c.run_on.new.breaks.set.items; machine = c.run_on.new.machine } in
+    subst (λ (x : Talk). GoesUntil c.args.to x new w0 w1 (Ok (until.Break number tick))) c.self.view_is
     (λ p was.
-    until_break (seen c.self.inside) p was c.in-Running.is c.run_on.new.machine c.args.to (not c.is_empty.result) c.if-to-self.false c.requires.most _ _ c.in-Ok.written c.in-Break.number c.in-Break.tick _ _ _
-    c.run_on.ensures.set.0 (rw c.in-Break.is at c.in-Ok.ensures.runs (now c.self.inside.system.now p) (was.at (alive (seen c.self.inside) p was c.in-Running.is))))
+    until_break v p was c.in-Running.is c.run_on.new.machine c.args.to (not c.is_empty.result) c.if-to-self.false c.requires.most w0 w1 c.in-Ok.written number tick new.written new.set new.breaks
+    c.saturating_add-self-inside-in-Break.ensures c.run_on.ensures.set.0 (rw c.in-Break.is at c.in-Ok.ensures.runs (now c.self.inside.system.now p) (was.at (alive v p was c.in-Running.is))))
 
 pub returns-in-Ok-write_end : goal.returns-in-Ok-write_end
-returns-in-Ok-write_end g c = rw (← c.self.view_is)
+returns-in-Ok-write_end g c =
+    let v = seen c.self.inside in
+    let w0 = g.W.Write.contents c.args.out.now in
+    let w1 = g.W.Write.contents c.run_on.new.out in
+    let w2 = g.W.Write.contents c.write_end.new.out in
+    let mark = c.in-Stop.mark in
+    let new : Talk = record v { stage = stage.Stopped mark; reached = mark.tick + 1; written = c.saturating_add-self-inside-in-Ok-write_end.result; set = c.run_on.new.breaks.count; breaks = c.run_on.new.breaks.set.items; machine = c.run_on.new.machine } in
+    subst (λ (x : Talk). GoesUntil c.args.to x new w0 w2 (Ok (until.Stop mark))) c.self.view_is
     (λ p was.
-    until_stop (seen c.self.inside) p was c.in-Running.is c.run_on.new.machine c.args.to (not c.is_empty.result) c.if-to-self.false c.requires.most _ _ c.in-Ok.written c.in-Stop.mark
-    (rw c.in-Stop.is at c.in-Ok.ensures.runs (now c.self.inside.system.now p) (was.at (alive (seen c.self.inside) p was c.in-Running.is))) _ _ _ c.run_on.ensures.set.0 _ c.in-Ok-write_end.ensures.whole)
+    until_stop v p was c.in-Running.is c.run_on.new.machine c.args.to (not c.is_empty.result) c.if-to-self.false c.requires.most w0 w1 c.in-Ok.written mark
+    (rw c.in-Stop.is at c.in-Ok.ensures.runs (now c.self.inside.system.now p) (was.at (alive v p was c.in-Running.is))) (unset c.is_empty.result v.breaks c.is_empty.ensures) new.written new.set c.in-Ok-write_end.bytes new.breaks
+    c.in-Ok-write_end.ensures.counted c.saturating_add-self-inside-in-Ok-write_end.ensures c.run_on.ensures.set.0 w2 c.in-Ok-write_end.ensures.whole)
 
 pub returns-in-Err-write_end : goal.returns-in-Err-write_end
 returns-in-Err-write_end g c = rw (← c.self.view_is) (record {
   failed = refl;
   of = record { inputs = refl; steps = refl; form = refl };
+  counted = refl;
   beginning = λ p was.
       stop_fails (seen c.self.inside) p was c.in-Running.is c.run_on.new.machine c.args.to (not c.is_empty.result) c.if-to-self.false c.requires.most _ _ c.in-Ok.written c.in-Stop.mark
       (rw c.in-Stop.is at c.in-Ok.ensures.runs (now c.self.inside.system.now p) (was.at (alive (seen c.self.inside) p was c.in-Running.is))) c.in-Err-write_end.fault _ c.in-Err-write_end.ensures.part;
@@ -91,5 +114,6 @@ pub returns-in-Err : goal.returns-in-Err
 returns-in-Err g c = rw (← c.self.view_is) (record {
   failed = refl;
   of = record { inputs = refl; steps = refl; form = refl };
+  counted = refl;
   beginning = λ p was. fails_run (seen c.self.inside) p (reach_of (seen c.self.inside) c.args.to true) c.in-Err.fault _ _ refl refl (c.in-Err.ensures.runs (now c.self.inside.system.now p) (was.at (alive (seen c.self.inside) p was c.in-Running.is)));
 })
