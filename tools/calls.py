@@ -22,7 +22,7 @@ from typing import NamedTuple, Optional
 
 import unbuilt
 from kit import TOP, rt
-from source_lines import with_source
+from source_lines import LaterText, with_source
 
 PROGRAM = "fbsim"
 SECONDS = 60
@@ -195,12 +195,31 @@ LIT_PAIR = b"APPLICATION A FBS S : E_RESTART; P : PAIR; END_FBS EVENT_CONNECTION
 LIT_PAIR_TO_1 = (
     b"0 MAIN < S.COLD\n0 MAIN > P.GO\n0 MAIN > P.X.GO\n0 MAIN < P.X.DONE\n0 MAIN > P.Y.GO\n0 MAIN < P.Y.DONE\nend 1\n"
 )
+# A division that stops its resource, in a session, and what the session writes.
+HALVES = b"""FUNCTION_BLOCK HALVES
+EVENT_INPUT GO WITH X; END_EVENT
+VAR_INPUT X : INT; END_VAR
+VAR Y : INT; END_VAR
+EC_STATES IDLE; RUN : HALVE; END_STATES
+EC_TRANSITIONS IDLE TO RUN := GO; END_TRANSITIONS
+ALGORITHM HALVE IN ST: Y := 2 / X; END_ALGORITHM
+END_FUNCTION_BLOCK
+APPLICATION A FBS D : HALVES; END_FBS END_APPLICATION
+"""
+TO_A_STOP = b"give 5 D.GO X=0\nuntil 9\nshow D\n"
+STOPPED_AT_5 = b"= row 0 5,D.GO,X=0\n5 MAIN > D.GO X=0\nstop 5 MAIN divide\n"
+SHOWN_AT_5 = STOPPED_AT_5 + b"= D RUN X=0 Y=0\n"
+# Files whose names have control characters: a line feed, an escape and a delete.
+ODD_NAME = "odd\n\x1b\x7fname"
 HALF = MOST_OF_A_TEXT // 2
 FILES |= {
     "lamp": LAMP,
     "lit": LIT,
     "pair": PAIR,
     "lit_pair": LIT_PAIR,
+    "halves": HALVES,
+    "some_rows": b"tick,event,values\n0,D.GO,X=1\n9,D.GO,X=2\n4,D.GO,X=3\n10,D.GO,X=4\n",
+    ODD_NAME: b"APPLICATION A FBS D : E_DELAY END_FBS END_APPLICATION\n",
     "marked_lamp": MARK + LAMP,
     "marked_pair": MARK + PAIR,
     "marked_lit": MARK + LIT,
@@ -309,9 +328,11 @@ class Call(NamedTuple):
     closes_input: bool = False
     has: tuple = ()
     example: str = ""
+    room: int = 10
 
 
-# The kinds of outputs: a device that has no room, closed, a pipe that nobody reads, or a file that takes ten bytes and no more.
+# The kinds of outputs: a device that has no room, closed, a pipe that nobody reads, or a file that takes ten bytes or as many as the call
+# says, and no more.
 OUTPUTS = ("full", "closed", "gone", "short")
 ROOM = 10
 
@@ -622,7 +643,7 @@ CALLS += [
     # A byte order mark at the beginning of each file; a second one is no blank.
     of("run lit_pair --types marked_lamp --types marked_pair --horizon 1", 0, out=LIT_PAIR_TO_1),
     of("run marked_lit --types lamp --horizon 1", 0, out=LIT_TO_1),
-    of("check twice_marked_lit --types lamp --why", 2, err=placed(b"refused E01\n", b"twice_marked_lit:1:1: E01: byte 239 is allowed only in comments\n", MARK + LIT)),
+    of("check twice_marked_lit --types lamp --why", 2, err=placed(b"refused E01\n", b"twice_marked_lit:1:4: E01: byte 239 is allowed only in comments\n", LaterText(MARK + MARK + LIT))),
     # A comment ends with its file: one that `//` begins is over, and one that `(*` begins is refused, whatever comes next.
     of("run lit --types noted_lamp --horizon 1", 0, out=LIT_TO_1),
     of("check lit --types open_lamp", 2, err=b"refused E02\n"),
@@ -950,7 +971,31 @@ CALLS += [
     of("draw", 5, err=None),
     *(of("draw cycle", 3, err=b"write fault after 0 bytes\n", to=it) for it in OUTPUTS[:3]),
     of("draw cycle", 3, out=GRAPH[:ROOM], err=b"write fault after 10 bytes\n", to="short"),
+    # The bytes of a write fault: those of the trace, of the line of a stop and of the answers.
+    of("session halves", 1, out=SHOWN_AT_5, given=TO_A_STOP),
+    *(of("session halves", 3, out=SHOWN_AT_5[:room], err=b"write fault after %d bytes\n" % room, to="short", room=room, given=TO_A_STOP) for room in range(1, len(SHOWN_AT_5))),
+    # A control character in a name of a file is shown as a question mark.
+    Call(["check", ODD_NAME, "--why"], 2, err=placed(b"refused E03 line 1\n", b"odd???name:1:31: E03: found END_FBS, expected one of ( ;\n", FILES[ODD_NAME])),
+    Call(["check", "halves", "--types", ODD_NAME], 2, err=b"refused E03 odd???name line 1\n"),
+    Call(["check", "no\nwhere", "--why"], 3, err=b"file fault\ndeclaration no?where: no file of this name can be read\n"),
+    Call(["expect", "rules", "trace", ODD_NAME], 2, err=b"refused trace odd???name line 1\n"),
+    # Rows that a run does not come to.
+    of("run halves --stim some_rows --horizon 9 --why", 0, out=None, err=b"stimuli: rows at or beyond the horizon 9: 2 of 4; the run does not take them\n"),
+    of("run halves --stim some_rows --horizon 4 --why", 0, out=None, err=b"stimuli: rows at or beyond the horizon 4: 3 of 4; the run does not take them\n"),
+    of("run halves --stim some_rows --horizon 9", 0, out=None),
+    of("run halves --stim some_rows --horizon 11 --why", 0, out=None),
+    of("run halves --horizon 1 --why", 0, out=None),
+    of("check halves --stim some_rows --why", 0, out=b"accepted\n"),
     # Rules over traces, of both forms, from files, a pipe and standard input.
+    of("expect rules trace nowhere --why", 3, err=b"file fault\ntrace nowhere: no file of this name can be read\n"),
+    of("expect rules nowhere", 3, err=b"file fault\n"),
+    of("expect rules . --why", 3, err=b"file fault\ntrace .: this is a folder, not a file\n"),
+    # A file that opens, and fails where it is read.
+    of("expect rules trace /proc/self/mem --why", 3, err=b"file fault\ntrace /proc/self/mem: this file can't be read to its end\n"),
+    of("diff trace /proc/self/mem --why", 3, err=b"file fault\ntrace /proc/self/mem: this file can't be read to its end\n"),
+    of("diff /proc/self/mem trace --why", 3, err=b"file fault\ntrace /proc/self/mem: this file can't be read to its end\n"),
+    of("diff /proc/self/mem trace", 3, err=b"file fault\n"),
+    of("expect - - --why", 3, err=b"file fault\ntrace -: standard input can't be read, or was read before\n", given=FILES["rules"]),
     of("expect rules trace", 0, out=REPORT),
     of("expect rules trace keyed_trace", 0, out=REPORT_OF_TWO),
     of("expect - trace", 0, out=REPORT, given=FILES["rules"]),
@@ -1072,7 +1117,7 @@ def prepare(call):
         resource.setrlimit(resource.RLIMIT_AS, (call.memory, call.memory))
     if "short" in (call.to, call.errors_to):
         signal.signal(signal.SIGXFSZ, signal.SIG_IGN)
-        resource.setrlimit(resource.RLIMIT_FSIZE, (ROOM, ROOM))
+        resource.setrlimit(resource.RLIMIT_FSIZE, (call.room, call.room))
     for number, is_closed in enumerate((call.closes_input, call.to == "closed", call.errors_to == "closed")):
         if is_closed:
             os.close(number)

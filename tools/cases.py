@@ -46,7 +46,7 @@ from typing import NamedTuple
 
 from kit import TOP
 from program import Room, side_by_side
-from source_lines import with_source
+from source_lines import LaterText, with_source
 
 PROGRAM = "fbsim"
 SHOWN = 10
@@ -145,10 +145,18 @@ def cases_of(path):
     return found
 
 
+def texts_of(fields):
+    """Returns the text of each file of a case, by the name that the messages get."""
+    texts = {b"-": fields.get("declaration", b""), **{name: fields[field] for field, name in CALLED.items() if field in fields}}
+    if "block_types" in fields:
+        texts |= {name: LaterText(texts[name]) for name in (b"-", b"MORE") if name in texts}
+    return texts
+
+
 def expected_result(case):
     """Returns the status, standard output and standard error."""
     fields, answer = case.fields, case.fields["answer"]
-    texts = {b"-": fields.get("declaration", b""), **{name: fields[field] for field, name in CALLED.items() if field in fields}}
+    texts = texts_of(fields)
     if REFUSAL.fullmatch(answer.decode("latin-1")):
         return 2, b"", b"refused " + answer + b"\n" + with_source(fields.get("why", b""), texts)
     if answer == b"accepted":

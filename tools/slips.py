@@ -111,10 +111,10 @@ SLIPS = [
     ]),
     # L23: a row comes before the start
     Slip("bottling/shift", "stimuli.csv", "0,LABEL.ROLL,COUNT=12\n", "0,LABEL.ROLL,COUNT=12\n0,FILL.ARRIVE,\n", [
-        ("", f"L23: stimuli: row 1{EARLY}"),
+        ("|0,FILL.ARRIVE,", f"L23: stimuli: row 1{EARLY}"),
     ]),
     Slip("conveyor", "stimuli.csv", "tick,event,values\n", "tick,event,values\n0,BELT.R,\n", [
-        ("", f"L23: stimuli: row 0{EARLY}"),
+        ("|0,BELT.R,", f"L23: stimuli: row 0{EARLY}"),
     ]),
 ]
 
@@ -166,8 +166,7 @@ def expected_of(slip, text):
     """Returns the lines that must be reported of a text with the mistake in it."""
     lines = []
     for marked, words in slip.warnings:
-        place = "{}:{}:{}: ".format(slip.file, *place_of(text, marked)) if marked else ""
-        lines.append(f"{place}{words}\n")
+        lines.append("{}:{}:{}: {}\n".format(slip.file, *place_of(text, marked), words))
     return "".join(lines)
 
 

@@ -8,8 +8,14 @@ MOST_BEFORE = 100
 BYTE_ORDER_MARK = b"\xef\xbb\xbf"
 
 
+class LaterText(bytes):
+    """A text of a declaration after another one: its byte order mark is not shown."""
+
+
 def source_line(text, line, column):
     """Returns the line of a text, cut round the byte in this column, and a line with a mark under the byte."""
+    if isinstance(text, LaterText) and text.startswith(BYTE_ORDER_MARK) and line == 1:
+        text, column = text[len(BYTE_ORDER_MARK) :], column - len(BYTE_ORDER_MARK)
     whole = text.split(b"\n")[line - 1].removesuffix(b"\r")
     at = column - 1
     first = min(max(at - MOST_BEFORE, 0), max(len(whole) - MOST_SHOWN, 0))

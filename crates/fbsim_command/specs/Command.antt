@@ -26,6 +26,7 @@ use Rattle.fbsim_command.specs.Outcomes.{End, Held, IsRefused}
 use Rattle.fbsim_command.specs.OwnLines.{EndsIn}
 use Rattle.fbsim_command.specs.WarningLines.{AreWarnings, Naming, naming_in}
 use Rattle.fbsim_command.specs.Reading.{Reading, AreRead, IsUnread}
+use Rattle.fbsim_command.specs.LateRows.{ReportsRows}
 use Rattle.fbsim_command.specs.Stops.{ReportsStop}
 use Rattle.fbsim_command.specs.Showing.{Opening, Shows}
 use Rattle.fbsim_command.specs.Comparing.{Compares}
@@ -54,6 +55,7 @@ use Rattle.fbsim_command.specs.declared.sources.SourceFault.{SourceFault}
 use Rattle.fbsim_command.specs.declared.statuses.Done.{Done}
 use Rattle.fbsim_command.specs.declared.statuses.Done.TheVariants.{Helped, Explained, Accepted, Shown, Ended, Stopped, Met, Unmet, Same, Different}
 use Rattle.fbsim_command.specs.declared.texts.Part.{Part}
+use Rattle.fbsim_command.specs.declared.join.FileLines.{FileLines}
 
 -- How a check of accepted inputs ends, by whether one of the warnings about them is denied.
 abbrev pub checked_by : Bool → Done
@@ -140,18 +142,21 @@ Reports n given (Run horizon steps workers serial form progress) s old new end r
 
 -- ---- The call
 
--- The files are read, and what the task asks for is done with them; then it is reported where a run stopped. A syntax fault is one of the file that has it.
+-- The files are read, and what the task asks for is done with them; then it is reported which rows a run did not come to, and where it
+-- stopped. A syntax fault is one of the file that has it.
 pub record AreReadAndDone {S : Type 0} (reads : Reading S) (from to : S) (types : List Text) (c : Task) (s : Sorting) (old new : Held) (end : End) (reports : Text) (note : Option Text) : Type 0 where
-  pub lines : List ℕ
+  pub lines : List FileLines
   pub given : Given
   pub read : AreRead reads types c from to lines given
   pub inner : End
   pub done : Meets given c.action old new inner
   pub first : Text
   pub reported : Reports (naming_in types c lines) given c.action s old new inner first
+  pub rows : Text
+  pub late : ReportsRows c given.stimuli inner rows
   pub last : Text
   pub located : ReportsStop types c lines given inner last
-  pub reports_are : reports ≡ first ++ last
+  pub reports_are : reports ≡ (first ++ rows) ++ last
   pub noted : NotesOf types c lines given inner note
   pub ends : EndsIn types c.declaration.now lines inner end
 

@@ -5,8 +5,10 @@ use Rattle.clap.specs.Words.{Text}
 use Rattle.fb_expect.specs.Parting.{MayPart}
 use Rattle.fb_expect.specs.DifferenceReport.{ShowsDifference}
 use Rattle.fb_expect.specs.declared.parting.Difference.{Difference}
-use Rattle.fbsim_command.specs.Failures.{IsPartWritten, failure_of_source}
-use Rattle.fbsim_command.specs.Notes.{IsNoteOfName, Notes}
+use Rattle.fb_expect.specs.declared.parting.PartFault.{PartFault}
+use Rattle.fb_expect.specs.declared.parting.PartFault.TheVariants as part_fault
+use Rattle.fbsim_command.specs.Failures.{IsPartWritten, failure_of_part, failure_of_source}
+use Rattle.fbsim_command.specs.Notes.{IsNoteOfName, Notes, rest_note}
 use Rattle.fbsim_command.specs.Outcomes.{End, Held}
 use Rattle.fbsim_command.specs.Showing.{Opening}
 use Rattle.fbsim_line.specs.declared.bench_line.Diff.{Diff}
@@ -64,11 +66,17 @@ abbrev pub AreUnopened : {S : Type 0} → Opening S → (from to : S) → Diff �
 AreUnopened opens from to d fault note =
     (opens from d.first.now (Err fault) to × NotesFile d d.first.now fault note) ⊎ (IsSecondUnopened opens from to d fault × NotesFile d d.second.now fault note)
 
--- One of the two can't be read to its end, and the note says so.
+-- The note to the one of the two that can't be read to its end.
+abbrev pub NotesUnread : Diff → PartFault → Option Text → Type 0
+NotesUnread d fault None = Unit {0}
+NotesUnread d part_fault.Memory (Some note) = ⊥
+NotesUnread d part_fault.First (Some note) = IsTrue d.why × (note ≡ rest_note (codes "trace") d.first.now)
+NotesUnread d part_fault.Second (Some note) = IsTrue d.why × (note ≡ rest_note (codes "trace") d.second.now)
+
+-- One of the two can't be read to its end, and the note says which.
 abbrev pub NotesEither : Diff → End → Option Text → Type 0
 NotesEither d end None = Unit {0}
-NotesEither d end (Some note) =
-    IsTrue d.why × (end ≡ Err File) × (note ≡ codes "trace " ++ (d.first.now ++ (codes " or " ++ (d.second.now ++ codes ": this file can't be read to its end"))))
+NotesEither d end (Some note) = (fault : PartFault) × (end ≡ Err (failure_of_part fault)) × NotesUnread d fault (Some note)
 
 -- What a call that compares two traces does, from one state of the source to the next, and its note.
 abbrev pub Compares : {S : Type 0} → Opening S → (from to : S) → Diff → (old new : Held) → End → Option Text → Type 0

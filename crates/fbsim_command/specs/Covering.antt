@@ -24,6 +24,7 @@ use Rattle.fbsim_command.specs.Showing.{Opening}
 use Rattle.fbsim_command.specs.Texts.{may_be_cut}
 use Rattle.fbsim_command.specs.WrongLines.{IsWrongIn}
 use Rattle.fbsim_line.specs.declared.coverage_line.Coverage.{Coverage}
+use Rattle.fbsim_command.specs.Shown.{shown_name}
 use Rattle.fbsim_command.specs.declared.coverage.Gleaned.{Gleaned}
 use Rattle.fbsim_command.specs.declared.failure.Failure.{Failure}
 use Rattle.fbsim_command.specs.declared.failure.Failure.TheVariants.{Refused, RefusedTrace, File, Write, Memory, Line, BadOption}
@@ -34,6 +35,7 @@ use Rattle.fbsim_command.specs.declared.sources.SourceFault.{SourceFault}
 use Rattle.fbsim_command.specs.declared.statuses.Done.{Done}
 use Rattle.fbsim_command.specs.declared.statuses.Done.TheVariants.{Helped, Explained, Accepted, Shown, Ended, Stopped, Met, Unmet, Same, Different}
 use Rattle.fbsim_command.specs.declared.texts.Part.{Part}
+use Rattle.fbsim_command.specs.declared.join.FileLines.{FileLines}
 
 -- the call that checks what traces are of
 abbrev pub files_of : Coverage → Task
@@ -196,7 +198,7 @@ WritesReport opens given x from to old new (Err BadOption) = ⊥
 
 -- how the note to a line begins, which names the trace where there are several
 abbrev pub note_front : (is_named : Bool) → (name : Text) → Text
-note_front true name = codes "trace " ++ name
+note_front true name = codes "trace " ++ shown_name name
 note_front false name = codes "trace"
 
 -- the note of a trace that is refused at a line, that is not opened, or that can't be read to its end
@@ -214,7 +216,7 @@ NotesTrace x (Some note) = IsTrue x.why × ((name : Text) × IsTraceNote x name 
 -- All is read that traces are of, and what they cover is reported. A syntax fault is one of the file that has it.
 -- A note is that of a check, or of a trace.
 pub record IsReadAndReported {S : Type 0} (reads : Reading S) (opens : Opening S) (from to : S) (types : List Text) (x : Coverage) (old new : Held) (end : End) (note : Option Text) : Type 0 where
-  pub lines : List ℕ
+  pub lines : List FileLines
   pub given : Given
   pub between : S
   pub read : AreRead reads types (files_of x) from between lines given

@@ -19,6 +19,7 @@ use Rattle.fbsim_line.specs.declared.line.Task.{Task}
 use Rattle.fbsim_command.specs.declared.sources.SourceFault.{SourceFault}
 use Rattle.fbsim_command.specs.declared.statuses.Done.TheVariants.{Helped, Explained, Accepted, Shown, Ended, Stopped, Met, Unmet, Same, Different}
 use Rattle.fbsim_command.specs.declared.texts.Part.{Part}
+use Rattle.fbsim_command.specs.declared.join.FileLines.{FileLines}
 
 -- the call that checks what is drawn
 abbrev pub files_of : Draw → Task
@@ -81,7 +82,7 @@ WritesGraph given asked old new (Err BadOption) = ⊥
 
 -- The files are read, and the graph of what they declare is written. A syntax fault is one of the file that has it.
 pub record IsReadAndDrawn {S : Type 0} (reads : Reading S) (from to : S) (types : List Text) (d : Draw) (old new : Held) (end : End) : Type 0 where
-  pub lines : List ℕ
+  pub lines : List FileLines
   pub given : Given
   pub read : AreRead reads types (files_of d) from to lines given
   pub inner : End

@@ -1,5 +1,5 @@
 -- What a call that holds rules against traces does (docs/FORMATS.md, "Rules over traces"; this project's own).
-use Rattle.std.specs.Prelude.{option_map, ◌≡◌, ◌⊎◌, ℕ, ◌+◌, ◌*◌, Bool, true, false, if◌then◌else◌, nat_lt, List, [], ◌∷◌, ◌++◌, length, map, Option, Some, None, IfSome, Ok, Err, codes, decimal, string_bytes}
+use Rattle.std.specs.Prelude.{option_map, ◌≡◌, ◌⊎◌, ℕ, ◌+◌, ◌*◌, Bool, true, false, if◌then◌else◌, nat_lt, List, [], ◌∷◌, ◌++◌, length, map, IsTrue, Option, Some, None, IfSome, Ok, Err, codes, decimal, string_bytes}
 use Rattle.std.specs.Borrow.{Bor}
 use Rattle.std.specs.List.{list_all}
 use Rattle.std.specs.Io.KnownBytes.{Appends}
@@ -21,7 +21,7 @@ use Rattle.fb_expect.specs.declared.rule.Rule.{Rule}
 use Rattle.fbsim_command.specs.Failures.{IsPartWritten, failure_of_source, refused_trace}
 use Rattle.fbsim_command.specs.Known.{IsUnknownAt, has_names}
 use Rattle.fbsim_command.specs.InputNotes.{FileNames}
-use Rattle.fbsim_command.specs.Notes.{IsFileNote, IsNoteOfName, IsNoteOfNumber, Notes, number_of}
+use Rattle.fbsim_command.specs.Notes.{IsFileNote, IsNoteOfName, IsNoteOfNumber, Notes, number_of, rest_note}
 use Rattle.fbsim_command.specs.Outcomes.{End, Held, IsRefused}
 use Rattle.fbsim_command.specs.OwnLines.{EndsIn, IsPlacedText}
 use Rattle.fbsim_command.specs.Reading.{Reading, AreRead, IsUnread, checked}
@@ -35,6 +35,7 @@ use Rattle.fbsim_line.specs.declared.line.Task.{Task}
 use Rattle.fbsim_command.specs.declared.sources.SourceFault.{SourceFault}
 use Rattle.fbsim_command.specs.declared.statuses.Done.TheVariants.{Helped, Explained, Accepted, Shown, Ended, Stopped, Met, Unmet, Same, Different}
 use Rattle.fbsim_command.specs.declared.texts.Part.{Part}
+use Rattle.fbsim_command.specs.declared.join.FileLines.{FileLines}
 
 -- ---- What is read before the traces
 
@@ -60,14 +61,14 @@ abbrev pub input_names_of : Expect → FileNames
 input_names_of x = record { deploy = option_map (λ d. d.now) x.deploy; stimuli = None }
 
 -- the declaration and the deployment are read, where a declaration is named
-abbrev pub MayDeclare : {S : Type 0} → Reading S → Expect → Option (Bor Text) → (old new : S) → (lines : List ℕ) → Option Given → Type 0
+abbrev pub MayDeclare : {S : Type 0} → Reading S → Expect → Option (Bor Text) → (old new : S) → (lines : List FileLines) → Option Given → Type 0
 MayDeclare reads x None old new lines None = (new ≡ old) × (lines ≡ [])
 MayDeclare reads x None old new lines (Some given) = ⊥
 MayDeclare reads x (Some name) old new lines None = ⊥
 MayDeclare reads x (Some name) old new lines (Some given) = AreRead reads (types_of x) (files_of x name) old new lines given
 
 -- The rules are read, and then what their names must be in.
-pub record AreRulesRead {S : Type 0} (reads : Reading S) (x : Expect) (old new : S) (bytes : Text) (lines : List ℕ) (declared : Option Given) : Type 0 where
+pub record AreRulesRead {S : Type 0} (reads : Reading S) (x : Expect) (old new : S) (bytes : Text) (lines : List FileLines) (declared : Option Given) : Type 0 where
   pub between : S
   pub rules : reads old x.rules.now asked_rules (Ok bytes) between
   pub declaration : MayDeclare reads x x.declaration between new lines declared
@@ -325,7 +326,7 @@ abbrev pub IsPlacedNote : (rules : Text) → (note : Text) → Type 0
 IsPlacedNote rules note = (line : ℕ) × (column : ℕ) × IsPlacedText rules line column note
 
 -- The bytes are rules, and what is declared is refused with this number, as the note of a check says.
-pub record IsPlanNote (x : Expect) (lines : List ℕ) (declared : Option Given) (number : ℕ) (note : Text) : Type 0 where
+pub record IsPlanNote (x : Expect) (lines : List FileLines) (declared : Option Given) (number : ℕ) (note : Text) : Type 0 where
   pub given : Given
   pub is : declared ≡ Some given
   pub noted : IsNoteOfNumber (types_of x) (own_of x.declaration) (input_names_of x) lines given number note
@@ -341,26 +342,35 @@ pub record IsUnknownLocation (bytes : Text) (declared : Option Given) (rule : �
   pub unknown : IsUnknownAt (system_of inputs) rules rule key
 
 -- The note is that of a place at which the refusal of this number applies.
-abbrev pub IsNoteAt : Expect → (bytes : Text) → (lines : List ℕ) → Option Given → (number : ℕ) → Text → Type 0
+abbrev pub IsNoteAt : Expect → (bytes : Text) → (lines : List FileLines) → Option Given → (number : ℕ) → Text → Type 0
 IsNoteAt x bytes lines declared number note =
     IsLocationOf bytes number ⊎ IsPlanNote x lines declared number note ⊎ ((number ≡ 45) × ((rule : ℕ) × (key : RuleKey) × IsUnknownLocation bytes declared rule key))
 
 -- where a call that has read these files fails, such a note
-abbrev pub NotesRules : Expect → (bytes : Text) → (lines : List ℕ) → Option Given → End → Option Text → Type 0
+abbrev pub NotesRules : Expect → (bytes : Text) → (lines : List FileLines) → Option Given → End → Option Text → Type 0
 NotesRules x bytes lines declared (Ok d) note = note ≡ None
 NotesRules x bytes lines declared (Err failure) note =
     Notes x.why (λ t. (number : ℕ) × (number_of failure ≡ Some number) × IsNoteAt x bytes lines declared number t) note
+
+-- the note of a trace that is not opened, or that can't be read to its end
+abbrev pub IsTraceNote : (name note : Text) → Type 0
+IsTraceNote name note = ((fault : SourceFault) × IsNoteOfName (codes "trace") name fault note) ⊎ (note ≡ rest_note (codes "trace") name)
+
+-- A note is given only where one is asked for, and then it is one to a trace.
+abbrev pub NotesTrace : Expect → Option Text → Type 0
+NotesTrace x None = Unit {0}
+NotesTrace x (Some note) = IsTrue x.why × ((name : Text) × IsTraceNote name note)
 
 -- All is read, and all traces are held against the rules. A syntax fault of the declaration is one of the file that has it.
 pub record IsReadAndHeld {S : Type 0} (reads : Reading S) (opens : Opening S) (old new : S) (x : Expect) (a b : Held) (end : End) (note : Option Text) : Type 0 where
   pub between : S
   pub bytes : Text
-  pub lines : List ℕ
+  pub lines : List FileLines
   pub declared : Option Given
   pub read : AreRulesRead reads x old between bytes lines declared
   pub inner : End
   pub done : Holds opens x between new bytes declared a b inner
-  pub noted : NotesRules x bytes lines declared inner note
+  pub noted : NotesRules x bytes lines declared inner note ⊎ NotesTrace x note
   pub ends : EndsIn (types_of x) (own_of x.declaration) lines inner end
 
 -- What a call that holds rules against traces does, from one state of the source to the next, and its note.

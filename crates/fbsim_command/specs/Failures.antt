@@ -6,8 +6,8 @@ use Rattle.fb_read.specs.declared.error.ReadError.{ReadError}
 use Rattle.fb_read.specs.declared.error.ReadError.TheVariants as read
 use Rattle.fb_expect.specs.Refusals as rules
 use Rattle.fb_expect.specs.declared.error.RulesError.{RulesError}
-use Rattle.fb_expect.specs.declared.lines.ReadFault.{ReadFault}
-use Rattle.fb_expect.specs.declared.lines.ReadFault.TheVariants as line_fault
+use Rattle.fb_expect.specs.declared.parting.PartFault.{PartFault}
+use Rattle.fb_expect.specs.declared.parting.PartFault.TheVariants as part_fault
 use Rattle.fb_inputs.specs.Refusals as input
 use Rattle.fb_inputs.specs.declared.error.InputError.{InputError}
 use Rattle.fb_check.specs.Refusals as check
@@ -20,6 +20,7 @@ use Rattle.fb_inspect.specs.declared.error.InspectError.{InspectError}
 use Rattle.fb_inspect.specs.declared.error.InspectError.TheVariants as inspect
 use Rattle.fb_wave.specs.declared.error.WaveError.{WaveError}
 use Rattle.fb_wave.specs.declared.error.WaveError.TheVariants as wave
+use Rattle.fbsim_command.specs.Shown.{shown_name}
 use Rattle.fbsim_command.specs.declared.failure.Failure.{Failure}
 use Rattle.fbsim_command.specs.declared.failure.Failure.TheVariants.{Refused, RefusedTrace, File, Write, Memory, Line, BadOption}
 use Rattle.fbsim_command.specs.declared.failure.RefusalLine.{RefusalLine}
@@ -64,9 +65,10 @@ failure_of (run.Write n) = Write n
 failure_of run.BadOption = BadOption
 failure_of run.Failed = Memory
 
-abbrev pub failure_of_trace : ReadFault → Failure
-failure_of_trace line_fault.Memory = Memory
-failure_of_trace line_fault.Read = File
+abbrev pub failure_of_part : PartFault → Failure
+failure_of_part part_fault.Memory = Memory
+failure_of_part part_fault.First = File
+failure_of_part part_fault.Second = File
 
 abbrev pub failure_of_wave : WaveError → Failure
 failure_of_wave (wave.Refused line) = Refused (Trace line)
@@ -100,7 +102,7 @@ refusal_text (Trace line) = codes "refused trace line " ++ decimal line
 
 -- a trace that is refused, with its name and the line
 abbrev pub refused_trace : (name : List ℕ) → (line : ℕ) → List ℕ
-refused_trace name line = codes "refused trace " ++ (name ++ (codes " line " ++ decimal line))
+refused_trace name line = codes "refused trace " ++ (shown_name name ++ (codes " line " ++ decimal line))
 
 abbrev pub failure_text : Failure → List ℕ
 failure_text (Refused refusal) = refusal_text refusal

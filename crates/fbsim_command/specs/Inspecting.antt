@@ -25,6 +25,7 @@ use Rattle.fbsim_line.specs.declared.line.Task.{Task}
 use Rattle.fbsim_command.specs.declared.sources.SourceFault.{SourceFault}
 use Rattle.fbsim_command.specs.declared.statuses.Done.TheVariants.{Helped, Explained, Accepted, Shown, Ended, Stopped, Met, Unmet, Same, Different}
 use Rattle.fbsim_command.specs.declared.texts.Part.{Part}
+use Rattle.fbsim_command.specs.declared.join.FileLines.{FileLines}
 
 -- the call that checks what a trace is of
 abbrev pub files_of : Inspect → Task
@@ -90,7 +91,7 @@ Inspects given x trace old new (Err (RefusedTrace text)) = ⊥
 -- All is read that the trace is of, the trace is opened, and it is inspected. A syntax fault is one of the file that has it.
 -- A note is that of a check, or of the line at which the trace is refused, or says that it can't be read to its end.
 pub record IsReadAndInspected {S : Type 0} (reads : Reading S) (opens : Opening S) (from to : S) (types : List Text) (x : Inspect) (old new : Held) (end : End) (note : Option Text) : Type 0 where
-  pub lines : List ℕ
+  pub lines : List FileLines
   pub given : Given
   pub between : S
   pub read : AreRead reads types (files_of x) from between lines given
@@ -103,7 +104,7 @@ pub record IsReadAndInspected {S : Type 0} (reads : Reading S) (opens : Opening 
 
 -- All is read that the trace is of, and the trace is not opened.
 pub record IsUnopened {S : Type 0} (reads : Reading S) (opens : Opening S) (from to : S) (types : List Text) (x : Inspect) (fault : SourceFault) (note : Option Text) : Type 0 where
-  pub lines : List ℕ
+  pub lines : List FileLines
   pub given : Given
   pub between : S
   pub read : AreRead reads types (files_of x) from between lines given

@@ -1,9 +1,10 @@
 -- A declaration in several files (docs/FORMATS.md, "Declarations in several files"; this project's own): its text, and which line
 -- of it is in which file.
-use Rattle.std.specs.Prelude.{◌≡◌, ℕ, ◌+◌, ◌<◌, ◌≤◌, Bool, true, false, if◌then◌else◌, ◌==◌, ◌&&◌, nat_lt, List, [], ◌∷◌, ◌++◌, length, map, take, slice_index, slice_index_or, sum, sum_by, count_by}
+use Rattle.std.specs.Prelude.{◌≡◌, ℕ, ◌+◌, ◌-◌, ◌<◌, ◌≤◌, Bool, true, false, if◌then◌else◌, ◌==◌, ◌&&◌, nat_lt, List, [], ◌∷◌, ◌++◌, length, map, take, Option, Some, None, slice_get, slice_index, slice_index_or, sum, sum_by, count_by}
 use Rattle.fb_read.specs.Tokens.{after_mark}
 use Rattle.fb_read.specs.Whole.{most_bytes}
 use Rattle.clap.specs.Words.{Text}
+use Rattle.fbsim_command.specs.declared.join.FileLines.{FileLines}
 use Rattle.fbsim_command.specs.declared.join.Within.{Within}
 use Rattle.fbsim_command.specs.declared.join.Within.TheVariants.{Tokens, Opening, Comment, Closing, Line}
 
@@ -64,6 +65,32 @@ text_of ts = if nat_lt most_bytes (length (joined ts)) then joined ts else joine
 -- how many lines a text has
 abbrev pub line_count : Text → ℕ
 line_count t = 1 + count_by (λ b. b == 10) t
+
+-- The lines of files: of the first one the whole has every byte, and of the others it leaves out a byte order mark.
+abbrev pub lines_of_first : Text → FileLines
+lines_of_first t = record { count = line_count t; mark = 0 }
+
+abbrev pub lines_behind : Text → FileLines
+lines_behind t = record { count = line_count t; mark = length t - length (after_mark t) }
+
+abbrev pub lines_of_files : List Text → List FileLines
+lines_of_files [] = []
+lines_of_files (t ∷ ts) = lines_of_first t ∷ map lines_behind ts
+
+-- how many lines each file has
+abbrev pub counts : List FileLines → List ℕ
+counts lines = map (λ l. l.count) lines
+
+-- how many bytes the whole leaves out at the beginning of this line of this file
+abbrev pub mark_in : FileLines → (own : ℕ) → ℕ
+mark_in l own = if own == 1 then l.mark else 0
+
+abbrev pub mark_of : Option FileLines → (own : ℕ) → ℕ
+mark_of None own = 0
+mark_of (Some l) own = mark_in l own
+
+abbrev pub mark_at : List FileLines → (file own : ℕ) → ℕ
+mark_at lines file own = mark_of (slice_get lines file) own
 
 -- This line of the whole, of files that have this many lines each, is this line of this file. Files are counted from 0, lines from 1.
 pub record IsLineOf (lines : List ℕ) (whole file own : ℕ) : Type 0 where

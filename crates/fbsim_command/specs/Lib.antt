@@ -2,6 +2,7 @@ pub mod Files
 pub mod Joining
 pub mod Failures
 pub mod Texts
+pub mod Shown
 pub mod Reading
 pub mod Notes
 pub mod InputNotes
@@ -21,6 +22,7 @@ pub mod Inspecting
 pub mod Selecting
 pub mod WarningLines
 pub mod Stops
+pub mod LateRows
 pub mod Covering
 pub mod Sessions
 pub mod Command

@@ -14,6 +14,7 @@ use Rattle.fbsim_command.specs.InputNotes.{FileNames, IsNoteThere, names_of, typ
 use Rattle.fbsim_command.specs.Texts.{given_of, lines_of}
 use Rattle.fbsim_command.specs.declared.input_notes.RefusedInputs.{RefusedInputs}
 use Rattle.fbsim_command.specs.OwnLines.{IsPlaced}
+use Rattle.fbsim_command.specs.Shown.{shown_name}
 use Rattle.fbsim_command.specs.declared.failure.Failure.{Failure}
 use Rattle.fbsim_command.specs.declared.failure.Failure.TheVariants.{Refused, File}
 use Rattle.fbsim_command.specs.declared.failure.RefusalLine.TheVariants.{Numbered, Syntax}
@@ -22,6 +23,7 @@ use Rattle.fbsim_command.specs.declared.sources.SourceFault.TheVariants as sourc
 use Rattle.fbsim_command.specs.declared.texts.Part.{Part}
 use Rattle.fbsim_command.specs.Outcomes.{End}
 use Rattle.fbsim_command.specs.declared.texts.Part.TheVariants.{BlockTypes, Declaration, Deployment, Stimuli}
+use Rattle.fbsim_command.specs.declared.join.FileLines.{FileLines}
 
 -- ---- Files
 
@@ -49,11 +51,15 @@ IsMatter source.File name matter = IsUnreadable name matter
 IsMatter source.Folder name matter = matter ≡ codes "this is a folder, not a file"
 IsMatter source.Memory name matter = ⊥
 
+-- what is the matter with a file of this name, which is called so
+abbrev pub named_note : (word name matter : List ℕ) → List ℕ
+named_note word name matter = word ++ codes " " ++ shown_name name ++ codes ": " ++ matter
+
 -- the note of a file of this name, which is called so and is not read
 pub record IsNoteOfName (word name : List ℕ) (fault : SourceFault) (note : List ℕ) : Type 0 where
   pub matter : List ℕ
   pub is_matter : IsMatter fault name matter
-  pub text : note ≡ word ++ codes " " ++ name ++ codes ": " ++ matter
+  pub text : note ≡ named_note word name matter
 
 -- The note of a file that can't be read.
 pub record IsFileNote (types : List (List ℕ)) (c : Task) (part : Part) (fault : SourceFault) (note : List ℕ) : Type 0 where
@@ -63,7 +69,7 @@ pub record IsFileNote (types : List (List ℕ)) (c : Task) (part : Part) (fault 
 
 -- the note of a file of this name, which is called so and can't be read to its end
 abbrev pub rest_note : (word name : List ℕ) → List ℕ
-rest_note word name = word ++ codes " " ++ name ++ codes ": this file can't be read to its end"
+rest_note word name = named_note word name (codes "this file can't be read to its end")
 
 -- A trace of this name can't be read to its end, and the note says so.
 abbrev pub NotesRest : (why : Bool) → (name : List ℕ) → End → Option (List ℕ) → Type 0
@@ -79,12 +85,12 @@ number_of (Refused (Syntax line)) = Some 3
 number_of _ = None
 
 -- The note names the file, the line and the column of the place in the declaration, or else in another input.
-abbrev pub IsNoteBy : (types : List (List ℕ)) → (own : List ℕ) → FileNames → (lines : List ℕ) → Given → FindingLocation → Option Place → (text note : List ℕ) → Type 0
+abbrev pub IsNoteBy : (types : List (List ℕ)) → (own : List ℕ) → FileNames → (lines : List FileLines) → Given → FindingLocation → Option Place → (text note : List ℕ) → Type 0
 IsNoteBy types own names lines given location (Some at) text note = IsPlaced types own lines at.line at.column note
 IsNoteBy types own names lines given location None text note = IsNoteThere names given location text note
 
 -- The note of what was found is that of its place, or its text.
-abbrev pub IsNoteIn : (types : List (List ℕ)) → (own : List ℕ) → FileNames → (lines : List ℕ) → Given → PlacedFinding → List ℕ → Type 0
+abbrev pub IsNoteIn : (types : List (List ℕ)) → (own : List ℕ) → FileNames → (lines : List FileLines) → Given → PlacedFinding → List ℕ → Type 0
 IsNoteIn types own names lines given found note = IsNoteBy types own names lines given found.finding.location found.place (string_bytes found.finding.text) note
 
 -- a note on a line of its own: each but the first begins by ending the line before
@@ -93,12 +99,12 @@ on_line true note = note
 on_line false note = 10 ∷ note
 
 -- the text is that of the notes of these findings, each on a line of its own; the first may be one among others
-abbrev pub AreNotesFrom : (types : List (List ℕ)) → (own : List ℕ) → FileNames → (lines : List ℕ) → Given → Bool → List PlacedFinding → List ℕ → Type 0
+abbrev pub AreNotesFrom : (types : List (List ℕ)) → (own : List ℕ) → FileNames → (lines : List FileLines) → Given → Bool → List PlacedFinding → List ℕ → Type 0
 AreNotesFrom types own names lines given is_first [] text = text ≡ []
 AreNotesFrom types own names lines given is_first (found ∷ rest) text =
     (note : List ℕ) × (after : List ℕ) × IsNoteIn types own names lines given found note × AreNotesFrom types own names lines given false rest after × (text ≡ on_line is_first note ++ after)
 
-abbrev pub AreNotesOf : (types : List (List ℕ)) → (own : List ℕ) → FileNames → (lines : List ℕ) → Given → List PlacedFinding → List ℕ → Type 0
+abbrev pub AreNotesOf : (types : List (List ℕ)) → (own : List ℕ) → FileNames → (lines : List FileLines) → Given → List PlacedFinding → List ℕ → Type 0
 AreNotesOf types own names lines given found text = AreNotesFrom types own names lines given true found text
 
 -- there are more, or not
@@ -107,7 +113,7 @@ more_line true = 10 ∷ codes "and more"
 more_line false = []
 
 -- The note is that of these findings, of which there is one at least.
-abbrev pub IsNoteOfFindings : (types : List (List ℕ)) → (own : List ℕ) → FileNames → (lines : List ℕ) → Given → Findings → List ℕ → Type 0
+abbrev pub IsNoteOfFindings : (types : List (List ℕ)) → (own : List ℕ) → FileNames → (lines : List FileLines) → Given → Findings → List ℕ → Type 0
 IsNoteOfFindings types own names lines given f note =
     (f.shown.items ≢ []) × ((text : List ℕ) × AreNotesOf types own names lines given f.shown.items text × (note ≡ text ++ more_line f.more))
 
@@ -129,12 +135,12 @@ IsNoteOfShown r f note = IsNoteOfFindings (types_in r) r.own.now (names_of r.nam
 -- ---- Refusals by their number
 
 -- The note is that of the findings of this number.
-abbrev pub IsNoteOfNumber : (types : List (List ℕ)) → (own : List ℕ) → FileNames → (lines : List ℕ) → Given → (number : ℕ) → List ℕ → Type 0
+abbrev pub IsNoteOfNumber : (types : List (List ℕ)) → (own : List ℕ) → FileNames → (lines : List FileLines) → Given → (number : ℕ) → List ℕ → Type 0
 IsNoteOfNumber types own names lines given number note =
     (f : Findings) × IsNoteOfFindings types own names lines given f note × All (IsPlacedFinding given.declaration) f.shown.items × AreFound given.declaration given.deploy given.stimuli number f
 
 -- The note is that of the number of the refusal.
-abbrev pub IsNote : (types : List (List ℕ)) → (own : List ℕ) → FileNames → (lines : List ℕ) → Given → Failure → List ℕ → Type 0
+abbrev pub IsNote : (types : List (List ℕ)) → (own : List ℕ) → FileNames → (lines : List FileLines) → Given → Failure → List ℕ → Type 0
 IsNote types own names lines given failure note = (number : ℕ) × (number_of failure ≡ Some number) × IsNoteOfNumber types own names lines given number note
 
 -- the names of the inputs of a task
@@ -147,6 +153,6 @@ Notes why is None = Unit {0}
 Notes why is (Some note) = IsTrue why × is note
 
 -- where a call has failed, such a note
-abbrev pub NotesOf : (types : List (List ℕ)) → Task → (lines : List ℕ) → Given → End → Option (List ℕ) → Type 0
+abbrev pub NotesOf : (types : List (List ℕ)) → Task → (lines : List FileLines) → Given → End → Option (List ℕ) → Type 0
 NotesOf types c lines given (Ok d) note = note ≡ None
 NotesOf types c lines given (Err failure) note = Notes c.why (IsNote types c.declaration.now (input_names c) lines given failure) note

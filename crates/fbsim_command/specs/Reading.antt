@@ -5,13 +5,14 @@ use Rattle.clap.specs.Words.{Text}
 use Rattle.fb_read.specs.Whole.{most_bytes}
 use Rattle.fb_inputs.specs.Stimuli as stimuli
 use Rattle.fb_sim.specs.Given.{Given}
-use Rattle.fbsim_command.specs.Joining.{line_count, text_of}
+use Rattle.fbsim_command.specs.Joining.{lines_of_files, text_of}
 use Rattle.fbsim_line.specs.declared.line.Action.TheVariants.{Check}
 use Rattle.fbsim_line.specs.declared.line.Task.{Task}
 use Rattle.fbsim_command.specs.declared.sources.SourceFault.{SourceFault}
 use Rattle.fbsim_command.specs.declared.sources.SourceFault.TheVariants as source
 use Rattle.fbsim_command.specs.declared.texts.Part.{Part}
 use Rattle.fbsim_command.specs.declared.texts.Part.TheVariants.{BlockTypes, Declaration, Deployment, Stimuli}
+use Rattle.fbsim_command.specs.declared.join.FileLines.{FileLines}
 
 -- what reading the first bytes of a named file may give, from one state of the source to the next
 abbrev pub Reading : Type 0 → Type 1
@@ -53,14 +54,14 @@ AreTextsRead reads (n ∷ ns) old new [] = ⊥
 AreTextsRead {S} reads (n ∷ ns) old new (t ∷ ts) = (between : S) × reads old n asked (Ok t) between × AreTextsRead reads ns between new ts
 
 -- The declaration is the text of the files of block types and of its own, which has this name. All are read, and their lines counted.
-pub record AreJoined {S : Type 0} (reads : Reading S) (types : List Text) (own : Text) (old new : S) (lines : List ℕ) (text : Text) : Type 0 where
+pub record AreJoined {S : Type 0} (reads : Reading S) (types : List Text) (own : Text) (old new : S) (lines : List FileLines) (text : Text) : Type 0 where
   pub texts : List Text
   pub read : AreTextsRead reads (types ++ own ∷ []) old new texts
   pub joined : text ≡ text_of texts
-  pub counted : lines ≡ map line_count texts
+  pub counted : lines ≡ lines_of_files texts
 
 -- the declaration of the file of this name, after those of block types, if there are any
-abbrev pub IsDeclarationRead : {S : Type 0} → Reading S → (types : List Text) → (own : Text) → (old new : S) → (lines : List ℕ) → (text : Text) → Type 0
+abbrev pub IsDeclarationRead : {S : Type 0} → Reading S → (types : List Text) → (own : Text) → (old new : S) → (lines : List FileLines) → (text : Text) → Type 0
 IsDeclarationRead reads [] own old new lines text = reads old own asked (Ok text) new × (lines ≡ [])
 IsDeclarationRead reads (t ∷ ts) own old new lines text = AreJoined reads (t ∷ ts) own old new lines text
 
@@ -92,7 +93,7 @@ IsOwnUnread reads (t ∷ ts) own old new fault = IsNextUnread reads (t ∷ ts) o
 -- ---- All files
 
 -- the declaration, the deployment and the stimuli are read, in this order
-pub record AreRead {S : Type 0} (reads : Reading S) (types : List Text) (c : Task) (old new : S) (lines : List ℕ) (given : Given) : Type 0 where
+pub record AreRead {S : Type 0} (reads : Reading S) (types : List Text) (c : Task) (old new : S) (lines : List FileLines) (given : Given) : Type 0 where
   pub before_deploy : S
   pub before_stimuli : S
   pub declaration : IsDeclarationRead reads types c.declaration.now old before_deploy lines given.declaration
@@ -102,7 +103,7 @@ pub record AreRead {S : Type 0} (reads : Reading S) (types : List Text) (c : Tas
 -- the declaration is read, and the deployment is not
 pub record IsDeployUnread {S : Type 0} (reads : Reading S) (types : List Text) (c : Task) (old new : S) (fault : SourceFault) : Type 0 where
   pub between : S
-  pub lines : List ℕ
+  pub lines : List FileLines
   pub text : Text
   pub declaration : IsDeclarationRead reads types c.declaration.now old between lines text
   pub deploy : MayRead reads (deploy_named c) asked between (Err fault) new
@@ -111,7 +112,7 @@ pub record IsDeployUnread {S : Type 0} (reads : Reading S) (types : List Text) (
 pub record AreStimuliUnread {S : Type 0} (reads : Reading S) (types : List Text) (c : Task) (old new : S) (fault : SourceFault) : Type 0 where
   pub before_deploy : S
   pub before_stimuli : S
-  pub lines : List ℕ
+  pub lines : List FileLines
   pub text : Text
   pub plan : Option Text
   pub declaration : IsDeclarationRead reads types c.declaration.now old before_deploy lines text

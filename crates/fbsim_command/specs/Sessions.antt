@@ -22,6 +22,7 @@ use Rattle.fbsim_line.specs.declared.session_line.SessionCall.{SessionCall}
 use Rattle.fbsim_session.specs.Talks.{Talks}
 use Rattle.fbsim_session.specs.declared.talking.TalkFault.{TalkFault}
 use Rattle.fbsim_session.specs.declared.talking.TalkFault.TheVariants as fault
+use Rattle.fbsim_command.specs.declared.join.FileLines.{FileLines}
 
 -- the call that checks what a session begins with
 abbrev pub files_of : SessionCall → Task
@@ -60,7 +61,7 @@ pub record IsOpenAndAnswered {S : Type 0} (reads : Reading S) (opens : Opening S
   pub between : S
   pub commands : Held
   pub opened : opens from (codes "-") (Ok commands) between
-  pub lines : List ℕ
+  pub lines : List FileLines
   pub given : Given
   pub read : AreRead reads types (files_of x) between to lines given
   pub inner : End

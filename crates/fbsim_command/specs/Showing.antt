@@ -25,6 +25,7 @@ use Rattle.fbsim_command.specs.declared.failure.RefusalLine.TheVariants.{Trace}
 use Rattle.fbsim_command.specs.declared.sources.SourceFault.{SourceFault}
 use Rattle.fbsim_command.specs.declared.statuses.Done.TheVariants.{Helped, Explained, Accepted, Shown, Ended, Stopped, Met, Unmet, Same, Different}
 use Rattle.fbsim_command.specs.declared.texts.Part.{Part}
+use Rattle.fbsim_command.specs.declared.join.FileLines.{FileLines}
 
 -- what opening a named file may give, from one state of the source to the next: its bytes, where they are known
 abbrev pub Opening : Type 0 → Type 1
@@ -98,7 +99,7 @@ IsTraceFileNote w fault note = IsNoteOfName (codes "trace") w.trace.now fault no
 -- All is read that the trace is of, the trace is opened, and its dump is written. A syntax fault is one of the file that has it.
 -- A note is that of a check, or says what is wrong with the line at which the trace is refused, or that it can't be read to its end.
 pub record IsReadAndShown {S : Type 0} (reads : Reading S) (opens : Opening S) (from to : S) (types : List Text) (w : Wave) (old new : Held) (end : End) (note : Option Text) : Type 0 where
-  pub lines : List ℕ
+  pub lines : List FileLines
   pub given : Given
   pub between : S
   pub read : AreRead reads types (files_of w) from between lines given
@@ -111,7 +112,7 @@ pub record IsReadAndShown {S : Type 0} (reads : Reading S) (opens : Opening S) (
 
 -- All is read that the trace is of, and the trace is not opened.
 pub record IsUnopened {S : Type 0} (reads : Reading S) (opens : Opening S) (from to : S) (types : List Text) (w : Wave) (fault : SourceFault) (note : Option Text) : Type 0 where
-  pub lines : List ℕ
+  pub lines : List FileLines
   pub given : Given
   pub between : S
   pub read : AreRead reads types (files_of w) from between lines given

@@ -19,6 +19,7 @@ use Rattle.fbsim_line.specs.declared.line.Action.{Action}
 use Rattle.fbsim_line.specs.declared.line.Action.TheVariants.{Check, Run}
 use Rattle.fbsim_line.specs.declared.line.Task.{Task}
 use Rattle.fbsim_command.specs.declared.statuses.Done.TheVariants.{Stopped}
+use Rattle.fbsim_command.specs.declared.join.FileLines.{FileLines}
 
 -- The place is that of the operator of the operation at which the simulation stops.
 pub record IsOperatorPlace (text : Text) (i : Inputs) (stop : FoundStop) (at : Place) : Type 0 where
@@ -33,21 +34,21 @@ IsStopPlace text i stop None = Unit {0}
 IsStopPlace text i stop (Some at) = IsOperatorPlace text i stop at ⊎ ((p : Position) × IsStopPosition i stop p × IsPlaceAt text i.library p at)
 
 -- The note names the file, the line and the column of the place, or is the words.
-abbrev pub IsNoteAtStop : (types : List (List ℕ)) → (own : List ℕ) → (lines : List ℕ) → Option Place → (words note : List ℕ) → Type 0
+abbrev pub IsNoteAtStop : (types : List (List ℕ)) → (own : List ℕ) → (lines : List FileLines) → Option Place → (words note : List ℕ) → Type 0
 IsNoteAtStop types own lines (Some at) words note = IsPlaced types own lines at.line at.column note
 IsNoteAtStop types own lines None words note = note ≡ words
 
 -- The note of a stop names its place, or is its words.
-abbrev pub IsNoteOfStop : (types : List (List ℕ)) → (own : List ℕ) → (lines : List ℕ) → Given → Inputs → FoundStop → (note : List ℕ) → Type 0
+abbrev pub IsNoteOfStop : (types : List (List ℕ)) → (own : List ℕ) → (lines : List FileLines) → Given → Inputs → FoundStop → (note : List ℕ) → Type 0
 IsNoteOfStop types own lines given i stop note =
     (place : Option Place) × (words : List ℕ) × IsStopPlace given.declaration i stop place × IsNoteAtStop types own lines place words note
 
 -- It is the note of the stop of the simulation.
-abbrev pub IsNoteOfRun : (types : List (List ℕ)) → (own : List ℕ) → (lines : List ℕ) → Given → Inputs → (horizon steps : ℕ) → (note : List ℕ) → Type 0
+abbrev pub IsNoteOfRun : (types : List (List ℕ)) → (own : List ℕ) → (lines : List FileLines) → Given → Inputs → (horizon steps : ℕ) → (note : List ℕ) → Type 0
 IsNoteOfRun types own lines given i horizon steps note = (stop : FoundStop) × IsStop i horizon steps stop × IsNoteOfStop types own lines given i stop note
 
 -- the note to a stop of a run of what is given
-abbrev pub IsStopNote : (types : List (List ℕ)) → (own : List ℕ) → (lines : List ℕ) → Given → (horizon steps : ℕ) → (note : List ℕ) → Type 0
+abbrev pub IsStopNote : (types : List (List ℕ)) → (own : List ℕ) → (lines : List FileLines) → Given → (horizon steps : ℕ) → (note : List ℕ) → Type 0
 IsStopNote types own lines given horizon steps note = (i : Inputs) × Declares given i × IsNoteOfRun types own lines given i horizon steps note
 
 -- the horizon and the steps of a run
@@ -61,7 +62,7 @@ AsksWhere c (Ok Stopped) horizon steps = IsTrue c.why × IsRunOf c.action horizo
 AsksWhere c end horizon steps = ⊥
 
 -- it is asked, and such a note is reported
-pub record ReportsNote (types : List (List ℕ)) (c : Task) (lines : List ℕ) (given : Given) (end : End) (report : List ℕ) : Type 0 where
+pub record ReportsNote (types : List (List ℕ)) (c : Task) (lines : List FileLines) (given : Given) (end : End) (report : List ℕ) : Type 0 where
   pub horizon : ℕ
   pub steps : ℕ
   pub asks : AsksWhere c end horizon steps
@@ -70,5 +71,5 @@ pub record ReportsNote (types : List (List ℕ)) (c : Task) (lines : List ℕ) (
   pub line : report ≡ note ++ codes "\n"
 
 -- What is reported after a task: where it stopped, if that is asked for and memory is there, and else nothing.
-abbrev pub ReportsStop : (types : List (List ℕ)) → Task → (lines : List ℕ) → Given → End → (report : List ℕ) → Type 0
+abbrev pub ReportsStop : (types : List (List ℕ)) → Task → (lines : List FileLines) → Given → End → (report : List ℕ) → Type 0
 ReportsStop types c lines given end report = (report ≡ []) ⊎ ReportsNote types c lines given end report

@@ -6,6 +6,7 @@ use Rattle.fb_wave.specs.declared.truncation.Cut.{Cut}
 use Rattle.fb_wave.specs.declared.truncation.Cut.TheVariants as cut
 use Rattle.fbsim_command.specs.declared.texts.Texts.{Texts}
 use Rattle.fbsim_command.specs.declared.sources.SourceFault.{SourceFault}
+use Rattle.fbsim_command.specs.declared.join.FileLines.{FileLines}
 
 -- the bytes of the files
 abbrev pub given_of : Texts → Given
@@ -20,11 +21,11 @@ given_of t =
 abbrev pub texts_of : List (Vec ℕ) → List (List ℕ)
 texts_of ts = map (λ t. t.items) ts
 
--- how many lines each file of a declaration has, where it is in several
-abbrev pub lines_of : Texts → List ℕ
+-- the lines of each file of a declaration, where it is in several
+abbrev pub lines_of : Texts → List FileLines
 lines_of t = t.lines.items
 
-abbrev pub may_lines_of : Option Texts → List ℕ
+abbrev pub may_lines_of : Option Texts → List FileLines
 may_lines_of None = []
 may_lines_of (Some t) = lines_of t
 

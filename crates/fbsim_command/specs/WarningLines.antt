@@ -1,5 +1,5 @@
 -- The lines of warnings with their places (docs/FORMATS.md, "Warnings"; this project's own).
-use Rattle.std.specs.Prelude.{◌≡◌, ◌⊎◌, ◌&&◌, ◌||◌, ℕ, nat_le, nat_lt, Bool, false, List, [], ◌∷◌, ◌++◌, length, map, sum, take, Option, Some, None, option_map, if◌then◌else◌, codes, decimal}
+use Rattle.std.specs.Prelude.{◌≡◌, ◌⊎◌, ◌+◌, ◌&&◌, ◌||◌, ℕ, nat_le, nat_lt, Bool, false, List, [], ◌∷◌, ◌++◌, length, map, sum, take, Option, Some, None, IfSome, option_map, if◌then◌else◌, codes, decimal}
 use Rattle.std.specs.List.{list_any}
 use Rattle.clap.specs.Words.{Text}
 use Rattle.fb_types.specs.Headline.{Inputs}
@@ -9,47 +9,55 @@ use Rattle.fb_lint.specs.Lines.{IsLine}
 use Rattle.fb_lint.specs.Positions.{position_of}
 use Rattle.fb_lint.specs.Warnings.{warnings}
 use Rattle.fb_lint.specs.declared.warning.Warning.{Warning}
-use Rattle.fb_lint.specs.declared.warning.Warning.TheVariants.{UnusedLink, UnusedType}
+use Rattle.fb_lint.specs.declared.warning.Warning.TheVariants.{EarlyStimulus, UnusedLink, UnusedType}
 use Rattle.fb_inputs.specs.declared.deploy_location.TableLocation.TheVariants as table
 use Rattle.fb_inputs.specs.declared.position.DeployPosition.TheVariants as position
+use Rattle.fb_inputs.specs.declared.position.StimuliPosition.TheVariants as in_stimuli
+use Rattle.fb_inputs.specs.declared.position.StimuliPosition.{StimuliPosition}
+use Rattle.fb_read.specs.declared.token.Span.{Span}
+use Rattle.fb_read_positions.specs.Places as read
+use Rattle.fb_read_positions.specs.Places.{IsStretch}
 use Rattle.fb_read_positions.specs.declared.position.Position.{Position}
 use Rattle.fb_read_positions.specs.Places.{IsPlaceAt, IsPlaceFor}
-use Rattle.fb_why.specs.InputStretches.{IsDeployPlace}
+use Rattle.fb_why.specs.InputStretches.{IsDeployPlace, IsStimuliPlace}
 use Rattle.fb_read_positions.specs.declared.places.Place.{Place}
 use Rattle.fb_sim.specs.Given.{Given}
 use Rattle.fb_sim.specs.Serial.{Declares}
-use Rattle.fbsim_command.specs.Joining.{IsLineOf, name_at}
+use Rattle.fbsim_command.specs.Joining.{IsLineOf, counts, mark_at, name_at}
+use Rattle.fbsim_command.specs.Shown.{shown_name}
 use Rattle.fbsim_command.specs.OwnLines.{IsInNone}
 use Rattle.fbsim_command.specs.Selecting.{is_selected}
 use Rattle.fbsim_command.specs.declared.selectors.Sorting.{Sorting}
 use Rattle.fbsim_command.specs.Outcomes.{End}
 use Rattle.fbsim_line.specs.declared.line.Task.{Task}
 use Rattle.fbsim_command.specs.declared.call_names.Naming as code
+use Rattle.fbsim_command.specs.declared.join.FileLines.{FileLines}
 
--- The names that a call gives to its files, and how many lines each file of the declaration has, if there are several.
+-- The names that a call gives to its files, and the lines of each file of the declaration, if there are several.
 pub record Naming : Type 0 where
   pub types : List Text
   pub own : Text
   pub deploy : Option Text
-  pub lines : List ℕ
+  pub stimuli : Option Text
+  pub lines : List FileLines
 
 abbrev pub naming_of : code.Naming → Naming
-naming_of n = record { types = map (λ t. t.now) n.types.now; own = n.own.now; deploy = option_map (λ d. d.now) n.deploy; lines = n.lines.now }
+naming_of n = record { types = map (λ t. t.now) n.types.now; own = n.own.now; deploy = option_map (λ d. d.now) n.deploy; stimuli = option_map (λ s. s.now) n.stimuli; lines = n.lines.now }
 
 -- the names that a task gives
-abbrev pub naming_in : (types : List Text) → Task → (lines : List ℕ) → Naming
-naming_in types c lines = record { types = types; own = c.declaration.now; deploy = option_map (λ d. d.now) c.deploy; lines = lines }
+abbrev pub naming_in : (types : List Text) → Task → (lines : List FileLines) → Naming
+naming_in types c lines = record { types = types; own = c.declaration.now; deploy = option_map (λ d. d.now) c.deploy; stimuli = option_map (λ s. s.now) c.stimuli; lines = lines }
 
 -- ---- Places
 
 -- a file, a line and a column, as editors take them
 abbrev pub place_text : (name : Text) → (line column : ℕ) → Text
-place_text name line column = name ++ (codes ":" ++ (decimal line ++ (codes ":" ++ (decimal column ++ codes ": "))))
+place_text name line column = shown_name name ++ (codes ":" ++ (decimal line ++ (codes ":" ++ (decimal column ++ codes ": "))))
 
--- The text has the file with this line of the whole declaration, and the line in it. A declaration in one file has its own lines.
+-- The text has the file with this line of the whole declaration, the line in it, and the column there. A declaration in one file has its own lines.
 abbrev pub IsPlaceText : Naming → (whole column : ℕ) → Text → Type 0
 IsPlaceText n whole column text =
-    ((file : ℕ) × (line : ℕ) × IsLineOf n.lines whole file line × (text ≡ place_text (name_at n.types n.own file) line column))
+    ((file : ℕ) × (line : ℕ) × IsLineOf (counts n.lines) whole file line × (text ≡ place_text (name_at n.types n.own file) line (column + mark_at n.lines file line)))
     ⊎ (IsInNone n.lines whole × (text ≡ place_text n.own whole column))
 
 -- The text is the place of the warning in the declaration.
@@ -74,9 +82,47 @@ pub record IsLinkPlace (n : Naming) (deploy : Option Text) (link : ℕ) (text : 
 abbrev pub IsDeploymentPlace : Naming → (deploy : Option Text) → Warning → Text → Type 0
 IsDeploymentPlace n deploy w text = (link : ℕ) × (w ≡ UnusedLink link) × IsLinkPlace n deploy link text
 
+-- ---- Rows
+
+-- the position in the stimuli of the row that a warning is about; for another warning it is their beginning
+abbrev pub row_position : Warning → StimuliPosition
+row_position (EarlyStimulus row) = in_stimuli.Row row
+row_position _ = in_stimuli.Start
+
+-- The place, if there is one, is that of the bytes.
+abbrev pub IsPlaceNear : Text → Span → Option Place → Type 0
+IsPlaceNear text span place = IfSome place (λ at. IsStretch span.start span.end at × read.IsPlace text at)
+
+-- The place is that of a position in the stimuli that are given, if some are.
+abbrev pub IsPlaceInRows : (stimuli : Option Text) → StimuliPosition → Place → Type 0
+IsPlaceInRows None position at = Unit {0}
+IsPlaceInRows (Some bytes) position at = IsStimuliPlace bytes position at
+
+abbrev pub IsPlaceOfRow : (stimuli : Option Text) → (row : ℕ) → Place → Type 0
+IsPlaceOfRow stimuli row at = IsPlaceInRows stimuli (in_stimuli.Row row) at
+
+-- The place, if there is one, is that of the row that the warning is about.
+abbrev pub IsRowPlaceFor : (stimuli : Option Text) → Warning → Option Place → Type 0
+IsRowPlaceFor stimuli w place = IfSome place (IsPlaceInRows stimuli (row_position w))
+
+-- The text is the place of a row of the stimuli.
+pub record IsRowPlace (n : Naming) (stimuli : Option Text) (row : ℕ) (text : Text) : Type 0 where
+  pub name : Text
+  pub named : n.stimuli ≡ Some name
+  pub bytes : Text
+  pub given : stimuli ≡ Some bytes
+  pub place : Place
+  pub placed : IsStimuliPlace bytes (in_stimuli.Row row) place
+  pub shown : text ≡ place_text name place.line place.column
+
+-- The warning is about a row, and the text is the place of that.
+abbrev pub IsStimulusPlace : Naming → (stimuli : Option Text) → Warning → Text → Type 0
+IsStimulusPlace n stimuli w text = (row : ℕ) × (w ≡ EarlyStimulus row) × IsRowPlace n stimuli row text
+
 -- the place of a warning, or nothing
 abbrev pub IsPlace : Naming → Given → Library → Warning → Text → Type 0
-IsPlace n given library w text = IsDeclaredPlace n given.declaration library w text ⊎ IsDeploymentPlace n given.deploy w text ⊎ (text ≡ [])
+IsPlace n given library w text =
+    IsDeclaredPlace n given.declaration library w text ⊎ IsDeploymentPlace n given.deploy w text ⊎ IsStimulusPlace n given.stimuli w text ⊎ (text ≡ [])
 
 -- ---- Lines
 
@@ -92,7 +138,7 @@ pub record IsPlacedLine (n : Naming) (given : Given) (library : Library) (w : Wa
 
 -- this line of the whole declaration is in a file of block types
 abbrev pub is_in_types : Naming → (whole : ℕ) → Bool
-is_in_types n whole = nat_lt 0 whole && nat_le whole (sum (take (length n.types) n.lines))
+is_in_types n whole = nat_lt 0 whole && nat_le whole (sum (take (length n.types) (counts n.lines)))
 
 -- the warning is about a type without instances whose place is in a file of block types, which other declarations may use
 abbrev pub is_of_types : Naming → Warning → Option Place → Bool

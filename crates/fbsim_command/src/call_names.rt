@@ -1,5 +1,7 @@
 //! The names of the files of a call.
 
+use crate::join::FileLines;
+
 /// The names that a call gives to its files.
 #[derive(Clone, Copy)]
 pub struct Naming<'l, 't, 'n> {
@@ -9,6 +11,8 @@ pub struct Naming<'l, 't, 'n> {
     pub own: &'n str,
     /// The name of the deployment's file, where one is given.
     pub deploy: Option<&'n str>,
-    /// How many lines each file of the declaration has, if it is in several files.
-    pub lines: &'l [usize],
+    /// The name of the file with the stimuli, where one is given.
+    pub stimuli: Option<&'n str>,
+    /// The lines of each file of the declaration, if it is in several files.
+    pub lines: &'l [FileLines],
 }

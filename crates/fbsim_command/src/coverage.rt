@@ -1,6 +1,6 @@
 //! What traces cover.
 
-ghost use Rattle.std.specs.Prelude.{◌≡◌, ◌++◌, IfErr, IfOk, IfSome, OnOk, codes, decimal, map, option_map, string_bytes};
+ghost use Rattle.std.specs.Prelude.{◌≡◌, ◌++◌, IfErr, IfOk, IfSome, OnOk, codes, decimal, map, option_map, string_bytes, true};
 ghost use Rattle.fbsim_command.specs.declared.coverage.Gleaned.{Gleaned};
 ghost use Rattle.fbsim_command.specs.Covering as spec;
 ghost use Rattle.fbsim_command.specs.WrongLines.{IsWrongIn};
@@ -13,6 +13,7 @@ use crate::line_notes::note_of_wave;
 use crate::notes::{note_of_file, note_of_rest};
 use crate::output::write_text;
 use crate::own_lines::end_with;
+use crate::shown::shown_name;
 use crate::sources::{Source, Streams};
 use crate::statuses::Done;
 use crate::texts::{cut_of, files_of, read_files};
@@ -67,6 +68,14 @@ fn refusal_of(alloc: Global, is_named: bool, name: &str, line: u64) -> Failure
     }
 }
 
+/// How the note to a line of the trace of this name begins.
+fn named_front(alloc: Global, name: &str) -> Result<String, AllocError>
+    ensures { IfOk result (λ front. string_bytes front ≡ note_front true name.now) }
+{
+    let name = shown_name(alloc, name)?;
+    Ok(format!(in alloc; "trace {name}")?)
+}
+
 /// How the note to a line begins, which names the trace where there are several. Without memory for it there is nothing.
 fn front_of(alloc: Global, is_named: bool, name: &str) -> Option<String>
     ensures { IfSome result (λ front. string_bytes front ≡ note_front is_named name.now) }
@@ -77,10 +86,7 @@ fn front_of(alloc: Global, is_named: bool, name: &str) -> Option<String>
             Err(_) => None,
         };
     }
-    match format!(in alloc; "trace {name}") {
-        Ok(front) => Some(front),
-        Err(_) => None,
-    }
+    named_front(alloc, name).ok()
 }
 
 /// The note to a line at which this trace is refused, where one is asked for.

@@ -1,24 +1,30 @@
 //! Traces against rules, and against one another.
 
 ghost use Rattle.std.specs.Prelude.{◌≡◌, ◌&&◌, IfErr, IfOk, OnOk, ◌*◌, ◌++◌, codes, length, nat_lt, option_map, string_bytes, true};
-ghost use Rattle.fbsim_command.specs.Comparing.{Compares, Differs, NotesEither};
-ghost use Rattle.fbsim_command.specs.Expecting.{AreRules, AreUnheld, Expects, Holds, IsHeld, IsRefusedAt, IsUndeclared, IsUnheld, MayDeclare, PutsAll, PutsOne, RefusesFor, Reports, cut_of, head_of, own_of, part_of, tail_of, types_of};
+ghost use Rattle.fb_expect.specs.Parting.{MayPart};
+ghost use Rattle.fbsim_command.specs.Comparing.{Compares, Differs, NotesEither, NotesUnread};
+ghost use Rattle.fbsim_command.specs.Failures.{refused_trace};
+ghost use Rattle.fbsim_command.specs.Expecting.{AreRules, AreUnheld, Expects, Holds, IsHeld, IsRefusedAt, IsUndeclared, IsUnheld, MayDeclare, NotesTrace, PutsAll, PutsOne, RefusesFor, Reports, cut_of, head_of, own_of, part_of, tail_of, types_of};
 ghost use Rattle.fbsim_command.specs.Notes.{IsNoteOfName, Notes};
+ghost use Rattle.fbsim_command.specs.Outcomes.{Held};
 ghost use Rattle.fbsim_command.specs.OwnLines.{EndsIn};
 ghost use Rattle.fbsim_command.specs.Texts.{given_of, may_lines_of};
 
 use crate::failure::{Failure, RefusalLine};
+use crate::inside_notes::note_of_open;
+use crate::join::FileLines;
 use crate::known::has_names;
-use crate::notes::note_of_name;
+use crate::notes::{note_of_name, note_of_rest};
 use crate::output::write_text;
 use crate::own_lines::end_in;
-use crate::rules_notes::{note_of_names, note_of_rules, note_to_rules};
+use crate::rules_notes::{note_of_names, note_of_rules, note_to_held};
+use crate::shown::shown_name;
 use crate::sources::{Source, SourceFault, Streams};
 use crate::statuses::Done;
 use crate::texts::{Texts, Unread, files_of, lines_in, read_files};
 use fb_expect::{
-    Cut, Judged, Of, Rule, SUITES_HEAD, SUITES_TAIL, TraceError, UNKNOWN_NAME, are_well,
-    difference_text, judge, part, plan, put_points, put_suite, read_rules,
+    Cut, Difference, Judged, Of, PartFault, Rule, SUITES_HEAD, SUITES_TAIL, TraceError,
+    UNKNOWN_NAME, are_well, difference_text, judge, part, plan, put_points, put_suite, read_rules,
 };
 use fb_sim::{discard, open};
 use fb_types::Items;
@@ -40,31 +46,60 @@ fn cut_of(expect: &Expect<'_>) -> Cut
     }
 }
 
-/// Opens a trace, and holds all rules against it.
+/// The note to a trace that can't be read to its end, where one is asked for.
+fn note_of_unread(alloc: Global, expect: &Expect<'_>, name: &str) -> Option<String>
+    ensures { NotesTrace expect.now (option_map string_bytes result) }
+{
+    if !expect.why {
+        return None;
+    }
+    note_of_rest(alloc, "trace", name)
+}
+
+/// Opens a trace, and holds all rules against it. Of a file that fails there is a note, where one is asked for.
 fn hold<S: Streams>(
     alloc: Global,
     expect: &Expect<'_>,
     rules: &[Rule],
     name: &str,
+    note: &mut Option<String>,
     source: &mut S,
 ) -> Result<Vec<Judged>, Failure>
     ensures held { IfOk result (λ js. IsHeld S.opens expect.now rules.now source.old source.new name.now js.items) }
     ensures unheld { IfErr result (IsUnheld S.opens source.old source.new name.now) }
+    ensures noted { NotesTrace expect.now (option_map string_bytes note.old) → NotesTrace expect.now (option_map string_bytes note.new) }
 {
-    let mut trace = source.open(alloc, name)?;
+    let mut trace = match source.open(alloc, name) {
+        Ok(trace) => trace,
+        Err(fault) => {
+            *note = note_of_open(alloc, expect.why, name, fault);
+            return Err(Failure::from(fault));
+        }
+    };
     match judge(alloc, rules, cut_of(expect), &mut trace) {
         Ok(judged) => Ok(judged),
         Err(TraceError::Memory) => Err(Failure::Memory),
-        Err(TraceError::Read) => Err(Failure::File),
+        Err(TraceError::Read) => {
+            *note = note_of_unread(alloc, expect, name);
+            Err(Failure::File)
+        }
         Err(TraceError::Refused(line)) => Err(refused_trace(alloc, name, line)),
     }
+}
+
+/// The text of a trace that is refused at this line.
+fn refused_text(alloc: Global, name: &str, line: u64) -> Result<String, AllocError>
+    ensures { IfOk result (λ text. string_bytes text ≡ refused_trace name.now line) }
+{
+    let name = shown_name(alloc, name)?;
+    Ok(format!(in alloc; "refused trace {name} line {line}")?)
 }
 
 /// The failure for a trace that is refused at this line.
 pub(crate) fn refused_trace(alloc: Global, name: &str, line: u64) -> Failure
     ensures { IsRefusedAt name.now line result }
 {
-    match format!(in alloc; "refused trace {name} line {line}") {
+    match refused_text(alloc, name, line) {
         Ok(text) => Failure::RefusedTrace(text),
         Err(_) => Failure::Memory,
     }
@@ -107,28 +142,23 @@ fn put_part(
 }
 
 /// Holds all rules against the trace at this place of a call, and puts their points after a text. It says whether all
-/// are well.
+/// are well. Of a file that fails there is a note, where one is asked for.
 fn put_one<S: Streams>(
     alloc: Global,
     expect: &Expect<'_>,
     rules: &[Rule],
-    index: usize,
-    trace: &str,
+    at: (usize, &str),
     text: &mut Vec<u8>,
+    note: &mut Option<String>,
     source: &mut S,
 ) -> Result<bool, Failure>
-    ensures put { IfOk result (PutsOne S.opens expect.now rules.now index trace.entry source.old source.new text.old.items text.new.items) }
-    ensures unheld { IfErr result (IsUnheld S.opens source.old source.new trace.now) }
+    ensures put { IfOk result (PutsOne S.opens expect.now rules.now at.entry.0 at.entry.1 source.old source.new text.old.items text.new.items) }
+    ensures unheld { IfErr result (IsUnheld S.opens source.old source.new at.entry.1.now) }
+    ensures noted { NotesTrace expect.now (option_map string_bytes note.old) → NotesTrace expect.now (option_map string_bytes note.new) }
 {
-    let judged = hold(alloc, expect, rules, trace, source)?;
-    put_part(
-        alloc,
-        expect,
-        rules,
-        (index, trace),
-        text,
-        judged.as_slice(),
-    )?;
+    let (_, trace) = at;
+    let judged = hold(alloc, expect, rules, trace, note, source)?;
+    put_part(alloc, expect, rules, at, text, judged.as_slice())?;
     Ok(are_well(expect.is_strict, judged.as_slice()))
 }
 
@@ -138,14 +168,17 @@ fn put_all<S: Streams>(
     expect: &Expect<'_>,
     rules: &[Rule],
     text: &mut Vec<u8>,
+    note: &mut Option<String>,
     source: &mut S,
 ) -> Result<bool, Failure>
     ensures put { IfOk result (PutsAll S.opens expect.now rules.now source.old source.new text.old.items text.new.items) }
     ensures unheld { IfErr result (AreUnheld S.opens expect.now rules.now source.old source.new) }
+    ensures noted { NotesTrace expect.now (option_map string_bytes note.old) → NotesTrace expect.now (option_map string_bytes note.new) }
 {
     let mut is_well = true;
     for (index, trace) in expect.traces.iter().enumerate() {
-        let ok = put_one(alloc, expect, rules, index, trace, text, source)?;
+        let at = (index, *trace);
+        let ok = put_one(alloc, expect, rules, at, text, note, source)?;
         is_well = both(ok, is_well);
     }
     Ok(is_well)
@@ -176,13 +209,15 @@ fn report<S: Streams>(
     alloc: Global,
     expect: &Expect<'_>,
     rules: &[Rule],
+    note: &mut Option<String>,
     source: &mut S,
 ) -> Result<(Vec<u8>, bool), Failure>
     ensures reported { IfOk result (λ p. Reports S.opens expect.now rules.now source.old source.new p.1 p.0.items) }
     ensures unheld { IfErr result (AreUnheld S.opens expect.now rules.now source.old source.new) }
+    ensures noted { NotesTrace expect.now (option_map string_bytes note.old) → NotesTrace expect.now (option_map string_bytes note.new) }
 {
     let mut text = head(alloc, expect, rules)?;
-    let is_well = put_all(alloc, expect, rules, &mut text, source)?;
+    let is_well = put_all(alloc, expect, rules, &mut text, note, source)?;
     put_tail(expect, &mut text)?;
     Ok((text, is_well))
 }
@@ -234,19 +269,22 @@ fn checked_rules(
     Ok(rules)
 }
 
-/// Holds the rules of bytes against the traces of a call, and writes the report.
+/// Holds the rules of bytes against the traces of a call, and writes the report. Of a trace whose file fails there is a
+/// note, where one is asked for.
 fn hold_rules<S: Streams, W: Write>(
     alloc: Global,
     expect: &Expect<'_>,
     bytes: &[u8],
     declared: &Option<Texts>,
+    note: &mut Option<String>,
     source: &mut S,
     out: &mut W,
 ) -> Result<Done, Failure>
-    ensures { Holds S.opens expect.now source.old source.new bytes.now (option_map given_of declared.now) (W.contents out.old) (W.contents out.new) result }
+    ensures held { Holds S.opens expect.now source.old source.new bytes.now (option_map given_of declared.now) (W.contents out.old) (W.contents out.new) result }
+    ensures noted { NotesTrace expect.now (option_map string_bytes note.old) → NotesTrace expect.now (option_map string_bytes note.new) }
 {
     let rules = checked_rules(alloc, bytes, declared)?;
-    let (text, is_well) = report(alloc, expect, rules.as_slice(), source)?;
+    let (text, is_well) = report(alloc, expect, rules.as_slice(), note, source)?;
     write_text(out, text.as_slice())?;
     if is_well {
         Ok(Done::Met)
@@ -262,11 +300,11 @@ pub(crate) fn own_name<'a>(declaration: Option<&'a str>) -> &'a str
     declaration.unwrap_or("")
 }
 
-/// How a call ends of which the declaration, if there is one, is in files with these many lines each.
+/// How a call ends of which the declaration, if there is one, is in files with these lines each.
 fn end_of(
     alloc: Global,
     expect: &Expect<'_>,
-    lines: &[usize],
+    lines: &[FileLines],
     end: Result<Done, Failure>,
 ) -> Result<Done, Failure>
     ensures { EndsIn (types_of expect.now) (own_of expect.now.declaration) lines.now end result }
@@ -305,23 +343,22 @@ pub(crate) fn expect<S: Source + Streams, W: Write>(
         }
     };
     let bytes = bytes.as_slice();
-    let end = hold_rules(alloc, expect, bytes, &declared, source, out);
-    let note = note_to_rules(alloc, expect, &end, bytes, &declared);
+    let mut trace = None;
+    let end = hold_rules(alloc, expect, bytes, &declared, &mut trace, source, out);
+    let note = note_to_held(alloc, expect, &end, bytes, &declared, trace);
     let end = end_of(alloc, expect, lines_in(&declared), end);
     (end, note)
 }
 
-/// Compares two traces, and writes where they part first, if they do.
-fn compare<R: BufRead, T: BufRead, W: Write>(
+/// Writes where two traces part first, if they do.
+fn show_parted<W: Write>(
     alloc: Global,
     diff: &Diff<'_>,
-    first: &mut R,
-    second: &mut T,
+    found: Option<Difference>,
     out: &mut W,
 ) -> Result<Done, Failure>
-    ensures { Differs diff.now (R.remaining first.old) (T.remaining second.old) (W.contents out.old) (W.contents out.new) result }
+    ensures { (first second : Held) → MayPart diff.now.is_without_ticks first second found → Differs diff.now first second (W.contents out.old) (W.contents out.new) result }
 {
-    let found = part(alloc, diff.is_without_ticks, first, second)?;
     let Some(difference) = found else {
         return Ok(Done::Same);
     };
@@ -346,19 +383,41 @@ fn note_of_trace(alloc: Global, diff: &Diff<'_>, name: &str, fault: SourceFault)
     note_of_name(alloc, "trace", name, fault)
 }
 
-/// The note to two traces one of which can't be read to its end, where one is asked for.
-fn note_of_either(alloc: Global, diff: &Diff<'_>, end: &Result<Done, Failure>) -> Option<String>
-    ensures { NotesEither diff.now end.now (option_map string_bytes result) }
+/// The note to the one of two traces that can't be read to its end, where one is asked for.
+fn note_of_part(alloc: Global, diff: &Diff<'_>, fault: PartFault) -> Option<String>
+    ensures { NotesUnread diff.now fault (option_map string_bytes result) }
 {
-    match end {
-        Err(Failure::File) if diff.why => {}
-        _ => return None,
+    if !diff.why {
+        return None;
     }
-    let (first, second) = (diff.first, diff.second);
-    match format!(in alloc; "trace {first} or {second}: this file can't be read to its end") {
-        Ok(note) => Some(note),
-        Err(_) => None,
+    match fault {
+        PartFault::Memory => None,
+        PartFault::First => note_of_rest(alloc, "trace", diff.first),
+        PartFault::Second => note_of_rest(alloc, "trace", diff.second),
     }
+}
+
+/// Compares two traces, and writes where they part first, if they do. It says how that ends, and what is reported after
+/// the line of a file fault.
+fn compare<R: BufRead, T: BufRead, W: Write>(
+    alloc: Global,
+    diff: &Diff<'_>,
+    first: &mut R,
+    second: &mut T,
+    out: &mut W,
+) -> (Result<Done, Failure>, Option<String>)
+    ensures done { Differs diff.now (R.remaining first.old) (T.remaining second.old) (W.contents out.old) (W.contents out.new) result.0 }
+    ensures noted { NotesEither diff.now result.0 (option_map string_bytes result.1) }
+{
+    let found = match part(alloc, diff.is_without_ticks, first, second) {
+        Ok(found) => found,
+        Err(fault) => {
+            let note = note_of_part(alloc, diff, fault);
+            return (Err(Failure::from(fault)), note);
+        }
+    };
+    let end = show_parted(alloc, diff, found, out);
+    (end, None)
 }
 
 /// Reads two traces, and writes where they part first, if they do. It says how that ends, and what is reported after
@@ -385,7 +444,5 @@ pub(crate) fn diff<S: Streams, W: Write>(
             return (Err(Failure::from(fault)), note);
         }
     };
-    let end = compare(alloc, diff, &mut first, &mut second, out);
-    let note = note_of_either(alloc, diff, &end);
-    (end, note)
+    compare(alloc, diff, &mut first, &mut second, out)
 }

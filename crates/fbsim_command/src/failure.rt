@@ -1,12 +1,12 @@
 //! Why a call of the program does not do what is asked, and how that is reported.
 
 ghost use Rattle.std.specs.Prelude.{◌≡◌};
-ghost use Rattle.fbsim_command.specs.Failures.{failure_of, failure_of_check, failure_of_inspection, failure_of_read, failure_of_input, failure_of_refusal, failure_of_rules, failure_of_source, failure_of_trace, failure_of_wave};
+ghost use Rattle.fbsim_command.specs.Failures.{failure_of, failure_of_check, failure_of_inspection, failure_of_read, failure_of_input, failure_of_refusal, failure_of_rules, failure_of_source, failure_of_part, failure_of_wave};
 ghost use Rattle.fbsim_command.specs.declared.failure.Failure.TheVariants.{Memory};
 
 use crate::sources::SourceFault;
 use fb_check::CheckError;
-use fb_expect::{ReadFault, RulesError};
+use fb_expect::{PartFault, RulesError};
 use fb_inputs::InputError;
 use fb_inspect::InspectError;
 use fb_read::ReadError;
@@ -115,13 +115,13 @@ impl From<RunError> for Failure {
     }
 }
 
-impl From<ReadFault> for Failure {
-    ghost from_gives = { λ fault failure. failure ≡ failure_of_trace fault };
+impl From<PartFault> for Failure {
+    ghost from_gives = { λ fault failure. failure ≡ failure_of_part fault };
 
-    fn from(fault: ReadFault) -> Failure {
+    fn from(fault: PartFault) -> Failure {
         match fault {
-            ReadFault::Memory => Failure::Memory,
-            ReadFault::Read => Failure::File,
+            PartFault::Memory => Failure::Memory,
+            PartFault::First | PartFault::Second => Failure::File,
         }
     }
 }

@@ -1,9 +1,9 @@
 //! A declaration in several files: its text, and which line of it is in which file.
 
-ghost use Rattle.std.specs.Prelude.{◌≡◌, ◌<◌, ◌⊎◌, ◌++◌, IfNone, IfOk, IfSome, OnOk, length, map, nat_lt, sum};
+ghost use Rattle.std.specs.Prelude.{◌≡◌, ◌+◌, ◌∷◌, ◌<◌, ◌⊎◌, ◌++◌, IfNone, IfOk, IfSome, OnOk, length, map, nat_lt, sum};
 ghost use Rattle.fb_read.specs.Whole.{most_bytes};
 ghost use Rattle.fbsim_command.specs.Joining as spec;
-ghost use Rattle.fbsim_command.specs.Joining.{IsLineOf};
+ghost use Rattle.fbsim_command.specs.Joining.{IsLineOf, counts, mark_at};
 ghost use Rattle.fbsim_command.specs.Texts.{texts_of};
 
 use fb_read_positions::after_mark;
@@ -153,14 +153,59 @@ fn line_count(text: &[u8]) -> usize
     1 + text.iter().filter(|b| **b == b'\n').count()
 }
 
-/// How many lines each text has.
-pub(crate) fn line_counts(alloc: Global, texts: &[Vec<u8>]) -> Result<Vec<usize>, AllocError>
-    ensures { IfOk result (λ v. v.items ≡ map (λ t. spec.line_count t.items) texts.now) }
+/// The lines of a file of a declaration.
+#[derive(Clone, Copy)]
+pub struct FileLines {
+    /// How many there are.
+    pub count: usize,
+    /// How many bytes of the first one the whole text leaves out: those of a byte order mark.
+    pub mark: usize,
+}
+
+/// The lines of a file of which the whole text has every byte.
+fn lines_of_first(text: &[u8]) -> FileLines
+    ensures { result ≡ spec.lines_of_first text.now }
 {
-    texts
-        .iter()
-        .map(|text| line_count(text.as_slice()))
-        .collect(alloc)
+    FileLines {
+        count: line_count(text),
+        mark: 0,
+    }
+}
+
+/// The lines of a file of which the whole text leaves out the byte order mark.
+fn lines_behind(text: &[u8]) -> FileLines
+    ensures { result ≡ spec.lines_behind text.now }
+{
+    FileLines {
+        count: line_count(text),
+        mark: text.len() - after_mark(text).len(),
+    }
+}
+
+/// The lines of a first file, and of those after it.
+fn lines_with(
+    alloc: Global,
+    first: &[u8],
+    following: &[Vec<u8>],
+) -> Result<Vec<FileLines>, AllocError>
+    ensures { IfOk result (λ v. v.items ≡ spec.lines_of_first first.now ∷ map spec.lines_behind (texts_of following.now)) }
+{
+    let mut lines = Vec::new(alloc);
+    lines.push(lines_of_first(first))?;
+    for text in following {
+        lines.push(lines_behind(text.as_slice()))?;
+    }
+    Ok(lines)
+}
+
+/// The lines of each file, by their texts.
+pub(crate) fn lines_of_files(alloc: Global, texts: &[Vec<u8>]) -> Result<Vec<FileLines>, AllocError>
+    ensures { IfOk result (λ v. v.items ≡ spec.lines_of_files (texts_of texts.now)) }
+{
+    match texts.split_first() {
+        Some((first, following)) => lines_with(alloc, first.as_slice(), following),
+        None => Ok(Vec::new(alloc)),
+    }
 }
 
 /// A line of a file of a declaration.
@@ -170,27 +215,48 @@ pub(crate) struct FileLine {
     pub file: usize,
     /// The line in it, counted from 1.
     pub line: usize,
+    /// How many bytes at its beginning the whole text leaves out.
+    pub mark: usize,
 }
 
-/// The file that has this line of the whole text, if one does, for files of this many lines each.
-pub(crate) fn line_in_file(lines: &[usize], whole: usize) -> Option<FileLine>
-    ensures found { IfSome result (λ at. IsLineOf lines.now whole at.file at.line) }
-    ensures none { IfNone result ((whole ≡ 0) ⊎ (sum lines.now < whole)) }
+/// How many bytes the whole text leaves out at the beginning of this line of a file.
+fn mark_in(own: FileLines, line: usize) -> usize
+    ensures { result ≡ spec.mark_in own line }
+{
+    if line == 1 { own.mark } else { 0 }
+}
+
+/// The file that has this line of the whole text, if one does, for files with these lines.
+pub(crate) fn line_in_file(lines: &[FileLines], whole: usize) -> Option<FileLine>
+    ensures found { IfSome result (λ at. IsLineOf (counts lines.now) whole at.file at.line) }
+    ensures mark { IfSome result (λ at. at.mark ≡ mark_at lines.now at.file at.line) }
+    ensures none { IfNone result ((whole ≡ 0) ⊎ (sum (counts lines.now) < whole)) }
 {
     if whole == 0 {
         return None;
     }
     let mut left = whole;
     for i in 0..lines.len() {
-        if left <= lines[i] {
+        let own = lines[i];
+        if left <= own.count {
             return Some(FileLine {
                 file: i,
                 line: left,
+                mark: mark_in(own, left),
             });
         }
-        left -= lines[i];
+        left -= own.count;
     }
     None
+}
+
+impl FileLine {
+    /// The column in the file of a column of this line in the whole text.
+    pub(crate) fn column(self, whole: usize) -> Option<usize>
+        ensures { IfSome result (λ column. column ≡ whole + self.mark) }
+    {
+        whole.checked_add(self.mark)
+    }
 }
 
 /// The name of a file of a declaration: of those of block types, or else its own.

@@ -6,11 +6,12 @@
 //!
 //! Read in this order: `sources`, where files come from; `files`, those of the machine; `program`, the call;
 //! `texts`, what is read, with `join`, a declaration in several files, and `own_lines`, how its refusals name a file
-//! and a line, which agree by `laws`; `lint`, with `call_names`, `selectors` and `warning_lines`, the lines of warnings;
-//! `located_stop`, where a run stops; `wave`, with `state_dump` and `line_notes`; `draw`; `inspect` and `coverage`,
+//! and a line, which agree by `laws`; `lint`, with `call_names`, `selectors`, `row_places` and
+//! `warning_lines`, the lines of warnings;
+//! `late_rows`, rows that a run does not come to; `located_stop`, where a run stops; `wave`, with `state_dump` and `line_notes`; `draw`; `inspect` and `coverage`,
 //! with `inside_notes`; `session`, commands and their answers; `expect`, rules and traces, with `known` and `possible`,
 //! whether what is declared has an event for a pattern, and `unknown_pattern` and `near`, why it has none; `output`;
-//! `failure`, `notes`, `input_notes`, `rules_notes` and `statuses`, how it ends.
+//! `failure`, `shown`, `notes`, `input_notes`, `rules_notes` and `statuses`, how it ends.
 #![tactic(auto)]
 
 pub mod call_names;
@@ -22,8 +23,9 @@ pub mod files;
 mod input_notes;
 mod inside_notes;
 mod inspect;
-mod join;
+pub mod join;
 mod known;
+mod late_rows;
 pub mod laws;
 mod line_notes;
 mod lint;
@@ -34,9 +36,11 @@ pub mod output;
 mod own_lines;
 mod possible;
 pub mod program;
+mod row_places;
 mod rules_notes;
 pub mod selectors;
 mod session;
+mod shown;
 pub mod sources;
 mod state_dump;
 pub mod statuses;

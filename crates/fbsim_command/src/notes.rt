@@ -1,7 +1,7 @@
 //! What is reported after the line of a failure: its place.
 
 ghost use Rattle.std.specs.Prelude.{◌≡◌, ◌⊎◌, ◌++◌, IfOk, IfSome, map, option_map, string_bytes};
-ghost use Rattle.fbsim_command.specs.Notes.{AreNotesOfAll, IsFileNote, IsMatter, IsNote, IsNoteOfName, IsNoteOfNumber, IsNoteOfOne, IsNoteOfShown, IsPlaceIn, Notes, file_word, input_names, name_of, number_of, on_line, IsUnreadable, NotesRest, rest_note};
+ghost use Rattle.fbsim_command.specs.Notes.{AreNotesOfAll, IsFileNote, IsMatter, IsNote, IsNoteOfName, IsNoteOfNumber, IsNoteOfOne, IsNoteOfShown, IsPlaceIn, Notes, file_word, input_names, name_of, named_note, number_of, on_line, IsUnreadable, NotesRest, rest_note};
 ghost use Rattle.std.specs.List.{AllZip};
 ghost use Rattle.fbsim_command.specs.InputNotes.{IsNoteThere, names_of, types_in};
 ghost use Rattle.fbsim_command.specs.OwnLines.{IsPlaced};
@@ -10,6 +10,7 @@ ghost use Rattle.fbsim_command.specs.Texts.{given_of, lines_of};
 use crate::failure::{Failure, RefusalLine};
 use crate::input_notes::{InputNames, RefusedInputs, note_there};
 use crate::own_lines::note_at;
+use crate::shown::shown_name;
 use crate::sources::SourceFault;
 use crate::statuses::Done;
 use crate::texts::{Part, Texts, Unread};
@@ -69,6 +70,14 @@ fn name_of<'a>(types: &[&'a str], task: &Task<'a>, part: Part) -> Option<&'a str
     }
 }
 
+/// What is the matter with a file of this name, which is called so.
+fn named(alloc: Global, word: &str, name: &str, matter: &str) -> Result<String, AllocError>
+    ensures { IfOk result (λ note. string_bytes note ≡ named_note word.now name.now matter.now) }
+{
+    let name = shown_name(alloc, name)?;
+    Ok(format!(in alloc; "{word} {name}: {matter}")?)
+}
+
 /// The note to a file of this name, which is called so and is not read. Without memory there is none.
 pub(crate) fn note_of_name(
     alloc: Global,
@@ -79,20 +88,14 @@ pub(crate) fn note_of_name(
     ensures { IfSome result (λ note. IsNoteOfName word.now name.now fault (string_bytes note)) }
 {
     let matter = words_for(name, fault)?;
-    match format!(in alloc; "{word} {name}: {matter}") {
-        Ok(note) => Some(note),
-        Err(_) => None,
-    }
+    named(alloc, word, name, matter).ok()
 }
 
 /// The note to a file of this name, which is called so and can't be read to its end. Without memory there is none.
 pub(crate) fn note_of_rest(alloc: Global, word: &str, name: &str) -> Option<String>
     ensures { IfSome result (λ note. string_bytes note ≡ rest_note word.now name.now) }
 {
-    match format!(in alloc; "{word} {name}: this file can't be read to its end") {
-        Ok(note) => Some(note),
-        Err(_) => None,
-    }
+    named(alloc, word, name, "this file can't be read to its end").ok()
 }
 
 /// The note to the end of a call that reads a trace of this name to its end: that of the file, if that can't be read,

@@ -1,30 +1,39 @@
 //! Refusals of a declaration in several files: the name of the file and the line in it, in place of the line of the
 //! whole.
 
-ghost use Rattle.std.specs.Prelude.{◌≡◌, IfSome, map, string_bytes};
+ghost use Rattle.std.specs.Prelude.{◌≡◌, IfOk, IfSome, map, string_bytes};
 ghost use Rattle.fbsim_command.specs.OwnLines as spec;
 ghost use Rattle.fbsim_command.specs.OwnLines.{EndsIn, IsPlaced, IsPlacedText, IsSyntaxIn, IsSyntaxText};
 ghost use Rattle.fbsim_command.specs.Texts.{lines_of};
 
 use crate::failure::{Failure, RefusalLine};
-use crate::join::{file_name, line_in_file};
+use crate::join::{FileLines, file_name, line_in_file};
+use crate::shown::shown_name;
 use crate::statuses::Done;
 use crate::texts::Texts;
 use fb_read_positions::Place;
-use std::alloc::Global;
+use std::alloc::{AllocError, Global};
+
+/// The text of a syntax fault in this line of a file.
+fn syntax_text(alloc: Global, name: &str, line: usize) -> Result<String, AllocError>
+    ensures { IfOk result (λ text. string_bytes text ≡ spec.syntax_in name.now line) }
+{
+    let name = shown_name(alloc, name)?;
+    Ok(format!(in alloc; "refused E03 {name} line {line}")?)
+}
 
 /// The failure for a syntax fault in this line of a file.
 fn syntax_of_file(alloc: Global, name: &str, line: usize) -> Failure
     ensures { IsSyntaxText name.now line result }
 {
-    match format!(in alloc; "refused E03 {name} line {line}") {
+    match syntax_text(alloc, name, line) {
         Ok(text) => Failure::RefusedTrace(text),
         Err(_) => Failure::Memory,
     }
 }
 
 /// The failure for a syntax fault in this line of the whole text.
-fn syntax_in(alloc: Global, types: &[&str], own: &str, lines: &[usize], whole: u32) -> Failure
+fn syntax_in(alloc: Global, types: &[&str], own: &str, lines: &[FileLines], whole: u32) -> Failure
     ensures { IsSyntaxIn (map (λ t. t.now) types.now) own.now lines.now whole result }
 {
     match line_in_file(lines, whole as usize) {
@@ -43,13 +52,13 @@ fn syntax_line(end: &Result<Done, Failure>) -> Option<u32>
     }
 }
 
-/// How a call ends of which the declaration is in files of these names, with this many lines each. Without lines it is
-/// in one file.
+/// How a call ends of which the declaration is in files of these names, with these lines each. Without lines it is in
+/// one file.
 pub(crate) fn end_in(
     alloc: Global,
     types: &[&str],
     own: &str,
-    lines: &[usize],
+    lines: &[FileLines],
     end: Result<Done, Failure>,
 ) -> Result<Done, Failure>
     ensures { EndsIn (map (λ t. t.now) types.now) own.now lines.now end result }
@@ -73,6 +82,20 @@ pub(crate) fn end_with(
     end_in(alloc, types, own, texts.lines.as_slice(), end)
 }
 
+/// The text of a place in the file of this name, as editors take it, with what is the matter there.
+fn placed_text(
+    alloc: Global,
+    name: &str,
+    line: usize,
+    column: usize,
+    matter: &str,
+) -> Result<String, AllocError>
+    ensures { IfOk result (λ text. string_bytes text ≡ spec.placed_text name.now line column matter.now) }
+{
+    let name = shown_name(alloc, name)?;
+    Ok(format!(in alloc; "{name}:{line}:{column}: {matter}")?)
+}
+
 /// The note for a place in the file of this name, which names it as editors do.
 pub(crate) fn placed(
     alloc: Global,
@@ -83,19 +106,16 @@ pub(crate) fn placed(
 ) -> Option<String>
     ensures { IfSome result (λ note. IsPlacedText name.now line column (string_bytes note)) }
 {
-    match format!(in alloc; "{name}:{line}:{column}: {matter}") {
-        Ok(note) => Some(note),
-        Err(_) => None,
-    }
+    placed_text(alloc, name, line, column, matter).ok()
 }
 
-/// The note for a place in the text of a declaration in files of these names, with this many lines each. Without lines
-/// it is in one file.
+/// The note for a place in the text of a declaration in files of these names, with these lines each. Without lines it is
+/// in one file.
 pub(crate) fn note_at(
     alloc: Global,
     types: &[&str],
     own: &str,
-    lines: &[usize],
+    lines: &[FileLines],
     at: Place,
     matter: &str,
 ) -> Option<String>
@@ -104,7 +124,8 @@ pub(crate) fn note_at(
     match line_in_file(lines, at.line) {
         Some(there) => {
             let name = file_name(types, own, there.file);
-            placed(alloc, name, there.line, at.column, matter)
+            let column = there.column(at.column)?;
+            placed(alloc, name, there.line, column, matter)
         }
         None => placed(alloc, own, at.line, at.column, matter),
     }

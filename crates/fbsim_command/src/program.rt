@@ -19,6 +19,7 @@ use crate::draw::show_graph;
 use crate::expect::{diff, expect};
 use crate::failure::Failure;
 use crate::inspect::show_insides;
+use crate::late_rows::report_rows_after;
 use crate::lint::check_and_warn;
 use crate::located_stop::report_stop_after;
 use crate::notes::{note_of, note_of_file};
@@ -229,9 +230,11 @@ fn perform<R: Threads + Wait + Sync, C: Clock + CpuClock, S: Source, W: Write, E
                 types,
                 own: task.declaration,
                 deploy: task.deploy,
+                stimuli: task.stimuli,
                 lines: texts.lines.as_slice(),
             };
             let (end, is_heard) = meet(rt, clock, alloc, &naming, asked, &texts, out, err);
+            let is_heard = report_rows_after(alloc, task, &end, &texts, err, is_heard);
             let is_heard = report_stop_after(alloc, types, task, &end, &texts, err, is_heard);
             let note = note_to(alloc, types, task, &end, &texts);
             let end = end_with(alloc, types, task.declaration, &texts, end);

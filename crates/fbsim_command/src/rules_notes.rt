@@ -1,6 +1,6 @@
 //! What is reported after the line of a call that holds rules against traces and fails: its location.
 
-ghost use Rattle.std.specs.Prelude.{ℕ, IfOk, IfSome, Some, option_map, string_bytes};
+ghost use Rattle.std.specs.Prelude.{◌≡◌, ◌⊎◌, ℕ, IfOk, IfSome, Some, option_map, string_bytes};
 ghost use Rattle.fb_types.specs.Headline.{Inputs};
 ghost use Rattle.fb_expect.specs.declared.location.RuleKey.{RuleKey};
 ghost use Rattle.fb_sim.specs.Serial.{Declares};
@@ -248,7 +248,7 @@ fn note_at(
 }
 
 /// The note to a call that has read these files and ends so, where one is asked for.
-pub(crate) fn note_to_rules(
+fn note_to_rules(
     alloc: Global,
     expect: &Expect<'_>,
     end: &Result<Done, Failure>,
@@ -265,5 +265,23 @@ pub(crate) fn note_to_rules(
         note_at(alloc, expect, number, bytes, declared)
     } else {
         None
+    }
+}
+
+/// The note to a call that has read these files and ends so: that of a trace whose file fails, if there is one, or that
+/// of the rules.
+pub(crate) fn note_to_held(
+    alloc: Global,
+    expect: &Expect<'_>,
+    end: &Result<Done, Failure>,
+    bytes: &[u8],
+    declared: &Option<Texts>,
+    trace: Option<String>,
+) -> Option<String>
+    ensures { NotesRules expect.now bytes.now (may_lines_of declared.now) (option_map given_of declared.now) end.now (option_map string_bytes result) ⊎ (option_map string_bytes result ≡ option_map string_bytes trace) }
+{
+    match trace {
+        Some(note) => Some(note),
+        None => note_to_rules(alloc, expect, end, bytes, declared),
     }
 }

@@ -2,12 +2,12 @@
 
 ghost use Rattle.std.specs.Prelude.{◌≡◌, ◌<◌, ◌++◌, ◌∷◌, [], ℕ, IfOk, IfErr, Ok, Err, None, OnOk, false, length, map, option_map};
 ghost use Rattle.clap.specs.Words.{Text};
-ghost use Rattle.fbsim_command.specs.Joining.{line_count, text_of};
+ghost use Rattle.fbsim_command.specs.Joining.{lines_of_files, text_of};
 ghost use Rattle.fbsim_command.specs.Reading.{AreRead, AreTextsRead, IsDeclarationRead, IsDeclarationUnread, IsTypeUnread, IsUnread, LacksText, MayRead, asked};
 ghost use Rattle.fbsim_command.specs.Texts.{contents_of, given_of, lines_of, may_be_cut, may_lines_of, texts_of};
 ghost use Rattle.fbsim_command.specs.declared.texts.Part.TheVariants.{BlockTypes, Declaration};
 
-use crate::join::{line_counts, text_of};
+use crate::join::{FileLines, lines_of_files, text_of};
 use crate::sources::{Source, SourceFault};
 use fb_sim::Inputs;
 use fb_wave::Cut;
@@ -24,8 +24,8 @@ const STIMULI_BYTES: usize = 16_777_217;
 pub struct Texts {
     /// The declaration, in one text.
     pub declaration: Vec<u8>,
-    /// How many lines each file of the declaration has, if it is in several files.
-    pub lines: Vec<usize>,
+    /// The lines of each file of the declaration, if it is in several files.
+    pub lines: Vec<FileLines>,
     pub deploy: Option<Vec<u8>>,
     pub stimuli: Option<Vec<u8>>,
 }
@@ -74,8 +74,8 @@ impl Texts {
     }
 }
 
-/// How many lines each file of a declaration has, if there is one and it is in several files.
-pub fn lines_in(declared: &Option<Texts>) -> &[usize]
+/// The lines of each file of a declaration, if there is one and it is in several files.
+pub fn lines_in(declared: &Option<Texts>) -> &[FileLines]
     ensures { result.now ≡ may_lines_of declared.now }
 {
     match declared {
@@ -157,8 +157,8 @@ fn read_named<S: Source>(
 #[derive(Drop)]
 struct Declared {
     text: Vec<u8>,
-    /// How many lines each file has, if there are several.
-    lines: Vec<usize>,
+    /// The lines of each file, if there are several.
+    lines: Vec<FileLines>,
 }
 
 /// Reads one file of a declaration, and adds its text to others.
@@ -233,9 +233,9 @@ fn read_all<S: Source>(
 /// The declaration in several texts.
 fn declared_in(alloc: Global, texts: &[Vec<u8>]) -> Result<Declared, AllocError>
     ensures text { IfOk result (λ d. d.text.items ≡ text_of (texts_of texts.now)) }
-    ensures lines { IfOk result (λ d. d.lines.items ≡ map line_count (texts_of texts.now)) }
+    ensures lines { IfOk result (λ d. d.lines.items ≡ lines_of_files (texts_of texts.now)) }
 {
-    let lines = line_counts(alloc, texts)?;
+    let lines = lines_of_files(alloc, texts)?;
     let text = text_of(alloc, texts)?;
     Ok(Declared { text, lines })
 }

@@ -1,16 +1,18 @@
 //! The lines of warnings, with their places.
 
-ghost use Rattle.std.specs.Prelude.{◌≡◌, ◌⊎◌, [], IfOk, option_map, string_bytes};
+ghost use Rattle.std.specs.Prelude.{◌≡◌, ◌⊎◌, [], IfNone, IfOk, IfSome, option_map, string_bytes};
 ghost use Rattle.fb_lint.specs.Positions.{position_of};
 ghost use Rattle.fb_types.specs.declared.library.Library.{Library};
 ghost use Rattle.fb_read_positions.specs.Places.{IsPlaceFor};
 ghost use Rattle.fbsim_command.specs.Selecting.{is_selected};
 ghost use Rattle.fbsim_command.specs.WarningLines as spec;
-ghost use Rattle.fbsim_command.specs.WarningLines.{AreSorted, IsAdded, IsLinkPlace, IsPlace, IsPlaceText, naming_of, place_text};
+ghost use Rattle.fbsim_command.specs.WarningLines.{AreSorted, IsAdded, IsLinkPlace, IsPlace, IsPlaceOfRow, IsPlaceText, IsRowPlace, IsRowPlaceFor, naming_of, place_text};
 
 use crate::call_names::Naming;
 use crate::join::{file_name, line_in_file};
+use crate::row_places::row_places;
 use crate::selectors::{Sorting, is_selected};
+use crate::shown::shown_name;
 use fb_inputs::{DeployPosition, TableLocation};
 use fb_lint::{Warning, line_of, positions_of};
 use fb_read_positions::{Place, places_of};
@@ -24,6 +26,7 @@ use std::alloc::{AllocError, Global};
 fn place_text(alloc: Global, name: &str, line: usize, column: usize) -> Result<String, AllocError>
     ensures { IfOk result (λ text. string_bytes text ≡ place_text name.now line column) }
 {
+    let name = shown_name(alloc, name)?;
     Ok(format!(in alloc; "{name}:{line}:{column}: ")?)
 }
 
@@ -38,7 +41,10 @@ fn place_in_files(
     match line_in_file(naming.lines, at.line) {
         Some(there) => {
             let name = file_name(naming.types, naming.own, there.file);
-            place_text(alloc, name, there.line, at.column)
+            let Some(column) = there.column(at.column) else {
+                return Err(AllocError);
+            };
+            place_text(alloc, name, there.line, column)
         }
         None => place_text(alloc, naming.own, at.line, at.column),
     }
@@ -63,19 +69,60 @@ fn place_of_link(
     }
 }
 
-/// The text of the place of a warning: of its location in the declaration, or for a link of its table in the deployment.
+/// The place of a row: that of its first field in the stimuli.
+fn place_of_row(
+    alloc: Global,
+    naming: &Naming<'_, '_, '_>,
+    stimuli: Option<&[u8]>,
+    row: usize,
+    at: Option<Place>,
+) -> Result<String, AllocError>
+    requires { IfSome at (IsPlaceOfRow (option_map (λ b. b.now) stimuli) row) }
+    ensures { IfOk result (λ text. IsRowPlace (naming_of naming.now) (option_map (λ b. b.now) stimuli.entry) row (string_bytes text) ⊎ (string_bytes text ≡ [])) }
+{
+    match (naming.stimuli, stimuli, at) {
+        (Some(name), Some(_), Some(at)) => place_text(alloc, name, at.line, at.column),
+        _ => Ok(String::new(alloc)),
+    }
+}
+
+/// Where a warning is: in the declaration, and in the stimuli.
+#[derive(Clone, Copy)]
+pub struct WarningPlace {
+    pub declared: Option<Place>,
+    pub row: Option<Place>,
+}
+
+/// The text of the place of a warning: of its location in the declaration, for a link of its table in the deployment, or
+/// of its row in the stimuli.
 fn place_of(
     alloc: Global,
     naming: &Naming<'_, '_, '_>,
     inputs: &Inputs<'_>,
     warning: &Warning,
+    at: WarningPlace,
+) -> Result<String, AllocError>
+    requires { IsRowPlaceFor inputs.now.stimuli warning.now at.row }
+    ensures { (library : Library) → IsPlaceFor inputs.now.declaration library (position_of warning.now) at.declared → IfOk result (λ text. IsPlace (naming_of naming.now) inputs.now library warning.now (string_bytes text)) }
+{
+    match warning {
+        Warning::UnusedLink { link } => place_of_link(alloc, naming, inputs.deploy, *link),
+        Warning::EarlyStimulus { stimulus } => {
+            place_of_row(alloc, naming, inputs.stimuli, *stimulus, at.row)
+        }
+        _ => place_of_declared(alloc, naming, at.declared),
+    }
+}
+
+/// The text of a place in the declaration, if there is one.
+fn place_of_declared(
+    alloc: Global,
+    naming: &Naming<'_, '_, '_>,
     at: Option<Place>,
 ) -> Result<String, AllocError>
-    ensures { (library : Library) → IsPlaceFor inputs.now.declaration library (position_of warning.now) at → IfOk result (λ text. IsPlace (naming_of naming.now) inputs.now library warning.now (string_bytes text)) }
+    ensures some { IfSome at (λ at. IfOk result (λ text. IsPlaceText (naming_of naming.now) at.line at.column (string_bytes text))) }
+    ensures none { IfNone at (IfOk result (λ text. string_bytes text ≡ [])) }
 {
-    if let Warning::UnusedLink { link } = warning {
-        return place_of_link(alloc, naming, inputs.deploy, *link);
-    }
     match at {
         Some(at) => place_in_files(alloc, naming, at),
         None => Ok(String::new(alloc)),
@@ -91,9 +138,10 @@ fn push_line(
     library: &Library,
     plan: &Plan,
     warning: &Warning,
-    at: Option<Place>,
+    at: WarningPlace,
 ) -> Result<(), AllocError>
-    requires { IsPlaceFor inputs.now.declaration library.now (position_of warning.now) at }
+    requires declared { IsPlaceFor inputs.now.declaration library.now (position_of warning.now) at.declared }
+    requires row { IsRowPlaceFor inputs.now.stimuli warning.now at.row }
     ensures { IfOk result (λ _. IsAdded (naming_of naming.now) inputs.now library.now warning.now text.old.items text.new.items) }
 {
     let place = place_of(alloc, naming, inputs, warning, at)?;
@@ -146,8 +194,8 @@ pub struct Reported {
     pub is_denied: bool,
 }
 
-/// The lines of the warnings that are not left out, with their places in the text of the declaration, which is read
-/// again for all of them.
+/// The lines of the warnings that are not left out, with their places in the texts of the declaration and of the
+/// stimuli, each of which is read again for all of them.
 pub(crate) fn all_lines(
     alloc: Global,
     naming: &Naming<'_, '_, '_>,
@@ -162,12 +210,17 @@ pub(crate) fn all_lines(
     let positions = positions_of(alloc, warnings)?;
     let places = places_of(alloc, inputs.declaration, library, positions.as_slice())?;
     let places = places.as_slice();
+    let rows = row_places(alloc, inputs.stimuli, warnings)?;
+    let rows = rows.as_slice();
     let mut lines = Vec::new(alloc);
     let mut has_denied = false;
     for index in 0..warnings.len() {
         let warning = &warnings[index];
-        let at = places[index];
-        if !is_left_out(naming, sorting, system, warning, at) {
+        let at = WarningPlace {
+            declared: places[index],
+            row: rows[index],
+        };
+        if !is_left_out(naming, sorting, system, warning, at.declared) {
             has_denied |= is_denied(sorting, system, warning);
             push_line(
                 alloc,

@@ -1,36 +1,14 @@
-use Rattle.fbsim_command.proofs.lemmas.Common.{refl, Memory}
-use Rattle.fbsim_command.specs.Comparing.{IsReported}
-use Rattle.fbsim_command.proofs.lemmas.calls.DifferenceCalls.{parted, reported-of, not_reported, unread, wrote}
+use Rattle.std.proofs.Common.{option_map, string_bytes}
+use Rattle.fbsim_command.proofs.lemmas.calls.DifferenceCalls.{noted_either, unread_by}
 use Rattle.fbsim_command.proofs.expect.compare.Goals as goal
 
-pub returns-in_err-found : goal.returns-in_err-found
-returns-in_err-found g c =
-    let first = g.R.Read.remaining c.args.first.now in
-    let second = g.T.Read.remaining c.args.second.now in
-    parted c.args.diff.now first second _ _ c.from_residual.result _ c.from_residual.ensures.1
-    (unread c.args.diff.now first second (g.W.Write.contents c.args.out.now) c.in_err-found.field-0.0)
+pub returns-in-Err-clause-done : goal.returns-in-Err-clause-done
+returns-in-Err-clause-done g c =
+    unread_by c.args.diff.now (g.R.Read.remaining c.args.first.now) (g.T.Read.remaining c.args.second.now) (g.W.Write.contents c.args.out.now) c.in-Err.fault c.from.result c.from.ensures
 
-pub returns-in_err-text : goal.returns-in_err-text
-returns-in_err-text g c =
-    parted c.args.diff.now (g.R.Read.remaining c.args.first.now) (g.T.Read.remaining c.args.second.now) _ _ c.from_residual-in_err-text.result Memory c.from_residual-in_err-text.ensures.1 refl
+pub returns-in-Err-clause-noted : goal.returns-in-Err-clause-noted
+returns-in-Err-clause-noted g c =
+    noted_either c.args.diff.now c.in-Err.fault c.from.result (option_map string_bytes c.note_of_part-note.result) c.from.ensures c.note_of_part-note.ensures
 
-pub returns-in_err-write_text : goal.returns-in_err-write_text
-returns-in_err-write_text g c =
-    let d = c.args.diff.now in
-    let first = g.R.Read.remaining c.args.first.now in
-    let second = g.T.Read.remaining c.args.second.now in
-    let reported : IsReported d first second c.in_ok-text.text.items =
-    reported-of d first second c.in_ok-found.found c.in-Some.difference c.in_ok-text.text.items c.in-Some.is c.in_ok-found.ensures c.in_ok-text.ensures
-    in
-    parted d first second _ _ c.from_residual-in_err-write_text.result _ c.from_residual-in_err-write_text.ensures.1
-    (not_reported d first second _ _ c.in_ok-text.text.items c.as_slice.result.now c.as_slice.ensures.value reported c.in_err-write_text.field-0.0 c.in_err-write_text.ensures.part)
-
-pub returns : goal.returns
-returns g c =
-    let d = c.args.diff.now in
-    let first = g.R.Read.remaining c.args.first.now in
-    let second = g.T.Read.remaining c.args.second.now in
-    let reported : IsReported d first second c.in_ok-text.text.items =
-    reported-of d first second c.in_ok-found.found c.in-Some.difference c.in_ok-text.text.items c.in-Some.is c.in_ok-found.ensures c.in_ok-text.ensures
-    in
-    wrote d first second _ _ c.in_ok-text.text.items c.as_slice.result.now c.as_slice.ensures.value reported c.in_ok-write_text.ensures.whole
+pub returns-clause-done : goal.returns-clause-done
+returns-clause-done g c = c.show_parted-end.ensures _ _ c.in-Ok.ensures

@@ -14,4 +14,4 @@ returns-in-Err-open g c =
 
 pub returns : goal.returns
 returns g c =
-    inl (record { between = c.open.new.self; first = _; second = _; first_opened = c.in-Ok.ensures; second_opened = c.in-Ok-open.ensures; done = c.compare-end.ensures }, c.note_of_either-note.ensures)
+    inl (record { between = c.open.new.self; first = _; second = _; first_opened = c.in-Ok.ensures; second_opened = c.in-Ok-open.ensures; done = c.compare.ensures.done }, c.compare.ensures.noted)

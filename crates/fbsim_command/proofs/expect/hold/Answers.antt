@@ -1,20 +1,23 @@
-use Rattle.fbsim_command.proofs.lemmas.Common.{inr, IsUnheld}
-use Rattle.fbsim_command.proofs.lemmas.rules.HeldRules.{held-one, passed-on, refused-at, unopened}
+use Rattle.fbsim_command.proofs.lemmas.Common.{inr, string_bytes, subst, sym, IsUnheld, Failure}
+use Rattle.fbsim_command.proofs.lemmas.rules.HeldRules.{held-one, open-noted, refused-at, unopened}
 use Rattle.fbsim_command.proofs.expect.hold.Goals as goal
 
-pub returns-in_err-trace-clause-unheld : goal.returns-in_err-trace-clause-unheld
-returns-in_err-trace-clause-unheld g c =
-    passed-on c.from_residual.result _ (IsUnheld g.S.Streams.opens c.args.source.now c.open.new.self c.args.name.now) c.from_residual.ensures.1
-    (unopened g.S.Streams.opens c.args.source.now c.open.new.self c.args.name.now c.in_err-trace.field-0.0 c.in_err-trace.ensures)
+pub returns-in-Err-clause-unheld : goal.returns-in-Err-clause-unheld
+returns-in-Err-clause-unheld g c =
+    subst (λ (f : Failure). IsUnheld g.S.Streams.opens c.args.source.now c.open.new.self c.args.name.now f) (sym c.from.ensures)
+    (unopened g.S.Streams.opens c.args.source.now c.open.new.self c.args.name.now c.in-Err.fault c.in-Err.ensures)
 
-pub returns-in-Ok-clause-held : goal.returns-in-Ok-clause-held
-returns-in-Ok-clause-held g c =
-    held-one g.S.Streams.opens c.args.expect.now c.args.rules.now c.args.source.now c.open.new.self c.args.name.now _ c.cut_of.result c.in-Ok.judged.items c.cut_of.ensures
-    c.in_ok-trace.ensures c.in-Ok.ensures.judged
+pub returns-in-Err-clause-noted : goal.returns-in-Err-clause-noted
+returns-in-Err-clause-noted g c = λ before. open-noted string_bytes c.args.expect.now c.args.name.now c.in-Err.fault c.note_of_open.result c.note_of_open.ensures
+
+pub returns-in-Ok-judge-clause-held : goal.returns-in-Ok-judge-clause-held
+returns-in-Ok-judge-clause-held g c =
+    held-one g.S.Streams.opens c.args.expect.now c.args.rules.now c.args.source.now c.open.new.self c.args.name.now _ c.cut_of.result c.in-Ok-judge.judged.items c.cut_of.ensures
+    c.in-Ok.ensures c.in-Ok-judge.ensures.judged
 
 pub returns-in-Err-Read-clause-unheld : goal.returns-in-Err-Read-clause-unheld
-returns-in-Err-Read-clause-unheld g c = inr (_, c.in_ok-trace.ensures)
+returns-in-Err-Read-clause-unheld g c = inr (_, c.in-Ok.ensures)
 
-pub returns-clause-unheld : goal.returns-clause-unheld
-returns-clause-unheld g c =
-    refused-at g.S.Streams.opens c.args.source.now c.open.new.self c.args.name.now c.in-Err-Refused.line _ c.refused_trace.result c.in_ok-trace.ensures c.refused_trace.ensures
+pub returns-in-Err-Refused-clause-unheld : goal.returns-in-Err-Refused-clause-unheld
+returns-in-Err-Refused-clause-unheld g c =
+    refused-at g.S.Streams.opens c.args.source.now c.open.new.self c.args.name.now c.in-Err-Refused.line _ c.refused_trace.result c.in-Ok.ensures c.refused_trace.ensures

@@ -5,8 +5,8 @@ use Rattle.fbsim_command.proofs.lemmas.rules.HeldRules.{held-passed, met, unheld
 use Rattle.fbsim_command.proofs.lemmas.rules.RuleNames.{held-none}
 use Rattle.fbsim_command.proofs.expect.hold_rules.Goals as goal
 
-pub returns-in_err-rules : goal.returns-in_err-rules
-returns-in_err-rules g c =
+pub returns-in_err-rules-clause-held : goal.returns-in_err-rules-clause-held
+returns-in_err-rules-clause-held g c =
     let x = c.args.expect.now in
     let opens = g.S.Streams.opens in
     let declared = option_map given_of c.args.declared.now in
@@ -14,8 +14,8 @@ returns-in_err-rules g c =
     held-passed opens x c.args.source.now c.args.source.now c.args.bytes.now declared old old c.from_residual.result _ c.from_residual.ensures.1
     (held-none opens x c.args.source.now c.args.bytes.now declared old _ c.in_err-rules.ensures.refused)
 
-pub returns-in_err-text : goal.returns-in_err-text
-returns-in_err-text g c =
+pub returns-in_err-text-clause-held : goal.returns-in_err-text-clause-held
+returns-in_err-text-clause-held g c =
     let x = c.args.expect.now in
     let opens = g.S.Streams.opens in
     let declared = option_map given_of c.args.declared.now in
@@ -25,8 +25,8 @@ returns-in_err-text g c =
     (unheld opens x c.args.bytes.now declared c.in_ok-rules.rules c.in_ok-rules.ensures.rules c.args.source.now new old c.in_err-text.field-0.0
     (subst (λ (rs : List Rule). AreUnheld opens x rs c.args.source.now new c.in_err-text.field-0.0) c.as_slice.ensures c.in_err-text.ensures.unheld))
 
-pub returns-in_err-write_text : goal.returns-in_err-write_text
-returns-in_err-write_text g c =
+pub returns-in_err-write_text-clause-held : goal.returns-in_err-write_text-clause-held
+returns-in_err-write_text-clause-held g c =
     let x = c.args.expect.now in
     let opens = g.S.Streams.opens in
     let declared = option_map given_of c.args.declared.now in
@@ -38,8 +38,8 @@ returns-in_err-write_text g c =
     (subst (λ (rs : List Rule). Reports opens x rs c.args.source.now new c.in_ok-text.is_well c.in_ok-text.text.items) c.as_slice.ensures c.in_ok-text.ensures.reported)
     c.in_err-write_text.field-0.0 c.in_err-write_text.ensures.part)
 
-pub returns-then-is_well : goal.returns-then-is_well
-returns-then-is_well g c =
+pub returns-then-is_well-clause-held : goal.returns-then-is_well-clause-held
+returns-then-is_well-clause-held g c =
     let x = c.args.expect.now in
     let opens = g.S.Streams.opens in
     let declared = option_map given_of c.args.declared.now in
@@ -50,8 +50,8 @@ returns-then-is_well g c =
     (subst (λ (rs : List Rule). Reports opens x rs c.args.source.now new c.in_ok-text.is_well c.in_ok-text.text.items) c.as_slice.ensures c.in_ok-text.ensures.reported)
     c.as_slice-2.ensures.value c.in_ok-write_text.ensures.whole
 
-pub returns : goal.returns
-returns g c =
+pub returns-clause-held : goal.returns-clause-held
+returns-clause-held g c =
     let x = c.args.expect.now in
     let opens = g.S.Streams.opens in
     let declared = option_map given_of c.args.declared.now in

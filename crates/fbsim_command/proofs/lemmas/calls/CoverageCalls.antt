@@ -18,6 +18,7 @@ use Rattle.fbsim_line.specs.declared.coverage_line.Coverage.{Coverage}
 use Rattle.fbsim_command.specs.declared.coverage.Gleaned.{Gleaned}
 use Rattle.fbsim_command.specs.declared.statuses.Done.{Done}
 use Rattle.fbsim_command.specs.declared.sources.SourceFault.TheVariants as source
+use Rattle.fbsim_command.specs.declared.join.FileLines.{FileLines}
 
 abbrev pub now : Bor Text → Text
 now t = t.now
@@ -266,7 +267,7 @@ module _ {S : Type 0} (opens : Opening S) (given : Given) (x : Coverage) where
 
 -- a note of a check, or of a line
 pub noted-trace :
-    (types : List Text) (x : Coverage) (lines : List ℕ) (given : Given) (end : End) (note line : Option Text) → NotesTrace x line
+    (types : List Text) (x : Coverage) (lines : List FileLines) (given : Given) (end : End) (note line : Option Text) → NotesTrace x line
     → NotesOf types (files_of x) lines given end note ⊎ (note ≡ line) → NotesOf types (files_of x) lines given end note ⊎ NotesTrace x note
 noted-trace types x lines given end note line of_line (inl noted) = inl noted
 noted-trace types x lines given end note line of_line (inr same) = inr (subst (NotesTrace x) (sym same) of_line)

@@ -1,14 +1,15 @@
 -- Two traces that are compared.
-use Rattle.fbsim_command.proofs.lemmas.Common.{◌≡◌, Option, Some, Ok, Err, refl, sym, ap, subst, inr, Appends, IsErrAnd, WritesPart, failure_of_source, End, Held, Opening, Failure, Refused, RefusedTrace, File, Write, Memory, Line, BadOption, SourceFault}
+use Rattle.fbsim_command.proofs.lemmas.Common.{◌≡◌, Option, Some, None, Ok, Err, refl, sym, ap, subst, inr, codes, option_map, IsTrue, IfSome, Appends, IsErrAnd, WritesPart, failure_of_source, End, Held, Opening, Failure, Refused, RefusedTrace, File, Write, Memory, Line, BadOption, SourceFault}
 use Rattle.clap.specs.Words.{Text}
 use Rattle.fb_expect.specs.Parting.{MayPart}
 use Rattle.fb_expect.specs.DifferenceReport.{ShowsDifference}
-use Rattle.fb_expect.specs.declared.lines.ReadFault.{ReadFault}
-use Rattle.fb_expect.specs.declared.lines.ReadFault.TheVariants as line_fault
 use Rattle.fb_expect.specs.declared.parting.Difference.{Difference}
+use Rattle.fb_expect.specs.declared.parting.PartFault.{PartFault}
+use Rattle.fb_expect.specs.declared.parting.PartFault.TheVariants as part_fault
 use Rattle.fbsim_command.specs.declared.statuses.Done.TheVariants.{Different}
-use Rattle.fbsim_command.specs.Comparing.{AreUnopened, Compares, Differs, IsReported}
-use Rattle.fbsim_command.specs.Failures.{failure_of_trace}
+use Rattle.fbsim_command.specs.Comparing.{AreUnopened, Compares, Differs, IsReported, NotesEither, NotesUnread}
+use Rattle.fbsim_command.specs.Failures.{failure_of_part}
+use Rattle.fbsim_command.specs.Notes.{rest_note}
 use Rattle.fbsim_line.specs.declared.bench_line.Diff.{Diff}
 
 -- a failure that is passed on
@@ -17,9 +18,26 @@ parted d first second a b (Ok x) f bad is = absurd bad
 parted d first second a b (Err g) f same is = subst (λ (h : Failure). Differs d first second a b (Err h)) (sym same) is
 
 -- a reader that fails writes nothing
-pub unread : (d : Diff) (first second old : Held) (fault : ReadFault) → Differs d first second old old (Err (failure_of_trace fault))
-unread d first second old line_fault.Memory = refl
-unread d first second old line_fault.Read = refl
+unread : (d : Diff) (first second old : Held) (fault : PartFault) → Differs d first second old old (Err (failure_of_part fault))
+unread d first second old part_fault.Memory = refl
+unread d first second old part_fault.First = refl
+unread d first second old part_fault.Second = refl
+
+pub unread_by : (d : Diff) (first second old : Held) (fault : PartFault) (f : Failure) → f ≡ failure_of_part fault → Differs d first second old old (Err f)
+unread_by d first second old fault f same = subst (λ (g : Failure). Differs d first second old old (Err g)) (sym same) (unread d first second old fault)
+
+-- the note to it
+pub noted_either : (d : Diff) (fault : PartFault) (f : Failure) (note : Option Text) → f ≡ failure_of_part fault → NotesUnread d fault note → NotesEither d (Err f) note
+noted_either d fault f None same noted = tt
+noted_either d fault f (Some note) same noted = (fault, ap (λ (g : Failure). Err g) same, noted)
+
+pub noted_first : {X : Type 0} (bytes : X → Text) (d : Diff) (o : Option X) → IsTrue d.why → IfSome o (λ n. bytes n ≡ rest_note (codes "trace") d.first.now) → NotesUnread d part_fault.First (option_map bytes o)
+noted_first bytes d None asked is = tt
+noted_first bytes d (Some note) asked is = (asked, is)
+
+pub noted_second : {X : Type 0} (bytes : X → Text) (d : Diff) (o : Option X) → IsTrue d.why → IfSome o (λ n. bytes n ≡ rest_note (codes "trace") d.second.now) → NotesUnread d part_fault.Second (option_map bytes o)
+noted_second bytes d None asked is = tt
+noted_second bytes d (Some note) asked is = (asked, is)
 
 -- what is reported of two lines
 pub reported-of :

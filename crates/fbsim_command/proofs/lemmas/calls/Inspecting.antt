@@ -20,6 +20,7 @@ use Rattle.fbsim_command.specs.Inspecting.{Inspects, ShowsInsides, files_of, sel
 use Rattle.fbsim_command.specs.Notes.{IsFileNote, NotesRest}
 use Rattle.fbsim_line.specs.declared.inspect_line.Inspect.{Inspect}
 use Rattle.fbsim_command.proofs.lemmas.notes.NotedLines.{noted_so}
+use Rattle.fbsim_command.specs.declared.join.FileLines.{FileLines}
 
 -- whatever the call answers
 pub on_err_any : {A E : Type 0} (r : Result A E) (P : Type 0) → P → OnErr r P
@@ -117,7 +118,7 @@ none_noted_inside {U = U} bytes why gone end u (Some n) is noted =
 
 -- the trace is opened, and it is inspected
 pub read_and_inspected :
-    {S : Type 0} (reads : Reading S) (opens : Opening S) (from between to : S) (types : List Text) (x : Inspect) (old new : Held) (lines : List ℕ) (given : Given) (task : Task)
+    {S : Type 0} (reads : Reading S) (opens : Opening S) (from between to : S) (types : List Text) (x : Inspect) (old new : Held) (lines : List FileLines) (given : Given) (task : Task)
     (trace : Held) (own : Given) (inner end : End) (note : Option Text) → task ≡ files_of x → own ≡ given → AreRead reads types task from between lines given
     → opens between x.trace.now (Ok trace) to → Inspects own x trace old new inner → (line first : Option Text) → NotesInside x.why inner first
     → (line ≡ first) ⊎ NotesRest x.why x.trace.now inner line → NotesOf types task lines given inner note ⊎ (note ≡ line) → EndsIn types x.declaration.now lines inner end
@@ -159,7 +160,7 @@ not_read reads opens from to types x same task part fault failed note as_task is
 
 -- the trace is not opened
 pub not_opened :
-    {S : Type 0} (reads : Reading S) (opens : Opening S) (from between to : S) (types : List Text) (x : Inspect) (same : Held) (lines : List ℕ) (given : Given) (task : Task) (fault : SourceFault)
+    {S : Type 0} (reads : Reading S) (opens : Opening S) (from between to : S) (types : List Text) (x : Inspect) (same : Held) (lines : List FileLines) (given : Given) (task : Task) (fault : SourceFault)
     (failed : Failure) (note : Option Text) → task ≡ files_of x → failed ≡ failure_of_source fault → AreRead reads types task from between lines given
     → opens between x.trace.now (Err fault) to → Notes x.why (IsOpenNote x.trace.now fault) note → ShowsInsides reads opens from to types x same same (Err failed) note
 not_opened reads opens from between to types x same lines given task fault failed note as_task is was_read unread noted =

@@ -17,6 +17,7 @@ use Rattle.fbsim_command.specs.Failures.{failure_of_wave}
 use Rattle.fbsim_command.specs.Notes.{IsFileNote, NotesRest}
 use Rattle.fbsim_command.specs.Showing.{Dumps, DumpsAs, IsTraceFileNote, NotesAs, Shows, cut_of, files_of}
 use Rattle.fbsim_command.proofs.lemmas.notes.NotedLines.{noted_so}
+use Rattle.fbsim_command.specs.declared.join.FileLines.{FileLines}
 
 -- nothing is written where the inputs are refused
 pub dumps_none : (may : Cut) (given : Given) (trace old : Held) (error : RunError) → IsRefusal given error → Dumps may given trace old old (Err (failure_of error))
@@ -66,7 +67,7 @@ dumps_front may given trace old new i is wave.Names fails blames = inr (i, is, f
 
 -- the trace is opened, and its dump is written
 pub read_and_shown :
-    {S : Type 0} (reads : Reading S) (opens : Opening S) (from between to : S) (types : List Text) (w : Wave) (old new : Held) (lines : List ℕ) (given : Given) (task : Task) (may : Cut)
+    {S : Type 0} (reads : Reading S) (opens : Opening S) (from between to : S) (types : List Text) (w : Wave) (old new : Held) (lines : List FileLines) (given : Given) (task : Task) (may : Cut)
     (trace : Held) (x : Given) (inner end : End) (note : Option Text) → task ≡ files_of w → may ≡ cut_of w → x ≡ given → AreRead reads types task from between lines given
     → opens between w.trace.now (Ok trace) to → DumpsAs w.has_states w.steps may x trace old new inner → (line first : Option Text) → NotesAs w.has_states w.why x trace inner first
     → (line ≡ first) ⊎ NotesRest w.why w.trace.now inner line → NotesOf types task lines given inner note ⊎ (note ≡ line) → EndsIn types w.declaration.now lines inner end
@@ -108,7 +109,7 @@ unread_for reads opens from to types w same task part fault failed note as_task 
 
 -- the trace is not opened
 pub unopened :
-    {S : Type 0} (reads : Reading S) (opens : Opening S) (from between to : S) (types : List Text) (w : Wave) (same : Held) (lines : List ℕ) (given : Given) (task : Task) (fault : SourceFault)
+    {S : Type 0} (reads : Reading S) (opens : Opening S) (from between to : S) (types : List Text) (w : Wave) (same : Held) (lines : List FileLines) (given : Given) (task : Task) (fault : SourceFault)
     (failed : Failure) (note : Option Text) → task ≡ files_of w → failed ≡ failure_of_source fault → AreRead reads types task from between lines given
     → opens between w.trace.now (Err fault) to → Notes w.why (IsTraceFileNote w fault) note → Shows reads opens from to types w same same (Err failed) note
 unopened reads opens from between to types w same lines given task fault failed note as_task is was_read unread noted =

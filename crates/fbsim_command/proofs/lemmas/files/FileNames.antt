@@ -1,11 +1,12 @@
 -- Refusals and notes that name a file of a declaration and the line in it.
-use Rattle.fbsim_command.proofs.lemmas.Common.{◌≡◌, ◌<◌, ℕ, zero, suc, Bor, List, [], ◌∷◌, length, get_or, map, arith, Option, Some, None, String, Err, refl, sym, ap, ◌∙◌, subst, inl, inr, string_bytes, IfSome, End, Failure, Refused, RefusedTrace, File, Write, Memory, Line, BadOption}
+use Rattle.fbsim_command.proofs.lemmas.Common.{◌≡◌, ◌+◌, ◌<◌, ℕ, zero, suc, Bor, List, [], ◌∷◌, length, get_or, map, arith, Option, Some, None, String, Err, refl, sym, ap, ◌∙◌, subst, inl, inr, string_bytes, IfSome, End, Failure, Refused, RefusedTrace, File, Write, Memory, Line, BadOption}
 use Rattle.clap.specs.Words.{Text}
-use Rattle.fbsim_command.specs.Joining.{IsLineOf, name_at}
+use Rattle.fbsim_command.specs.Joining.{IsLineOf, counts, mark_at, name_at}
 use Rattle.fbsim_command.specs.OwnLines.{EndsBy, IsInNone, IsPlaced, IsPlacedText, IsSyntaxIn, IsSyntaxText, placed_text, syntax_in}
+use Rattle.fbsim_command.specs.declared.join.FileLines.{FileLines}
 
-module _ (types : List Text) (own : Text) (lines : List ℕ) where
-  pub syntax-of : (whole file line : ℕ) (name : Text) (f : Failure) → IsLineOf lines whole file line → name ≡ name_at types own file → IsSyntaxText name line f → IsSyntaxIn types own lines whole f
+module _ (types : List Text) (own : Text) (lines : List FileLines) where
+  pub syntax-of : (whole file line : ℕ) (name : Text) (f : Failure) → IsLineOf (counts lines) whole file line → name ≡ name_at types own file → IsSyntaxText name line f → IsSyntaxIn types own lines whole f
   syntax-of whole file line name (RefusedTrace text) at same reported = (file, line, at, reported ∙ ap (λ (n : Text). syntax_in n line) same)
   syntax-of whole file line name Memory at same reported = (file, line, at)
   syntax-of whole file line name (Refused refusal) at same reported = absurd reported
@@ -21,11 +22,11 @@ module _ (types : List Text) (own : Text) (lines : List ℕ) where
   ends-as o inner is = subst (λ (k : Option ℕ). EndsBy types own lines k inner inner) (sym is) refl
 
   pub placed-in :
-      {A : Type 0} (whole column file line : ℕ) (name : Text) (note : Option (String A)) → IsLineOf lines whole file line → name ≡ name_at types own file
-      → IfSome note (λ n. IsPlacedText name line column (string_bytes n)) → IfSome note (λ n. IsPlaced types own lines whole column (string_bytes n))
-  placed-in whole column file line name None there same is = tt
-  placed-in whole column file line name (Some note) there same is =
-      inl (file, line, there, (is.0, is.1 ∙ ap (λ (n : Text). placed_text n line column is.0) same))
+      {A : Type 0} (whole column there file line : ℕ) (name : Text) (note : Option (String A)) → IsLineOf (counts lines) whole file line → name ≡ name_at types own file
+      → there ≡ column + mark_at lines file line → IfSome note (λ n. IsPlacedText name line there (string_bytes n)) → IfSome note (λ n. IsPlaced types own lines whole column (string_bytes n))
+  placed-in whole column there file line name None at same moved is = tt
+  placed-in whole column there file line name (Some note) at same moved is =
+      inl (file, line, at, (is.0, is.1 ∙ ap (λ (n : Text). placed_text n line there is.0) same ∙ ap (λ (k : ℕ). placed_text (name_at types own file) line k is.0) moved))
 
   pub placed-alone :
       {A : Type 0} (whole column : ℕ) (note : Option (String A)) → IsInNone lines whole → IfSome note (λ n. IsPlacedText own whole column (string_bytes n))

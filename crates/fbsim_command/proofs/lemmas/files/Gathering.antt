@@ -2,12 +2,13 @@
 use Rattle.fbsim_command.proofs.lemmas.Common.{◌≡◌, ℕ, ◌+◌, ◌<◌, ◌≤◌, Bor, List, [], ◌∷◌, ◌++◌, length, get_or, map, take, drop, Result, Ok, Err, refl, sym, ap, ◌∙◌, subst, inr, arith, Vec, IfErr, IfOk, drop_more, length-map, map-append, take-append-drop, take_all, take_more, Reading, SourceFault, texts_of, Part}
 use Rattle.fb_types.proofs.Common.{length-take-le}
 use Rattle.clap.specs.Words.{Text}
-use Rattle.fbsim_command.specs.Joining.{line_count, text_of}
+use Rattle.fbsim_command.specs.Joining.{lines_of_files, text_of}
 use Rattle.fbsim_command.specs.Reading.{AreTextsRead, IsDeclarationRead, IsDeclarationUnread, IsNextUnread, IsOwnUnread, IsTypeUnread, LacksText, asked}
 use Rattle.fbsim_command.specs.declared.sources.SourceFault.TheVariants as source
 use Rattle.fbsim_command.specs.declared.texts.Declared.{Declared}
 use Rattle.fbsim_command.specs.declared.texts.Part.TheVariants.{BlockTypes, Declaration}
 use Rattle.fbsim_command.specs.declared.texts.Unread.{Unread}
+use Rattle.fbsim_command.specs.declared.join.FileLines.{FileLines}
 
 abbrev now : Bor Text → Text
 now t = t.now
@@ -67,8 +68,8 @@ module _ {S : Type 0} (reads : Reading S) where
 
   -- of several files
   pub joined-read :
-      (types : List (Bor Text)) (own : Text) (old new : S) (texts : List Text) (lines : List ℕ) (text : Text) → 0 < length types → AreTextsRead reads (map now types ++ own ∷ []) old new texts
-      → text ≡ text_of texts → lines ≡ map line_count texts → IsDeclarationRead reads (map now types) own old new lines text
+      (types : List (Bor Text)) (own : Text) (old new : S) (texts : List Text) (lines : List FileLines) (text : Text) → 0 < length types → AreTextsRead reads (map now types ++ own ∷ []) old new texts
+      → text ≡ text_of texts → lines ≡ lines_of_files texts → IsDeclarationRead reads (map now types) own old new lines text
   joined-read [] own old new texts lines text some are is counted = absurd (omega arith)
   joined-read (t ∷ ts) own old new texts lines text some are is counted = record { texts = texts; read = are; joined = is; counted = counted }
 
@@ -104,8 +105,3 @@ module _ {S : Type 0} (reads : Reading S) where
       → AreTextsRead reads (names ++ name ∷ []) old new more
   one-more-is names name old mid new texts more t are one is =
       subst (λ (us : List Text). AreTextsRead reads (names ++ name ∷ []) old new us) (sym is) (one-more names name old mid new texts t are one)
-
--- the lines of texts
-pub counts-of : (ts : List (Vec ℕ)) → map (λ (t : Vec ℕ). line_count t.items) ts ≡ map line_count (texts_of ts)
-counts-of [] = refl
-counts-of (t ∷ ts) = ap (λ (ns : List ℕ). line_count t.items ∷ ns) (counts-of ts)

@@ -10,6 +10,7 @@ use Rattle.fb_stop.specs.declared.found.FoundStop.{FoundStop}
 use Rattle.fb_stop.specs.declared.shown.Shown.{Shown}
 use Rattle.fb_read_positions.specs.Places.{IsPlaceAt, IsPlace, IsStretch}
 use Rattle.fbsim_command.specs.Stops.{IsNoteAtStop, IsNoteOfRun, IsNoteOfStop, IsStopPlace}
+use Rattle.fbsim_command.specs.declared.join.FileLines.{FileLines}
 
 -- one report after another, of which all was taken
 pub hears_after : (old mid new : Held) (first report : List ℕ) (heard : Bool) → Hears true old mid first → Hears heard mid new report → Hears heard old new (first ++ report)
@@ -51,14 +52,18 @@ operated text i stop x (Some at) is located there = inl (record { shown = x; is 
 
 -- the note with a place, if there is one, as that of a stop
 pub noted_at :
-    {A : Type 0} (types : List (List ℕ)) (own lines : List ℕ) (given : Given) (i : Inputs) (stop : FoundStop) (at : Option Place) (words : List ℕ) (o : Option (String A))
+    {A : Type 0} (types : List (List ℕ)) (own : List ℕ) (lines : List FileLines) (given : Given) (i : Inputs) (stop : FoundStop) (at : Option Place) (words : List ℕ) (o : Option (String A))
     → IfSome o (λ note. IsNoteAtStop types own lines at words (string_bytes note)) → IsStopPlace given.declaration i stop at → IfSome o (λ note. IsNoteOfStop types own lines given i stop (string_bytes note))
 noted_at types own lines given i stop at words None noted place = tt
 noted_at types own lines given i stop at words (Some note) noted place = (at, words, place, noted)
 
 -- the note of a stop, as that of the run that stops there
 pub noted_run :
-    {A : Type 0} (types : List (List ℕ)) (own lines : List ℕ) (given : Given) (i : Inputs) (horizon steps : ℕ) (stop : FoundStop) (o : Option (String A)) → IsStop i horizon steps stop
+    {A : Type 0} (types : List (List ℕ)) (own : List ℕ) (lines : List FileLines) (given : Given) (i : Inputs) (horizon steps : ℕ) (stop : FoundStop) (o : Option (String A)) → IsStop i horizon steps stop
     → IfSome o (λ note. IsNoteOfStop types own lines given i stop (string_bytes note)) → IfSome o (λ note. IsNoteOfRun types own lines given i horizon steps (string_bytes note))
 noted_run types own lines given i horizon steps stop None is h = tt
 noted_run types own lines given i horizon steps stop (Some note) is h = (stop, is, h)
+
+-- nothing more is reported
+pub nothing_more : (is_heard now : Bool) (err : Held) → is_heard ≡ now → (old : Held) (first : List ℕ) → Hears is_heard old err first → Hears now old err (first ++ [])
+nothing_more is_heard now err is old first h = hears_no_more old err first now (subst (λ (b : Bool). Hears b old err first) is h)

@@ -13,9 +13,10 @@ use Rattle.fb_why.specs.Listings.{AreFound}
 use Rattle.fb_why.specs.declared.listing.Findings.{Findings}
 use Rattle.fb_why.specs.declared.place.PlacedFinding.{PlacedFinding}
 use Rattle.fb_why.specs.Places.{IsPlacedFinding}
+use Rattle.fbsim_command.specs.declared.join.FileLines.{FileLines}
 
 pub noted :
-    {T : Type 0} (show : T → List ℕ) (types : List (List ℕ)) (own : List ℕ) (names : FileNames) (lines : List ℕ) (given : Given) (why : Bool) (failure : Failure) (n : ℕ) (note : Option T) → why ≡ true
+    {T : Type 0} (show : T → List ℕ) (types : List (List ℕ)) (own : List ℕ) (names : FileNames) (lines : List FileLines) (given : Given) (why : Bool) (failure : Failure) (n : ℕ) (note : Option T) → why ≡ true
     → number_of failure ≡ Some n → IfSome note (λ t. IsNoteOfNumber types own names lines given n (show t)) → Notes why (IsNote types own names lines given failure) (option_map show note)
 noted show types own names lines given why failure n None asked is holds = tt
 noted show types own names lines given why failure n (Some t) asked is holds = (asked, (n, is, holds))
@@ -36,7 +37,7 @@ and_false false = refl
 
 -- one note more
 notes_push :
-    (types : List (List ℕ)) (own : List ℕ) (names : FileNames) (lines : List ℕ) (given : Given) (first : Bool) (fs : List PlacedFinding) (f : PlacedFinding) (text note : List ℕ) → AreNotesFrom types own names lines given first fs text
+    (types : List (List ℕ)) (own : List ℕ) (names : FileNames) (lines : List FileLines) (given : Given) (first : Bool) (fs : List PlacedFinding) (f : PlacedFinding) (text note : List ℕ) → AreNotesFrom types own names lines given first fs text
     → IsNoteIn types own names lines given f note → AreNotesFrom types own names lines given first (fs ++ f ∷ []) (text ++ on_line (first && is_nil fs) note)
 notes_push types own names lines given first [] f text note none is = (
   note,
@@ -64,7 +65,7 @@ first_is (f ∷ fs) zero within = refl
 first_is (f ∷ fs) (suc i) within = not_first i
 
 pub notes_more :
-    (types : List (List ℕ)) (own : List ℕ) (names : FileNames) (lines : List ℕ) (given : Given) (fs : List PlacedFinding) (i : ℕ) (f : PlacedFinding) (first : Bool) (text note all : List ℕ) → i < length fs → f ≡ get_or fs i f
+    (types : List (List ℕ)) (own : List ℕ) (names : FileNames) (lines : List FileLines) (given : Given) (fs : List PlacedFinding) (i : ℕ) (f : PlacedFinding) (first : Bool) (text note all : List ℕ) → i < length fs → f ≡ get_or fs i f
     → first ≡ nat_eq i 0 → AreNotesOf types own names lines given (take i fs) text → IsNoteIn types own names lines given f note → all ≡ text ++ on_line first note
     → AreNotesOf types own names lines given (take (i + 1) fs) all
 notes_more types own names lines given fs i f first text note all within is at before shown made =
@@ -75,7 +76,7 @@ notes_more types own names lines given fs i f first text note all within is at b
 
 -- the note of findings of a number
 pub noted-in :
-    {A : Type 0} (types : List (List ℕ)) (own : List ℕ) (names : FileNames) (lines : List ℕ) (given : Given) (n : ℕ) (f : Findings) (note : Option (String A))
+    {A : Type 0} (types : List (List ℕ)) (own : List ℕ) (names : FileNames) (lines : List FileLines) (given : Given) (n : ℕ) (f : Findings) (note : Option (String A))
     → All (IsPlacedFinding given.declaration) f.shown.items → AreFound given.declaration given.deploy given.stimuli n f
     → IfSome note (λ t. IsNoteOfFindings types own names lines given f (string_bytes t)) → IfSome note (λ t. IsNoteOfNumber types own names lines given n (string_bytes t))
 noted-in types own names lines given n f None placed found is = tt
@@ -83,7 +84,7 @@ noted-in types own names lines given n f (Some t) placed found is = (f, is, plac
 
 -- of a place
 pub noted-by :
-    {A : Type 0} (types : List (List ℕ)) (own : List ℕ) (names : FileNames) (lines : List ℕ) (given : Given) (location : FindingLocation) (text : List ℕ) (place other : Option Place) (note : Option (String A)) → place ≡ other
+    {A : Type 0} (types : List (List ℕ)) (own : List ℕ) (names : FileNames) (lines : List FileLines) (given : Given) (location : FindingLocation) (text : List ℕ) (place other : Option Place) (note : Option (String A)) → place ≡ other
     → IfSome note (λ t. IsNoteBy types own names lines given location other text (string_bytes t)) → IfSome note (λ t. IsNoteBy types own names lines given location place text (string_bytes t))
 noted-by {A} types own names lines given location text place other note same is =
     subst (λ (o : Option Place). IfSome note (λ t. IsNoteBy types own names lines given location o text (string_bytes t))) (sym same) is
@@ -116,7 +117,7 @@ place-at given (g ∷ fs) (p ∷ os) (suc i) f d all within is = place-at given 
 
 -- the note to rules that are refused with this number
 pub rules-noted :
-    {S : Type 0} (bytes : S → List ℕ) (x : Expect) (text : List ℕ) (lines : List ℕ) (declared : Option Given) (end : End) (failure : Failure) (number : ℕ) (note : Option S)
+    {S : Type 0} (bytes : S → List ℕ) (x : Expect) (text : List ℕ) (lines : List FileLines) (declared : Option Given) (end : End) (failure : Failure) (number : ℕ) (note : Option S)
     → end ≡ Err failure → number_of failure ≡ Some number → x.why ≡ true → IfSome note (λ n. IsNoteAt x text lines declared number (bytes n))
     → NotesRules x text lines declared end (option_map bytes note)
 rules-noted {S} bytes x text lines declared end failure number None is same asked noted = subst (λ (e : End). NotesRules x text lines declared e None) (sym is) tt

@@ -1,7 +1,8 @@
 -- The declaration in which the names of rules must be, where one is named.
-use Rattle.fbsim_command.proofs.lemmas.Common.{◌≡◌, ℕ, Bor, List, [], map, Option, Some, None, Ok, Err, refl, sym, ap, subst, inl, inr, Given, Holds, types_of, failure_of_source, End, Held, EndsIn, Reading, AreRead, IsUnread, Opening, Expect, Failure, Task, SourceFault, Part}
+use Rattle.fbsim_command.proofs.lemmas.Common.{◌≡◌, ◌⊎◌, ℕ, Bor, List, [], map, Option, Some, None, Ok, Err, refl, sym, ap, subst, inl, inr, Given, Holds, types_of, failure_of_source, End, Held, EndsIn, Reading, AreRead, IsUnread, Opening, Expect, Failure, Task, SourceFault, Part}
 use Rattle.clap.specs.Words.{Text}
-use Rattle.fbsim_command.specs.Expecting.{AreUnread, Expects, IsUndeclared, MayDeclare, NotesRules, asked_rules, files_of, own_of}
+use Rattle.fbsim_command.specs.Expecting.{AreUnread, Expects, IsUndeclared, MayDeclare, NotesRules, NotesTrace, asked_rules, files_of, own_of}
+use Rattle.fbsim_command.specs.declared.join.FileLines.{FileLines}
 
 pub declares-none : {S : Type 0} (reads : Reading S) (x : Expect) (o : Option (Bor Text)) (s : S) → o ≡ None → MayDeclare reads x o s s [] None
 declares-none reads x o s none = subst (λ (o : Option (Bor Text)). MayDeclare reads x o s s [] None) (sym none) (refl, refl)
@@ -11,7 +12,7 @@ abbrev names : List (Bor Text) → List Text
 names ns = map (λ (n : Bor Text). n.now) ns
 
 pub declares :
-    {S : Type 0} (reads : Reading S) (x : Expect) (o : Option (Bor Text)) (name : Bor Text) (old new : S) (lines : List ℕ) (given : Given) (types : List (Bor Text)) (task : Task) → o ≡ Some name
+    {S : Type 0} (reads : Reading S) (x : Expect) (o : Option (Bor Text)) (name : Bor Text) (old new : S) (lines : List FileLines) (given : Given) (types : List (Bor Text)) (task : Task) → o ≡ Some name
     → types ≡ x.types.items → task ≡ files_of x name → AreRead reads (names types) task old new lines given → MayDeclare reads x o old new lines (Some given)
 declares reads x o name old new lines given types task is typed same read =
     subst (λ (o : Option (Bor Text)). MayDeclare reads x o old new lines (Some given)) (sym is)
@@ -26,6 +27,13 @@ undeclared reads x o name old new part fault types task is typed same unread =
 
 -- ---- The call
 
+-- the note is that to the rules, or to a trace
+pub noted-held :
+    (x : Expect) (lines : List FileLines) (declared : Option Given) (inner : End) (bytes read : Text) (note trace : Option Text) → read ≡ bytes
+    → NotesRules x read lines declared inner note ⊎ (note ≡ trace) → NotesTrace x trace → NotesRules x bytes lines declared inner note ⊎ NotesTrace x note
+noted-held x lines declared inner bytes read note trace same (inl noted) said = inl (subst (λ (b : Text). NotesRules x b lines declared inner note) same noted)
+noted-held x lines declared inner bytes read note trace same (inr is) said = inr (subst (NotesTrace x) (sym is) said)
+
 module _ {S : Type 0} (reads : Reading S) (opens : Opening S) (x : Expect) (a : Held) where
   -- a file is not read
   pub unread :
@@ -34,8 +42,8 @@ module _ {S : Type 0} (reads : Reading S) (opens : Opening S) (x : Expect) (a : 
 
   -- all are
   pub read-and-held :
-      (old mid between new : S) (b : Held) (bytes : Text) (lines : List ℕ) (declared : Option Given) (inner end : End) (note : Option Text) → reads old x.rules.now asked_rules (Ok bytes) mid
-      → MayDeclare reads x x.declaration mid between lines declared → Holds opens x between new bytes declared a b inner → NotesRules x bytes lines declared inner note
+      (old mid between new : S) (b : Held) (bytes : Text) (lines : List FileLines) (declared : Option Given) (inner end : End) (note : Option Text) → reads old x.rules.now asked_rules (Ok bytes) mid
+      → MayDeclare reads x x.declaration mid between lines declared → Holds opens x between new bytes declared a b inner → NotesRules x bytes lines declared inner note ⊎ NotesTrace x note
       → EndsIn (types_of x) (own_of x.declaration) lines inner end → Expects reads opens old new x a b end note
   read-and-held old mid between new b bytes lines declared inner end note rules declaration done noted ends =
       inl (record {

@@ -1,10 +1,6 @@
-use Rattle.fbsim_command.proofs.lemmas.Common.{◌≡◌, ◌++◌, ◌∙◌, [], Bool, List, ℕ, false, true, inl, inr, refl, string_bytes, subst, Hears, Held}
-use Rattle.fbsim_command.proofs.lemmas.notes.Located.{hears_after, hears_no_more}
+use Rattle.fbsim_command.proofs.lemmas.Common.{◌∙◌, [], Bool, List, ℕ, false, true, inl, inr, refl, string_bytes, subst, Hears, Held}
+use Rattle.fbsim_command.proofs.lemmas.notes.Located.{hears_after, nothing_more}
 use Rattle.fbsim_command.proofs.located_stop.report_stop_after.Goals as goal
-
--- nothing more is reported
-nothing_more : (is_heard now : Bool) (err : Held) → is_heard ≡ now → (old : Held) (first : List ℕ) → Hears is_heard old err first → Hears now old err (first ++ [])
-nothing_more is_heard now err is old first h = hears_no_more old err first now (subst (λ (b : Bool). Hears b old err first) is h)
 
 pub returns-then-not-is_heard : goal.returns-then-not-is_heard
 returns-then-not-is_heard g c = ([], inl refl, nothing_more c.args.is_heard false (g.E.Write.contents c.args.err.now) c.if-not-is_heard.true)

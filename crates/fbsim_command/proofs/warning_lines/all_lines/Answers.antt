@@ -1,8 +1,9 @@
-use Rattle.fbsim_command.proofs.lemmas.Common.{ℕ, ◌<◌, ◌∙◌, ◌||◌, Bool, List, ap, map, subst, sym, AllZip, Library, Given, naming_of}
+use Rattle.fbsim_command.proofs.lemmas.Common.{ℕ, ◌<◌, ◌∙◌, ◌||◌, Bool, List, Option, ap, map, subst, sym, AllZip, Library, Given, naming_of}
 use Rattle.fb_lint.specs.Positions.{position_of}
 use Rattle.fb_read_positions.specs.Places.{IsPlaceFor}
+use Rattle.fbsim_command.specs.WarningLines.{IsRowPlaceFor}
 use Rattle.fbsim_command.proofs.lemmas.LeftOut.{sorted-all, sorted-left, sorted-next}
-use Rattle.fbsim_command.proofs.lemmas.files.PlacedLines.{as_many_places, place_at_index}
+use Rattle.fbsim_command.proofs.lemmas.files.PlacedLines.{as_many_places, as_many_rows, place_at_index, row_at_index}
 use Rattle.fbsim_command.proofs.warning_lines.all_lines.Goals.{else-not-is_left_out, then-not-is_left_out+in_ok-push_line}
 use Rattle.fbsim_command.proofs.warning_lines.all_lines.Goals as goal
 
@@ -16,14 +17,30 @@ bounds-places-index c =
     subst (λ (k : ℕ). c.loop-index.index < k)
     (sym (as_many_places (naming_of c.args.naming.now) c.args.inputs.now library c.args.warnings.now c.as_slice-places.result.now all)) c.loop-index-test.true
 
-pub push_line-requires : goal.push_line-requires
-push_line-requires c =
+pub push_line-requires-clause-declared : goal.push_line-requires-clause-declared
+push_line-requires-clause-declared c =
     let library = c.library-library.result.now in
     let all : AllZip (IsPlaceFor c.args.inputs.now.declaration library) (map position_of c.args.warnings.now) c.as_slice-places.result.now =
     rw c.as_slice-places.ensures.value
     (subst (λ (d : List ℕ). AllZip (IsPlaceFor d library) (map position_of c.args.warnings.now) c.in_ok-places.places.items) (ap (λ (g : Given). g.declaration) c.inputs.view_is)
     (rw (c.as_slice.ensures.value, c.in_ok-positions.ensures) at c.in_ok-places.ensures)) in
     place_at_index (naming_of c.args.naming.now) c.args.inputs.now library c.args.warnings.now c.as_slice-places.result.now c.loop-index.index _ _ all c.loop-index-test.true
+
+pub bounds-rows-index : goal.bounds-rows-index
+bounds-rows-index c =
+    let stimuli = c.args.inputs.now.stimuli in
+    let all : AllZip (IsRowPlaceFor stimuli) c.args.warnings.now c.as_slice-rows.result.now =
+    rw c.as_slice-rows.ensures.value
+    (subst (λ (t : Option (List ℕ)). AllZip (IsRowPlaceFor t) c.args.warnings.now c.in_ok-rows.rows.items) (ap (λ (g : Given). g.stimuli) c.inputs.view_is) c.in_ok-rows.ensures) in
+    subst (λ (k : ℕ). c.loop-index.index < k) (sym (as_many_rows stimuli c.args.warnings.now c.as_slice-rows.result.now all)) c.loop-index-test.true
+
+pub push_line-requires-clause-row : goal.push_line-requires-clause-row
+push_line-requires-clause-row c =
+    let stimuli = c.args.inputs.now.stimuli in
+    let all : AllZip (IsRowPlaceFor stimuli) c.args.warnings.now c.as_slice-rows.result.now =
+    rw c.as_slice-rows.ensures.value
+    (subst (λ (t : Option (List ℕ)). AllZip (IsRowPlaceFor t) c.args.warnings.now c.in_ok-rows.rows.items) (ap (λ (g : Given). g.stimuli) c.inputs.view_is) c.in_ok-rows.ensures) in
+    row_at_index stimuli c.args.warnings.now c.as_slice-rows.result.now c.loop-index.index _ _ all c.loop-index-test.true
 
 pub loop-index-preserved : goal.loop-index-preserved
 loop-index-preserved c =

@@ -1,0 +1,86 @@
+//! Rows of stimuli that a run never comes to, which are reported after the run if that is asked for.
+
+ghost use Rattle.std.specs.Prelude.{◌≡◌, ◌++◌, ℕ, IfOk, IfSome, List, Option, length, string_bytes};
+ghost use Rattle.fb_sim.specs.Reports.{Hears};
+ghost use Rattle.fbsim_command.specs.LateRows as spec;
+ghost use Rattle.fbsim_command.specs.LateRows.{AsksHowMany, IsLateLine, ReportsRows};
+ghost use Rattle.fbsim_command.specs.Texts.{given_of};
+
+use crate::failure::Failure;
+use crate::lint::report_lines;
+use crate::statuses::Done;
+use crate::texts::Texts;
+use fb_inputs::read_stimuli;
+use fb_types::Stimulus;
+use fbsim_line::{Action, Task};
+use std::alloc::{AllocError, Global};
+use std::io::Write;
+
+/// How many rows are at or beyond the horizon.
+fn late_count(rows: &[Stimulus], horizon: u64) -> usize
+    ensures { result ≡ spec.late_count horizon rows.now }
+{
+    rows.iter().filter(|row| row.tick >= horizon).count()
+}
+
+/// The line about this number of rows, of all that there are.
+fn line_of(alloc: Global, horizon: u64, late: usize, rows: usize) -> Result<String, AllocError>
+    ensures { IfOk result (λ line. string_bytes line ≡ spec.late_line horizon late rows) }
+{
+    Ok(format!(in alloc;
+        "stimuli: rows at or beyond the horizon {horizon}: {late} of {rows}; the run does not take them\n"
+    )?)
+}
+
+/// The line about rows at or beyond the horizon, if there are such rows. Without memory for it there is none.
+fn late_line(alloc: Global, bytes: &[u8], horizon: u64) -> Option<String>
+    ensures { IfSome result (λ line. IsLateLine bytes.now horizon (string_bytes line)) }
+{
+    let Ok(rows) = read_stimuli(alloc, bytes) else {
+        return None;
+    };
+    let rows = rows.as_slice();
+    let late = late_count(rows, horizon);
+    if late == 0 {
+        return None;
+    }
+    line_of(alloc, horizon, late, rows.len()).ok()
+}
+
+/// The horizon of a run that took place, if it is asked how many rows it does not come to.
+fn asked(task: &Task<'_>, end: &Result<Done, Failure>) -> Option<u64>
+    ensures { IfSome result (AsksHowMany task.now end.now) }
+{
+    let Ok(Done::Ended | Done::Stopped) = end else {
+        return None;
+    };
+    match task.action {
+        Action::Run { horizon, .. } if task.why => Some(horizon),
+        _ => None,
+    }
+}
+
+/// Reports how many rows of the stimuli are at or beyond the horizon of a run, if that is asked for and there are such
+/// rows, after other reports, of which standard error took all or not. It says whether it took all of them and this one.
+pub(crate) fn report_rows_after<E: Write>(
+    alloc: Global,
+    task: &Task<'_>,
+    end: &Result<Done, Failure>,
+    texts: &Texts,
+    err: &mut E,
+    is_heard: bool,
+) -> bool
+    ensures { (report : List ℕ) × ReportsRows task.now (given_of texts.now).stimuli end.now report
+        × ((old : Option (List ℕ)) (first : List ℕ) → Hears is_heard old (E.contents err.old) first → Hears result old (E.contents err.new) (first ++ report)) }
+{
+    if !is_heard {
+        return false;
+    }
+    let (Some(horizon), Some(bytes)) = (asked(task, end), texts.rows()) else {
+        return true;
+    };
+    match late_line(alloc, bytes, horizon) {
+        Some(line) => report_lines(err, line.as_bytes()),
+        None => true,
+    }
+}
