@@ -1,7 +1,7 @@
 use Rattle.fb_types.proofs.Common.{◌≡◌, true, false, Option, Some, None, refl, option_map}
 use Rattle.std.specs.Prelude.{is_none}
-use Rattle.fb_types.specs.Blocks.{ports_of}
-use Rattle.fb_types.specs.Flat.{Kind, type_named}
+use Rattle.fb_types.specs.Blocks.{Kind, ports_of}
+use Rattle.fb_types.specs.Flat.{type_named}
 use Rattle.fb_types.specs.declared.library.Ports.{Ports}
 use Rattle.fb_why.proofs.roots.has_no_type.Goals as goal
 
