@@ -1,5 +1,5 @@
 -- A trace that is gone through: takings one after another, each from what the blocks remember.
-use Rattle.std.specs.Prelude.{◌≡◌, ◌<◌, ◌≤◌, ◌⊎◌, ℕ, ◌+◌, ◌-◌, List, [], ◌∷◌, ◌++◌, map, length, All, false, if◌then◌else◌, Option, Some, None, codes}
+use Rattle.std.specs.Prelude.{◌≡◌, ◌<◌, ◌≤◌, ◌⊎◌, ℕ, ◌+◌, ◌-◌, List, [], ◌∷◌, ◌++◌, map, length, All, IfSome, false, if◌then◌else◌, Option, Some, None, codes}
 use Rattle.std.specs.Io.KnownBytes.{Appends}
 use Rattle.fb_types.specs.Numbers.{line_of, path_at}
 use Rattle.fb_types.specs.Simulation.{Ending, AtHorizon, AtStop}
@@ -13,7 +13,7 @@ use Rattle.fb_types.specs.declared.value.Reason.{Reason}
 use Rattle.fb_types.specs.declared.value.Reason.TheVariants.{Steps, Divide, Range}
 use Rattle.fb_wave.specs.CutOff.{IsCutTrace}
 use Rattle.fb_wave.specs.Lines.{IsLineOf}
-use Rattle.fb_wave.specs.Waves.{IsTraceOf}
+use Rattle.fb_wave.specs.Waves.{AreLinesOf, IsTraceOf}
 use Rattle.fb_wave.specs.declared.truncation.Cut.{Cut}
 use Rattle.fb_wave.specs.declared.truncation.Cut.TheVariants as cut
 pub use Rattle.fb_inspect.specs.walk.Looks.{most}
@@ -142,13 +142,14 @@ abbrev pub cut_note : List ℕ
 cut_note = codes "  cut\n"
 
 -- A text that is cut off, with what is reported between its lines. Nothing is reported of the event after which only lines of its own
--- block come in its tick, since some of them may be missing.
+-- block come in its tick, since some of them may be missing. There is such an event, unless the text has no whole line.
 pub record IsCutInspected (sys : System) (what : Selection) (text bytes : List ℕ) : Type 0 where
   pub form : Form
   pub lines : List run.Line
   pub untaken : List run.Line
   pub trace : IsCutTrace sys form text (lines ++ untaken)
   pub of_one : AreOfOne sys untaken
+  pub last : untaken ≡ [] → lines ≡ []
   pub takings : List Taking
   pub lines_are : map (line_of sys) lines ≡ all_lines takings
   pub chain : AreTakings sys most (opening_look sys) takings
@@ -184,6 +185,10 @@ abbrev pub IsEndText : Form → System → (what : Selection) → List ℕ → T
 IsEndText form sys what text =
     ((end : Ending) × (text ≡ last_line sys end)) ⊎ ((ls : List run.Line) × AreOfOne sys ls × (text ≡ one_text form sys what ls ++ cut_note))
 
+-- The text begins with another one.
+abbrev pub BeginsWith : (front text : List ℕ) → Type 0
+BeginsWith front text = (rest : List ℕ) × (text ≡ front ++ rest)
+
 -- A writer got the first bytes of what is shown of takings that were gone through, and of what is written after them if that was read.
 pub record ShowsFront (sys : System) (what : Selection) (steps : ℕ) (old new : Option (List ℕ)) : Type 0 where
   pub form : Form
@@ -195,3 +200,18 @@ pub record ShowsFront (sys : System) (what : Selection) (steps : ℕ) (old new :
   pub rest : List ℕ
   pub parts : all_text form sys what takings ++ last ≡ got ++ rest
   pub appended : Appends old new got
+
+-- What is written after takings is the end that the text has after their lines, or the lines in which it is cut off.
+abbrev pub IsOwnEnd : Form → System → (what : Selection) → (input : Option (List ℕ)) → List run.Line → (last : List ℕ) → Type 0
+IsOwnEnd form sys what input ls last =
+    ((end : Ending) × (last ≡ last_line sys end) × IfSome input (BeginsWith (lines_text form sys (map (line_of sys) ls) ++ last_line sys end)))
+    ⊎ ((us : List run.Line) × (last ≡ one_text form sys what us ++ cut_note) × IfSome input (BeginsWith (lines_text form sys (map (line_of sys) (ls ++ us)))))
+
+-- The same, and these are the takings of the lines with which the text begins, and the end is the one that it has after them.
+pub record ShowsRead (sys : System) (what : Selection) (steps : ℕ) (input old new : Option (List ℕ)) : Type 0 where
+  pub front : ShowsFront sys what steps old new
+  pub lines : List run.Line
+  pub are : AreLinesOf sys lines
+  pub lines_are : map (line_of sys) lines ≡ all_lines front.takings
+  pub read : IfSome input (BeginsWith (lines_text front.form sys (map (line_of sys) lines)))
+  pub ends : (front.last ≡ []) ⊎ IsOwnEnd front.form sys what input lines front.last

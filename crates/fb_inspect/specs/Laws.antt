@@ -21,7 +21,8 @@ use Rattle.fb_wave.specs.Named.{HasNames}
 use Rattle.fb_coverage.specs.declared.marks.Marks.{Marks}
 use Rattle.fb_inspect.specs.walk.Chains.{Piece, ShowsReaction}
 use Rattle.fb_inspect.specs.Happenings.{AreMarkedBy, History, together}
-use Rattle.fb_inspect.specs.Inspections.{AreTakings, EndsSo, all_lines, last_look}
+use Rattle.fb_inspect.specs.Inspections.{AreTakings, BeginsWith, EndsSo, all_lines, all_text, last_look}
+use Rattle.fb_inspect.specs.Selections.{Selection}
 use Rattle.fb_inspect.specs.walk.Looks.{IsTaking, IsTakingAt, Look, Taking, most, opening_look}
 use Rattle.fb_inspect.specs.Refusals.{IsAccepted, IsWrongAt}
 use Rattle.fb_inspect.specs.walk.RunLines.{HaveRoom}
@@ -51,6 +52,12 @@ abbrev pub OneRow : Type 0
 OneRow =
     (sys : System) (limit : ℕ) (look : Look) (xs ys : List Taking) (more : List Line) → AreTakings sys limit look xs → AreTakings sys limit look ys
     → all_lines ys ≡ all_lines xs ++ more → (zs : List Taking) × (ys ≡ xs ++ zs) × (all_lines zs ≡ more)
+
+-- What is shown of lines that begin with those of other takings begins with what is shown of these.
+abbrev pub ShownAlike : Type 0
+ShownAlike =
+    (sys : System) (form : Form) (what : Selection) (xs ys : List Taking) (more : List Line) → AreTakings sys most (opening_look sys) xs → AreTakings sys most (opening_look sys) ys
+    → all_lines ys ≡ all_lines xs ++ more → BeginsWith (all_text form sys what xs) (all_text form sys what ys)
 
 -- A reaction that does not run out of steps is the same with more of them, and it is shown alike.
 abbrev pub MoreSteps : Type 0

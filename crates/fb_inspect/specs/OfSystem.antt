@@ -104,6 +104,9 @@ IsShownBy cut i = inspections.IsShownBy cut (system_of i)
 abbrev pub ShowsFront : Inputs → (what : Selection) → (steps : ℕ) → (old new : Option (List ℕ)) → Type 0
 ShowsFront i = inspections.ShowsFront (system_of i)
 
+abbrev pub ShowsRead : Inputs → (what : Selection) → (steps : ℕ) → (input old new : Option (List ℕ)) → Type 0
+ShowsRead i = inspections.ShowsRead (system_of i)
+
 -- ---- Dumps with the insides of blocks
 
 -- the scopes of the instances of a resource, and those of all resources

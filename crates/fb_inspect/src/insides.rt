@@ -16,7 +16,7 @@ ghost use Rattle.fb_wave.specs.OfSystem.{HasNames};
 ghost use Rattle.fb_inspect.specs.walk.Looks.{most};
 ghost use Rattle.fb_inspect.specs.Refusals.{IsNoRefusal, OfRefusal};
 ghost use Rattle.fb_inspect.specs.walk.Walking.{AreUnused};
-ghost use Rattle.fb_inspect.specs.OfSystem.{BeginsWalk, IsNext, IsShownBy, IsWrongAt, ShowsFront, AreShown};
+ghost use Rattle.fb_inspect.specs.OfSystem.{BeginsWalk, IsNext, IsShownBy, IsWrongAt, ShowsFront, ShowsRead, AreShown};
 ghost use Rattle.fb_inspect.specs.walk.OfWalk as of_walk;
 ghost use Rattle.fb_inspect.specs.walk.OfWalk.{BeginsText, IsCoveredBy, Starts};
 
@@ -191,7 +191,9 @@ pub fn is_severed(cut: Cut, line: &[u8]) -> bool
 
 /// Lends the line at which a walk has refused a trace, and why.
 pub fn lend(alloc: Global, form: Form, trail: &mut Trail, refused: &mut RefusedLine)
-    ensures { trail.new.marks ≡ trail.old.marks }
+    ensures marks { trail.new.marks ≡ trail.old.marks }
+    ensures line { refused.new.current ≡ record { text = trail.old.reading.line; form = form; tick = trail.old.reading.tick; after_end = trail.old.reading.after_end } }
+    ensures finding { refused.new.finding ≡ trail.old.finding }
 {
     refused.current = CurrentLine {
         text: mem::replace(&mut trail.reading.line, Vec::new(alloc)),
@@ -221,7 +223,7 @@ fn go_through<R: BufRead, W: Write>(
         → IfOk result (λ extent. IfSome known (λ text. IsCoveredBy terms.cut fixed.now what terms.steps text walk.old.trail.marks walk.new.trail.marks extent)) }
     ensures fault { (what : Selection) (known : Option (List ℕ))
         → Starts fixed.now what walk.old → Consumes known (R.remaining input.old) walk.old.trail.reading.line.items → IsFirstLine walk.old.trail.reading.line.items known
-        → OnErr result (of_walk.ShowsFront fixed.now what terms.steps (W.contents out.old) (W.contents out.new)) }
+        → OnErr result (of_walk.ShowsRead fixed.now what terms.steps known (W.contents out.old) (W.contents out.new)) }
     ensures refused { (what : Selection) (rest text : List ℕ)
         → terms.steps ≤ most → of_walk.HasNames fixed.now → Starts fixed.now what walk.old → R.remaining input.old ≡ Some rest → BeginsText fixed.now walk.old.trail.reading.line.items false rest text
         → IfErr result (OfRefusal (λ n. of_walk.IsWrongAt fixed.now terms.steps n text)) }
@@ -248,7 +250,7 @@ fn inspect_with<R: BufRead, W: Write>(
 ) -> Result<Covered, InspectError>
     ensures whole { OnOk result (IfSome (R.remaining input.old) (λ text. IsShownBy inspection.entry.terms.cut table.now.system.now (selection_of inspection.entry) inspection.entry.terms.steps text (W.contents out.old) (W.contents out.new))) }
     ensures covered { IfOk result (λ covered. IfSome (R.remaining input.old) (λ text. Covers inspection.entry.terms.cut table.now.system.now inspection.entry.terms.steps text marks covered.marks covered.extent)) }
-    ensures fault { OnErr result (ShowsFront table.now.system.now (selection_of inspection.entry) inspection.entry.terms.steps (W.contents out.old) (W.contents out.new)) }
+    ensures fault { OnErr result (ShowsRead table.now.system.now (selection_of inspection.entry) inspection.entry.terms.steps (R.remaining input.old) (W.contents out.old) (W.contents out.new)) }
     ensures refused { HasNames table.now.system.now → inspection.entry.terms.steps ≤ most
         → IfErr result (OfRefusal (λ n. IfSome (R.remaining input.old) (IsWrongAt table.now.system.now inspection.entry.terms.steps n))) }
 {
@@ -289,7 +291,7 @@ pub(crate) fn inspect_and_mark<R: BufRead, W: Write>(
 ) -> Result<Covered, InspectError>
     ensures whole { OnOk result (IfSome (R.remaining input.old) (λ text. IsShownBy inspection.entry.terms.cut system.now (selection_of inspection.entry) inspection.entry.terms.steps text (W.contents out.old) (W.contents out.new))) }
     ensures covered { IfOk result (λ covered. IfSome (R.remaining input.old) (λ text. Covers inspection.entry.terms.cut system.now inspection.entry.terms.steps text marks covered.marks covered.extent)) }
-    ensures fault { OnErr result (ShowsFront system.now (selection_of inspection.entry) inspection.entry.terms.steps (W.contents out.old) (W.contents out.new)) }
+    ensures fault { OnErr result (ShowsRead system.now (selection_of inspection.entry) inspection.entry.terms.steps (R.remaining input.old) (W.contents out.old) (W.contents out.new)) }
     ensures refused { HasNames system.now → inspection.entry.terms.steps ≤ most
         → IfErr result (OfRefusal (λ n. IfSome (R.remaining input.old) (IsWrongAt system.now inspection.entry.terms.steps n))) }
 {
@@ -313,8 +315,11 @@ pub(crate) fn inspect_and_mark<R: BufRead, W: Write>(
 /// # Errors
 /// `Refused` with the number of the first line that shows that no run has the trace: it is no line of the system, or
 /// not what the blocks emit there. That line is lent then. Sampled values and the ticks of events are taken as they
-/// are. What was written then is the beginning of what would be written of the trace, up to an event that was taken as
-/// a whole.
+/// are.
+///
+/// What was written then is the beginning of what is shown of the first events of the trace, each taken as a whole. So
+/// it begins what is written of each trace that begins with their lines and does not stop in them for its steps
+/// (`laws::lines_are_shown_alike`). If the end of the trace was read, it may go on with a part of that.
 pub fn inspect<R: BufRead, W: Write>(
     alloc: Global,
     system: &System,
@@ -325,6 +330,7 @@ pub fn inspect<R: BufRead, W: Write>(
 ) -> Result<(), InspectError>
     ensures whole { OnOk result (IfSome (R.remaining input.old) (λ text. IsShownBy inspection.entry.terms.cut system.now (selection_of inspection.entry) inspection.entry.terms.steps text (W.contents out.old) (W.contents out.new))) }
     ensures fault { OnErr result (ShowsFront system.now (selection_of inspection.entry) inspection.entry.terms.steps (W.contents out.old) (W.contents out.new)) }
+    ensures read { OnErr result (ShowsRead system.now (selection_of inspection.entry) inspection.entry.terms.steps (R.remaining input.old) (W.contents out.old) (W.contents out.new)) }
     ensures refused { HasNames system.now → inspection.entry.terms.steps ≤ most
         → IfErr result (OfRefusal (λ n. IfSome (R.remaining input.old) (IsWrongAt system.now inspection.entry.terms.steps n))) }
 {

@@ -1,6 +1,6 @@
 //! Laws of the definitions, which callers may use.
 
-ghost use Rattle.fb_inspect.specs.Laws.{AddsUp, FewerSteps, MoreSteps, OneLine, OneRow, OneTaking, ReactionsAreTakings, RefusedIsNoRun, RunsAreTakings, RunsBegin, RunsGoOn, SomeTaking, TracesAreAccepted};
+ghost use Rattle.fb_inspect.specs.Laws.{AddsUp, FewerSteps, MoreSteps, OneLine, OneRow, OneTaking, ReactionsAreTakings, RefusedIsNoRun, RunsAreTakings, RunsBegin, RunsGoOn, ShownAlike, SomeTaking, TracesAreAccepted};
 
 /// For proofs: marks of one trace after another are exactly those of what the takings of all of them do.
 pub fn marks_add_up()
@@ -19,6 +19,11 @@ pub fn takings_are_determined()
     ensures taking { OneTaking }
     ensures some { SomeTaking }
     ensures row { OneRow }
+{}
+
+/// What is written of a trace begins with what is shown of the first of its events, however it goes on.
+pub fn lines_are_shown_alike()
+    ensures { ShownAlike }
 {}
 
 /// A reaction that does not run out of steps is the same with more of them, and one that does emits the first of what it

@@ -25,7 +25,7 @@ ghost use Rattle.fb_inspect.specs.declared.error.InspectError.TheVariants.{Refus
 ghost use Rattle.fb_inspect.specs.walk.Standing.{IsStepsStop};
 ghost use Rattle.fb_inspect.specs.walk.Walking.{Finishes, FinishesCut, HasLimited, HasStepped, IsLookOf, MayEnd, SendsCutPart, SendsPart, unread};
 ghost use Rattle.fb_inspect.specs.declared.walk.blocks.Remembered.TheVariants as kept;
-ghost use Rattle.fb_inspect.specs.walk.OfWalk.{AreAhead, AreApart, AreKept, BeginsText, CanReact, FailsAt, GoesAfter, HasAdvanced, HasCovered, HasLook, HasNames, IsCoveredBy, IsKeptAt, IsLineOf, IsNear, IsNext, IsNextLine, IsNotNear, IsShownBy, IsTextOf, IsWrongAt, KeptGoes, LineGoes, LooksAs, ShowsFront, StandsAt, StandsWell, Starts, StepGoes, TakingFails, WalkTakes, Watches};
+ghost use Rattle.fb_inspect.specs.walk.OfWalk.{AreAhead, AreApart, AreKept, BeginsText, CanReact, FailsAt, GoesAfter, HasAdvanced, HasCovered, HasLook, HasNames, IsCoveredBy, IsKeptAt, IsLineOf, IsNear, IsNext, IsNextLine, IsNotNear, IsShownBy, IsTextOf, IsWrongAt, KeptGoes, LineGoes, LooksAs, ShowsRead, StandsAt, StandsWell, Starts, StepGoes, TakingFails, WalkTakes, Watches};
 
 pub mod ahead;
 pub mod blocks;
@@ -634,8 +634,9 @@ impl Walk {
         ensures covered { (what : Selection) (known : Option (List ℕ))
             → Starts fixed.now what self.old → Consumes known (R.remaining input.old) self.old.trail.reading.line.items
             → IfOk result (λ extent. IfSome known (λ text. IsCoveredBy terms.cut fixed.now what terms.steps text self.old.trail.marks self.new.trail.marks extent)) }
-        ensures fault { (what : Selection)
-            → Starts fixed.now what self.old → OnErr result (ShowsFront fixed.now what terms.steps (W.contents out.old) (W.contents out.new)) }
+        ensures fault { (what : Selection) (known : Option (List ℕ))
+            → Starts fixed.now what self.old → Consumes known (R.remaining input.old) self.old.trail.reading.line.items
+            → OnErr result (ShowsRead fixed.now what terms.steps known (W.contents out.old) (W.contents out.new)) }
         ensures refused { (what : Selection) (rest text : List ℕ)
             → terms.steps ≤ most → HasNames fixed.now → Starts fixed.now what self.old → R.remaining input.old ≡ Some rest → BeginsText fixed.now self.old.trail.reading.line.items ahead.old.watched.is_excess rest text
             → IfErr result (OfRefusal (λ n. IsWrongAt fixed.now terms.steps n text)) }

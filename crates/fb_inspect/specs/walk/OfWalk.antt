@@ -204,8 +204,8 @@ Starts f = walking.Starts (sys_of f) f.form
 abbrev pub IsShownBy : Cut → Fixed → (what : Selection) → (steps : ℕ) → (text : List ℕ) → (old new : Option (List ℕ)) → Type 0
 IsShownBy cut f = inspections.IsShownBy cut (sys_of f)
 
-abbrev pub ShowsFront : Fixed → (what : Selection) → (steps : ℕ) → (old new : Option (List ℕ)) → Type 0
-ShowsFront f = inspections.ShowsFront (sys_of f)
+abbrev pub ShowsRead : Fixed → (what : Selection) → (steps : ℕ) → (input old new : Option (List ℕ)) → Type 0
+ShowsRead f = inspections.ShowsRead (sys_of f)
 
 abbrev pub IsCoveredBy : Cut → Fixed → (what : Selection) → (steps : ℕ) → (text : List ℕ) → (old new : Marks) → Extent → Type 0
 IsCoveredBy cut f = covering.IsCoveredBy cut f.table.now.system.now

@@ -260,6 +260,7 @@ pub record IsSevered (blocks : List BlockType) (first : Marks) (sys : System) (f
   pub lines_are : map (line_of sys) lines ≡ all_lines takings
   pub untaken : List Line
   pub of_one : AreOfOne sys untaken
+  pub last : untaken ≡ [] → lines ≡ []
   pub are : AreLinesOf sys (lines ++ untaken)
   pub rest : IfSome input (λ text. IsCutAfter text (lines_text form sys (map (line_of sys) (lines ++ untaken))))
   pub sent : List ℕ

@@ -160,6 +160,7 @@ impl Trail {
         ensures marks { self.new.marks ≡ self.old.marks }
         ensures reading { self.new.reading ≡ self.old.reading }
         ensures refused { result ≡ Refused self.old.reading.number }
+        ensures finding { self.new.finding ≡ finding }
     {
         self.finding = finding;
         self.reading.refusal()

@@ -57,7 +57,7 @@ returns-then-is_severed-clause-refused g c = λ what rest text few names starts 
 
 pub returns-in_err-ahead-clause-fault : goal.returns-in_err-ahead-clause-fault
 returns-in_err-ahead-clause-fault g c = λ what known starts read one.
-    err_any c.from_residual.result _ (front_none (system_of c.args.fixed.now.table.now.system.now) what c.args.terms.steps (g.W.Write.contents c.args.out.now))
+    err_any c.from_residual.result _ (front_none (system_of c.args.fixed.now.table.now.system.now) what c.args.terms.steps known (g.W.Write.contents c.args.out.now))
 
 pub returns-clause-whole : goal.returns-clause-whole
 returns-clause-whole g c = λ what known starts read one. c.go-gone.ensures.whole what known starts read
@@ -67,10 +67,10 @@ returns-clause-covered g c = λ what known starts read one.
     let i = c.args.fixed.now.table.now.system.now in
     ok_then c.go-gone.result _ _ (c.go-gone.ensures.covered what known starts read)
     (λ extent covered.
-    subst (λ (m : Marks). IfSome known (λ text. IsCoveredBy c.args.terms.cut i what c.args.terms.steps text c.args.walk.now.trail.marks m extent)) (sym c.lend.ensures) covered)
+    subst (λ (m : Marks). IfSome known (λ text. IsCoveredBy c.args.terms.cut i what c.args.terms.steps text c.args.walk.now.trail.marks m extent)) (sym c.lend.ensures.marks) covered)
 
 pub returns-clause-fault : goal.returns-clause-fault
-returns-clause-fault g c = λ what known starts read one. c.go-gone.ensures.fault what starts
+returns-clause-fault g c = λ what known starts read one. c.go-gone.ensures.fault what known starts read
 
 pub returns-clause-refused : goal.returns-clause-refused
 returns-clause-refused g c = λ what rest text few names starts known begins.

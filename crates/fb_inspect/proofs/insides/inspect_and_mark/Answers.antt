@@ -1,6 +1,6 @@
 use Rattle.fb_inspect.proofs.lemmas.Common.{subst, ◌∙◌, IfErr, IfOk, IfSome, OnErr, OnOk, ◌≤◌, Inputs, system_of, HasNames, most, IsWrongAt, OfRefusal}
 use Rattle.fb_inspect.specs.Covering.{Covers}
-use Rattle.fb_inspect.specs.Inspections.{IsShownBy, ShowsFront}
+use Rattle.fb_inspect.specs.Inspections.{IsShownBy, ShowsRead}
 use Rattle.fb_inspect.proofs.lemmas.walk.Ended.{front_none}
 use Rattle.fb_inspect.proofs.lemmas.reactions.Placed.{err_any, of_table}
 use Rattle.fb_inspect.proofs.lemmas.results.Joined.{ok_passed}
@@ -10,14 +10,14 @@ use Rattle.fb_inspect.proofs.insides.inspect_and_mark.Goals as goal
 
 pub returns-in_err-ports-clause-fault : goal.returns-in_err-ports-clause-fault
 returns-in_err-ports-clause-fault g c =
-    err_any c.from_residual.result _ (front_none (system_of c.args.system.now) (selection_of c.args.inspection) c.args.inspection.terms.steps (g.W.Write.contents c.args.out.now))
+    err_any c.from_residual.result _ (front_none (system_of c.args.system.now) (selection_of c.args.inspection) c.args.inspection.terms.steps (g.R.Read.remaining c.args.input.now) (g.W.Write.contents c.args.out.now))
 
 pub returns-in_err-table-clause-fault : goal.returns-in_err-table-clause-fault
 returns-in_err-table-clause-fault g c =
-    err_any c.from_residual-in_err-table.result _ (front_none (system_of c.args.system.now) (selection_of c.args.inspection) c.args.inspection.terms.steps (g.W.Write.contents c.args.out.now))
+    err_any c.from_residual-in_err-table.result _ (front_none (system_of c.args.system.now) (selection_of c.args.inspection) c.args.inspection.terms.steps (g.R.Read.remaining c.args.input.now) (g.W.Write.contents c.args.out.now))
 
 pub returns-in_default-clause-fault : goal.returns-in_default-clause-fault
-returns-in_default-clause-fault g c = front_none (system_of c.args.system.now) (selection_of c.args.inspection) c.args.inspection.terms.steps (g.W.Write.contents c.args.out.now)
+returns-in_default-clause-fault g c = front_none (system_of c.args.system.now) (selection_of c.args.inspection) c.args.inspection.terms.steps (g.R.Read.remaining c.args.input.now) (g.W.Write.contents c.args.out.now)
 
 pub returns-clause-whole : goal.returns-clause-whole
 returns-clause-whole g c =
@@ -32,7 +32,7 @@ returns-clause-fault g c =
     let x = c.args.inspection in
     let old = g.W.Write.contents c.args.out.now in
     let new = g.W.Write.contents c.inspect_with.new.out in
-    subst (λ (s : Inputs). OnErr c.inspect_with.result (ShowsFront (system_of s) (selection_of x) x.terms.steps old new))
+    subst (λ (s : Inputs). OnErr c.inspect_with.result (ShowsRead (system_of s) (selection_of x) x.terms.steps (g.R.Read.remaining c.args.input.now) old new))
     (of_table _ c.in-Some.table _ c.in-Some.is c.in_ok-table.ensures.system ∙ c.in_ok-ports.ensures) c.inspect_with.ensures.fault
 
 pub returns-clause-refused : goal.returns-clause-refused

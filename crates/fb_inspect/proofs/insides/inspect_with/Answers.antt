@@ -11,11 +11,11 @@ use Rattle.fb_inspect.proofs.insides.inspect_with.Goals as goal
 
 pub returns-in_err-form-clause-fault : goal.returns-in_err-form-clause-fault
 returns-in_err-form-clause-fault g c =
-    err_any c.from_residual.result _ (front_none (system_of c.args.table.now.system.now) (selection_of c.args.inspection) c.args.inspection.terms.steps (g.W.Write.contents c.args.out.now))
+    err_any c.from_residual.result _ (front_none (system_of c.args.table.now.system.now) (selection_of c.args.inspection) c.args.inspection.terms.steps (g.R.Read.remaining c.args.input.now) (g.W.Write.contents c.args.out.now))
 
 pub returns-in_err-walk-clause-fault : goal.returns-in_err-walk-clause-fault
 returns-in_err-walk-clause-fault g c =
-    err_any c.from_residual-in_err-walk.result _ (front_none (system_of c.args.table.now.system.now) (selection_of c.args.inspection) c.args.inspection.terms.steps (g.W.Write.contents c.args.out.now))
+    err_any c.from_residual-in_err-walk.result _ (front_none (system_of c.args.table.now.system.now) (selection_of c.args.inspection) c.args.inspection.terms.steps (g.R.Read.remaining c.args.input.now) (g.W.Write.contents c.args.out.now))
 
 pub go_through-requires-clause-starts : goal.go_through-requires-clause-starts
 go_through-requires-clause-starts g c =

@@ -174,3 +174,7 @@ goes_same sys form tick ls bytes a b c l m aside line text goes = record {
   passed = subst (λ (p : PassedLines). HavePassed ls p c.passed) aside.passed goes.passed;
   numbered = goes.numbered ∙ ap (λ (n : ℕ). n + length ls) aside.number;
 }
+
+-- a line and more are not none
+pub not_none : (l : Line) (ls : List Line) → l ∷ ls ≡ [] → ⊥
+not_none l ls same = cc

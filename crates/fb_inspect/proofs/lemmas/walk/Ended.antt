@@ -1,19 +1,64 @@
 -- What comes of a walk that is over, or that failed.
-use Rattle.fb_inspect.proofs.lemmas.Common.{◌≡◌, ℕ, true, List, [], ◌++◌, map, Option, Some, None, refl, sym, ◌∙◌, ap, subst, inl, inr, append_assoc, append-nil, IfSome, Appends, Consumes, Appends-nil, Appends-trans, All-nil, AreAccepted, Inputs, system_of, line_of, System, last_line, lines_text, BlockType, Form, One, ending_of, Outcome, IsFirstLine, is_unended, last_tick, IsLineOf, Marks, Selection, IsNext, Taking, IsCutAfter, IsSevered, Starts, Page, Reading, Walk}
+use Rattle.fb_inspect.proofs.lemmas.Common.{◌≡◌, ℕ, true, List, [], ◌∷◌, ◌++◌, map, All, All-cons, All-head, All-tail, map-append, RiseFrom, Option, Some, None, refl, sym, ◌∙◌, ap, subst, inl, inr, append_assoc, append-nil, IfSome, Appends, Consumes, Appends-nil, Appends-trans, All-nil, AreAccepted, Inputs, system_of, line_of, System, last_line, lines_text, BlockType, Form, Line, One, ending_of, Outcome, IsFirstLine, is_unended, last_tick, IsLineOf, Marks, Selection, IsNext, Taking, IsCutAfter, IsSevered, Starts, Page, Reading, Walk}
 use Rattle.fb_types.proofs.Common.{IsAtEnd, trace_text}
 use Rattle.fb_wave.specs.declared.truncation.Cut.{Cut}
 use Rattle.fb_wave.specs.declared.truncation.Cut.TheVariants as cut
 use Rattle.fb_wave.proofs.lemmas.Copied.{ends_after}
+use Rattle.fb_wave.specs.Waves.{AreLinesOf}
 use Rattle.fb_inspect.specs.Covering.{Covers, IsCovered, IsCoveredBy, IsCutCovered}
 use Rattle.fb_inspect.specs.Happenings.{History}
-use Rattle.fb_inspect.specs.Inspections.{IsCutInspected, IsCutShown, IsInspected, IsShown, IsShownBy, ShowsFront, all_text, cut_note, one_text}
+use Rattle.fb_inspect.specs.Inspections.{IsCutInspected, IsCutShown, IsInspected, BeginsWith, IsShown, IsShownBy, ShowsFront, ShowsRead, all_text, cut_note, one_text}
 use Rattle.fb_wave.specs.Pages.{IsCutShort}
 use Rattle.fb_inspect.specs.walk.Walking.{Begins, Finishes, FinishesCut, IsComplete, IsGone, SendsCutPart, SendsPart}
 use Rattle.fb_wave.specs.declared.page.PageFault.{PageFault}
 use Rattle.fb_inspect.specs.declared.walk.Extent.{Extent}
 use Rattle.fb_inspect.specs.declared.walk.Extent.TheVariants.{CutOff, Whole}
 use Rattle.fb_inspect.proofs.lemmas.marks.Happened.{marked_by}
+use Rattle.fb_inspect.proofs.lemmas.lines.Moving.{lines-append}
 use Rattle.fb_inspect.proofs.lemmas.lines.Severing.{cut_whole, on_some}
+
+-- ---- What was read
+
+-- a text that was read begins with its first part
+pub begins_read : (input remaining : Option (List ℕ)) (front line : List ℕ) → Consumes input remaining (front ++ line) → IfSome input (BeginsWith front)
+begins_read None remaining front line read = tt
+begins_read (Some text) None front line read = absurd read
+begins_read (Some text) (Some rest) front line read = (line ++ rest, read ∙ append_assoc front line rest)
+
+pub begins_none : (input : Option (List ℕ)) → IfSome input (BeginsWith [])
+begins_none None = tt
+begins_none (Some text) = (text, refl)
+
+pub begins_all : (input remaining : Option (List ℕ)) (front : List ℕ) → Consumes input remaining front → IfSome input (BeginsWith front)
+begins_all None remaining front read = tt
+begins_all (Some text) None front read = absurd read
+begins_all (Some text) (Some rest) front read = (rest, read)
+
+-- a text that is cut off begins with the first of its lines
+pub begins_cut :
+    (form : Form) (sys : System) (ls us : List Line) (text : List ℕ) → IsCutAfter text (lines_text form sys (map (line_of sys) (ls ++ us)))
+    → BeginsWith (lines_text form sys (map (line_of sys) ls)) text
+begins_cut form sys ls us text after =
+    let L : List ℕ = lines_text form sys (map (line_of sys) ls) in
+    let U : List ℕ = lines_text form sys (map (line_of sys) us) in (
+      U ++ after.part,
+      after.is
+          ∙ ap (λ (t : List ℕ). t ++ after.part) (ap (lines_text form sys) (map-append (line_of sys) ls us) ∙ lines-append form sys (map (line_of sys) ls) (map (line_of sys) us))
+          ∙ append_assoc L U after.part,
+    )
+
+-- lines before others are those of a trace, too
+rises_before : (t : ℕ) (ls ms : List Line) → RiseFrom t (ls ++ ms) → RiseFrom t ls
+rises_before t [] ms rise = tt
+rises_before t (l ∷ ls) ms rise = (rise.0, rises_before l.key.tick ls ms rise.1)
+
+each_before : (sys : System) (ls ms : List Line) → All (IsLineOf sys) (ls ++ ms) → All (IsLineOf sys) ls
+each_before sys [] ms each = All-nil (IsLineOf sys)
+each_before sys (l ∷ ls) ms each =
+    All-cons (IsLineOf sys) l ls (All-head (IsLineOf sys) l (ls ++ ms) each) (each_before sys ls ms (All-tail (IsLineOf sys) l (ls ++ ms) each))
+
+lines_before : (sys : System) (ls ms : List Line) → AreLinesOf sys (ls ++ ms) → AreLinesOf sys ls
+lines_before sys ls ms are = record { each = each_before sys ls ms are.each; rise = rises_before 0 ls ms are.rise }
 
 -- ---- The end
 
@@ -86,8 +131,8 @@ module _ (i : Inputs) (form : Form) (what : Selection) (steps : ℕ) (first : Ma
         })
 
     -- a part was written
-    pub complete_part : (new : Option (List ℕ)) → SendsPart walk mid new → ShowsFront its_system what steps old new
-    complete_part new part = record {
+    complete_front : (new : Option (List ℕ)) → SendsPart walk mid new → ShowsFront its_system what steps old new
+    complete_front new part = record {
       form = form;
       takings = complete.takings;
       taken = complete.gone.taken;
@@ -102,6 +147,22 @@ module _ (i : Inputs) (form : Form) (what : Selection) (steps : ℕ) (first : Ma
       appended = Appends-trans old mid new complete.gone.sent part.got complete.gone.got part.appended;
     }
 
+    pub complete_part : (new : Option (List ℕ)) → SendsPart walk mid new → ShowsRead its_system what steps input old new
+    unfolding complete_front
+    complete_part new part = record {
+      front = complete_front new part;
+      lines = complete.gone.lines;
+      are = complete.gone.are;
+      lines_are = complete.gone.lines_are;
+      read = begins_read input remaining its_lines walk.trail.reading.line.items complete.gone.read;
+      ends = inr (inl (
+        ending_of end,
+        complete.last.is,
+        begins_all input remaining (its_lines ++ last_line its_system (ending_of end))
+        (subst (λ (l : List ℕ). Consumes input remaining (its_lines ++ l)) complete.last.is complete.gone.read),
+      ));
+    }
+
   module _ (walk : Walk) (input old mid : Option (List ℕ)) (off : IsSevered types_of first its_system form what walk input old mid) where
     cut_inspected :
         (text : List ℕ) → IsCutAfter text (lines_text form its_system (map (line_of its_system) (off.lines ++ off.untaken)))
@@ -112,6 +173,7 @@ module _ (i : Inputs) (form : Form) (what : Selection) (steps : ℕ) (first : Ma
       untaken = off.untaken;
       trace = record { lines = off.are; part = after.part; unended = after.unended; is = after.is };
       of_one = off.of_one;
+      last = off.last;
       takings = off.takings;
       lines_are = off.lines_are;
       chain = off.chain;
@@ -146,8 +208,8 @@ module _ (i : Inputs) (form : Form) (what : Selection) (steps : ℕ) (first : Ma
         })
 
     -- a part was written
-    pub severed_part : (new : Option (List ℕ)) → SendsCutPart walk mid new → ShowsFront its_system what steps old new
-    severed_part new part = record {
+    severed_front : (new : Option (List ℕ)) → SendsCutPart walk mid new → ShowsFront its_system what steps old new
+    severed_front new part = record {
       form = form;
       takings = off.takings;
       taken = inl off.chain;
@@ -163,6 +225,17 @@ module _ (i : Inputs) (form : Form) (what : Selection) (steps : ℕ) (first : Ma
       appended = Appends-trans old mid new off.sent part.got off.got part.appended;
     }
 
+    pub severed_part : (new : Option (List ℕ)) → SendsCutPart walk mid new → ShowsRead its_system what steps input old new
+    unfolding severed_front
+    severed_part new part = record {
+      front = severed_front new part;
+      lines = off.lines;
+      are = lines_before its_system off.lines off.untaken off.are;
+      lines_are = off.lines_are;
+      read = on_some input _ _ off.rest (λ text after. begins_cut form its_system off.lines off.untaken text after);
+      ends = inr (inr (off.untaken, refl, on_some input _ _ off.rest (λ text after. (after.part, after.is))));
+    }
+
   -- a trace is cut off before its first line ends
   pub severed_none :
       (walk : Walk) (line : List ℕ) (input remaining old : Option (List ℕ)) → walk.trail.page.text.items ≡ [] → Consumes input remaining line → IsFirstLine line input
@@ -175,6 +248,7 @@ module _ (i : Inputs) (form : Form) (what : Selection) (steps : ℕ) (first : Ma
     lines_are = refl;
     untaken = [];
     of_one = tt;
+    last = λ none. refl;
     are = record { each = All-nil (IsLineOf its_system); rise = tt };
     rest = cut_whole input remaining line read one short;
     sent = [];
@@ -217,10 +291,10 @@ covers_of may i accepted what steps known own first last extent same is =
 -- ---- Faults
 
 -- what the writer got is the front of what is shown of the takings that were gone through
-pub front_gone :
+front_sent :
     (sys : System) (form : Form) (what : Selection) (steps : ℕ) (walk : Walk) (takings : List Taking) (input remaining old new : Option (List ℕ))
     → IsGone sys form what steps walk takings input remaining old new → ShowsFront sys what steps old new
-front_gone sys form what steps walk takings input remaining old new gone = record {
+front_sent sys form what steps walk takings input remaining old new gone = record {
   form = form;
   takings = takings;
   taken = gone.taken;
@@ -232,11 +306,24 @@ front_gone sys form what steps walk takings input remaining old new gone = recor
   appended = gone.got;
 }
 
+pub front_gone :
+    (sys : System) (form : Form) (what : Selection) (steps : ℕ) (walk : Walk) (takings : List Taking) (input remaining old new : Option (List ℕ))
+    → IsGone sys form what steps walk takings input remaining old new → ShowsRead sys what steps input old new
+unfolding front_sent
+front_gone sys form what steps walk takings input remaining old new gone = record {
+  front = front_sent sys form what steps walk takings input remaining old new gone;
+  lines = gone.lines;
+  are = gone.are;
+  lines_are = gone.lines_are;
+  read = begins_read input remaining (lines_text form sys (map (line_of sys) gone.lines)) walk.trail.reading.line.items gone.read;
+  ends = inl refl;
+}
+
 -- the same, where a part of what waits was sent after it
-pub front_flush :
+front_short :
     (sys : System) (form : Form) (what : Selection) (steps : ℕ) (walk : Walk) (takings : List Taking) (input remaining old mid new : Option (List ℕ)) (fault : PageFault)
     → IsGone sys form what steps walk takings input remaining old mid → IsCutShort mid new walk.trail.page fault → ShowsFront sys what steps old new
-front_flush sys form what steps walk takings input remaining old mid new fault gone short = record {
+front_short sys form what steps walk takings input remaining old mid new fault gone short = record {
   form = form;
   takings = takings;
   taken = gone.taken;
@@ -248,9 +335,22 @@ front_flush sys form what steps walk takings input remaining old mid new fault g
   appended = Appends-trans old mid new gone.sent short.sent gone.got short.got;
 }
 
+pub front_flush :
+    (sys : System) (form : Form) (what : Selection) (steps : ℕ) (walk : Walk) (takings : List Taking) (input remaining old mid new : Option (List ℕ)) (fault : PageFault)
+    → IsGone sys form what steps walk takings input remaining old mid → IsCutShort mid new walk.trail.page fault → ShowsRead sys what steps input old new
+unfolding front_short
+front_flush sys form what steps walk takings input remaining old mid new fault gone short = record {
+  front = front_short sys form what steps walk takings input remaining old mid new fault gone short;
+  lines = gone.lines;
+  are = gone.are;
+  lines_are = gone.lines_are;
+  read = begins_read input remaining (lines_text form sys (map (line_of sys) gone.lines)) walk.trail.reading.line.items gone.read;
+  ends = inl refl;
+}
+
 -- The writer got nothing, since nothing was gone through.
-pub front_none : (sys : System) (what : Selection) (steps : ℕ) (old : Option (List ℕ)) → ShowsFront sys what steps old old
-front_none sys what steps old = record {
+pub front_nothing : (sys : System) (what : Selection) (steps : ℕ) (old : Option (List ℕ)) → ShowsFront sys what steps old old
+front_nothing sys what steps old = record {
   form = One;
   takings = [];
   taken = inl tt;
@@ -260,6 +360,17 @@ front_none sys what steps old = record {
   rest = [];
   parts = refl;
   appended = Appends-nil old;
+}
+
+pub front_none : (sys : System) (what : Selection) (steps : ℕ) (input old : Option (List ℕ)) → ShowsRead sys what steps input old old
+unfolding front_nothing
+front_none sys what steps input old = record {
+  front = front_nothing sys what steps old;
+  lines = [];
+  are = record { each = All-nil (IsLineOf sys); rise = tt };
+  lines_are = refl;
+  read = begins_none input;
+  ends = inl refl;
 }
 
 -- a part of what waits was sent

@@ -184,6 +184,7 @@ severed_next types first sys form what w after input old mid off = record {
   lines_are = off.lines_are;
   untaken = off.untaken;
   of_one = off.of_one;
+  last = off.last;
   are = off.are;
   rest = off.rest;
   sent = off.sent;

@@ -16,7 +16,7 @@ use Rattle.fb_inspect.specs.declared.filter.Shown.{Shown}
 use Rattle.fb_inspect.specs.declared.walk.reading.Next.TheVariants as next
 use Rattle.fb_inspect.specs.declared.walk.Step.TheVariants.{Taken, CutOff}
 use Rattle.fb_inspect.proofs.lemmas.walk.WalkedTakings.{chain_more, each_of, gone_more, last_is, look_more, more_marked, none_more, nothing, rise_more, shown_if, shows_is, stop_by, stop_more}
-use Rattle.fb_inspect.proofs.lemmas.lines.Moving.{lines-append, next_line}
+use Rattle.fb_inspect.proofs.lemmas.lines.Moving.{lines-append, next_line, not_none}
 use Rattle.fb_inspect.proofs.lemmas.walk.Walked.{one_or_other}
 
 -- ---- Limits
@@ -483,6 +483,7 @@ module _ (types : List BlockType) (first : Marks) (sys : System) (form : Form) (
             lines_are = gone.lines_are;
             untaken = all;
             of_one = off.each;
+            last = λ none. absurd (not_none line rows none);
             are = record {
               each = All-append (IsLineOf sys) gone.lines all gone.are.each (each_of sys line.key.tick all (here off));
               rise = rise_more sys line.key.tick 0 gone.lines all gone.are.rise later (here off);

@@ -40,17 +40,16 @@ advance-requires-clause-next g c =
     (last_tick 0 covered.gone.gone.lines, covered.gone.next)
 
 pub returns-in_err-advance-clause-fault : goal.returns-in_err-advance-clause-fault
-returns-in_err-advance-clause-fault g c = λ what starts.
+returns-in_err-advance-clause-fault g c = λ what known starts read.
     let fixed = c.args.fixed.now in
-    let known = some_text (g.R.Read.remaining c.args.input.now) c.args.self.now.trail.reading.line.items in
-    let covered = c.loop.invariant.0 what known.0 starts known.1 in
+    let covered = c.loop.invariant.0 what known starts read in
     err_any c.from_residual.result _
-    (front_gone (system_of fixed.table.now.system.now) fixed.form what c.args.terms.steps c.loop.self covered.gone.takings known.0 (unread c.loop.ahead (g.R.Read.remaining c.loop.input))
+    (front_gone (system_of fixed.table.now.system.now) fixed.form what c.args.terms.steps c.loop.self covered.gone.takings known (unread c.loop.ahead (g.R.Read.remaining c.loop.input))
     (g.W.Write.contents c.args.out.now) (g.W.Write.contents c.loop.out) covered.gone.gone)
 
 pub returns-in_err-flush_much-in-Taken-clause-fault :
     goal.returns-in_err-flush_much-in-Taken-clause-fault
-returns-in_err-flush_much-in-Taken-clause-fault g c = λ what starts.
+returns-in_err-flush_much-in-Taken-clause-fault g c = λ what known starts read.
     let fixed = c.args.fixed.now in
     let types = fixed.table.now.system.now.library.blocks in
     let sys = system_of fixed.table.now.system.now in
@@ -59,11 +58,10 @@ returns-in_err-flush_much-in-Taken-clause-fault g c = λ what starts.
     let old = g.W.Write.contents c.args.out.now in
     let mid = g.W.Write.contents c.loop.out in
     let r = unread c.advance.new.ahead (g.R.Read.remaining c.advance.new.input) in
-    let known = some_text (g.R.Read.remaining c.args.input.now) c.args.self.now.trail.reading.line.items in
-    let next = subst (λ (s : Step). HasAdvanced types first sys fixed.form what steps c.advance.new.self known.0 r old mid s) c.in-Taken.is
-    (c.in_ok-advance.ensures.goes first what known.0 old mid (c.loop.invariant.0 what known.0 starts known.1)) in
+    let next = subst (λ (s : Step). HasAdvanced types first sys fixed.form what steps c.advance.new.self known r old mid s) c.in-Taken.is
+    (c.in_ok-advance.ensures.goes first what known old mid (c.loop.invariant.0 what known starts read)) in
     err_any c.from_residual-in_err-flush_much-in-Taken.result _
-    (front_flush sys fixed.form what steps c.advance.new.self next.gone.takings known.0 r old mid (g.W.Write.contents c.flush_much.new.out) c.in_err-flush_much-in-Taken.field-0.0 next.gone.gone
+    (front_flush sys fixed.form what steps c.advance.new.self next.gone.takings known r old mid (g.W.Write.contents c.flush_much.new.out) c.in_err-flush_much-in-Taken.field-0.0 next.gone.gone
     c.in_err-flush_much-in-Taken.ensures.part)
 
 pub loop-preserved : goal.loop-preserved
@@ -90,7 +88,7 @@ loop-preserved g c = (
 )
 
 pub returns-in-Ended-clause-fault : goal.returns-in-Ended-clause-fault
-returns-in-Ended-clause-fault g c = λ what starts.
+returns-in-Ended-clause-fault g c = λ what known starts read.
     let fixed = c.args.fixed.now in
     let i = fixed.table.now.system.now in
     let first = c.args.self.now.trail.marks in
@@ -98,12 +96,11 @@ returns-in-Ended-clause-fault g c = λ what starts.
     let old = g.W.Write.contents c.args.out.now in
     let mid = g.W.Write.contents c.loop.out in
     let r = unread c.advance.new.ahead (g.R.Read.remaining c.advance.new.input) in
-    let known = some_text (g.R.Read.remaining c.args.input.now) c.args.self.now.trail.reading.line.items in
-    let next = subst (λ (s : Step). HasAdvanced i.library.blocks first (system_of i) fixed.form what steps c.advance.new.self known.0 r old mid s) c.in-Ended.is
-    (c.in_ok-advance.ensures.goes first what known.0 old mid (c.loop.invariant.0 what known.0 starts known.1)) in
+    let next = subst (λ (s : Step). HasAdvanced i.library.blocks first (system_of i) fixed.form what steps c.advance.new.self known r old mid s) c.in-Ended.is
+    (c.in_ok-advance.ensures.goes first what known old mid (c.loop.invariant.0 what known starts read)) in
     fails_joined c.and.result c.finish.result _ _ c.and.ensures
     (err_then c.finish.result _ _ c.finish.ensures.fault
-    (λ part. complete_part i fixed.form what steps first c.advance.new.self c.in-Ended.field-0 known.0 r old mid next (g.W.Write.contents c.finish.new.out) part))
+    (λ part. complete_part i fixed.form what steps first c.advance.new.self c.in-Ended.field-0 known r old mid next (g.W.Write.contents c.finish.new.out) part))
 
 pub returns-in-Ended-clause-whole : goal.returns-in-Ended-clause-whole
 returns-in-Ended-clause-whole g c = λ what known starts read.
@@ -140,7 +137,7 @@ returns-in-Ended-clause-covered g c = λ what known starts read.
     (complete_covered i fixed.form what steps first c.advance.new.self c.in-Ended.field-0 known r old mid next finishes.over))
 
 pub returns-in-CutOff-clause-fault : goal.returns-in-CutOff-clause-fault
-returns-in-CutOff-clause-fault g c = λ what starts.
+returns-in-CutOff-clause-fault g c = λ what known starts read.
     let fixed = c.args.fixed.now in
     let i = fixed.table.now.system.now in
     let first = c.args.self.now.trail.marks in
@@ -148,12 +145,11 @@ returns-in-CutOff-clause-fault g c = λ what starts.
     let old = g.W.Write.contents c.args.out.now in
     let mid = g.W.Write.contents c.loop.out in
     let r = unread c.advance.new.ahead (g.R.Read.remaining c.advance.new.input) in
-    let known = some_text (g.R.Read.remaining c.args.input.now) c.args.self.now.trail.reading.line.items in
-    let next = subst (λ (s : Step). HasAdvanced i.library.blocks first (system_of i) fixed.form what steps c.advance.new.self known.0 r old mid s) c.in-CutOff.is
-    (c.in_ok-advance.ensures.goes first what known.0 old mid (c.loop.invariant.0 what known.0 starts known.1)) in
+    let next = subst (λ (s : Step). HasAdvanced i.library.blocks first (system_of i) fixed.form what steps c.advance.new.self known r old mid s) c.in-CutOff.is
+    (c.in_ok-advance.ensures.goes first what known old mid (c.loop.invariant.0 what known starts read)) in
     fails_joined c.and-in-CutOff.result c.finish_cut.result _ _ c.and-in-CutOff.ensures
     (err_then c.finish_cut.result _ _ c.finish_cut.ensures.fault
-    (λ part. severed_part i fixed.form what steps first c.advance.new.self known.0 old mid next (g.W.Write.contents c.finish_cut.new.out) part))
+    (λ part. severed_part i fixed.form what steps first c.advance.new.self known old mid next (g.W.Write.contents c.finish_cut.new.out) part))
 
 pub returns-in-CutOff-clause-whole : goal.returns-in-CutOff-clause-whole
 returns-in-CutOff-clause-whole g c = λ what known starts read.
@@ -190,11 +186,10 @@ returns-in-CutOff-clause-covered g c = λ what known starts read.
     ok_joined c.and-in-CutOff.result c.finish_cut.result _ _ _ c.and-in-CutOff.ensures c.finish_cut.ensures.finishes (λ finishes. on_some known _ _ covered (λ text is. (allowed, is)))
 
 pub returns-clause-fault : goal.returns-clause-fault
-returns-clause-fault g c = λ what starts.
+returns-clause-fault g c = λ what known starts read.
     let fixed = c.args.fixed.now in
-    let known = some_text (g.R.Read.remaining c.args.input.now) c.args.self.now.trail.reading.line.items in
-    let covered = c.loop.invariant.0 what known.0 starts known.1 in
-    front_gone (system_of fixed.table.now.system.now) fixed.form what c.args.terms.steps c.loop.self covered.gone.takings known.0 (unread c.loop.ahead (g.R.Read.remaining c.loop.input))
+    let covered = c.loop.invariant.0 what known starts read in
+    front_gone (system_of fixed.table.now.system.now) fixed.form what c.args.terms.steps c.loop.self covered.gone.takings known (unread c.loop.ahead (g.R.Read.remaining c.loop.input))
     (g.W.Write.contents c.args.out.now) (g.W.Write.contents c.loop.out) covered.gone.gone
 
 pub returns-in_err-advance-clause-refused : goal.returns-in_err-advance-clause-refused
