@@ -88,7 +88,11 @@ fn watch<R: Abort + Clock>(rt: &R, naps: &Naps) {
             return;
         }
         let ended = naps.ended.load(SeqCst);
-        looks = if ended == seen { looks.wrapping_add(1) } else { 0 };
+        looks = if ended == seen {
+            looks.wrapping_add(1)
+        } else {
+            0
+        };
         seen = ended;
         assert!(rt; looks < 200, "a thread waits for ever");
         thread::sleep(rt, Duration::from_millis(100));
@@ -133,7 +137,12 @@ fn expect_together(rt: &impl Abort, naps: &Naps, least: u64) {
 }
 
 /// Threads are started for each phase, and dismissed after it.
-fn expect_starts<R: Abort + Threads + Wait + Sync>(rt: &R, alloc: Global, naps: &Naps, work: &Squares) {
+fn expect_starts<R: Abort + Threads + Wait + Sync>(
+    rt: &R,
+    alloc: Global,
+    naps: &Naps,
+    work: &Squares,
+) {
     for (workers, phases, least) in &STARTS {
         for phase in 0..*phases {
             expect_phase(rt, alloc, naps, work, None, (phase, *workers));

@@ -159,7 +159,7 @@ module _ (i : Inputs) (form : Form) (what : Selection) (steps : ℕ) (first : Ma
         ending_of end,
         complete.last.is,
         begins_all input remaining (its_lines ++ last_line its_system (ending_of end))
-        (subst (λ (l : List ℕ). Consumes input remaining (its_lines ++ l)) complete.last.is complete.gone.read),
+            (subst (λ (l : List ℕ). Consumes input remaining (its_lines ++ l)) complete.last.is complete.gone.read),
       ));
     }
 

@@ -10,7 +10,9 @@ fn an_instance_without_an_index_has_the_first(rt: HostRuntime) {
         resource: 0,
         roots: Items::new(alloc),
         blocks: Items::new(alloc),
-        shell_indexes: Items::from_vec(Vec::from_slice(alloc, &[0, 0, 1, 2, 2]).expect(&rt, "memory")),
+        shell_indexes: Items::from_vec(Vec::from_slice(alloc, &[0, 0, 1, 2, 2]).expect(
+            &rt, "memory",
+        )),
         shells: Items::new(alloc),
         held: HeldCopies {
             indexes: Items::new(alloc),
