@@ -1,5 +1,5 @@
 -- The breaks that lines are for, line by line and break by break.
-use Rattle.fb_types.proofs.Common.{◌≡◌, ◌⊎◌, ◌∙◌, ℕ, ◌<◌, ◌≤◌, IfSome, option_map, nat_lt, if◌then◌else◌, Bool, true, false, List, [], ◌∷◌, ◌++◌, Option, Some, None, inl, inr, refl, sym, ap, subst, arith, ltb-true, ltb-false, Each, System, line_text, Taken, lines_of, ◌+◌, length, get_or, map, take, take_more, map-append}
+use Rattle.fb_types.proofs.Common.{◌≡◌, ◌⊎◌, ◌∙◌, ℕ, ◌<◌, ◌≤◌, IfSome, option_map, nat_lt, if◌then◌else◌, Bool, true, false, List, [], ◌∷◌, ◌++◌, Option, Some, None, inl, inr, refl, sym, ap, subst, arith, ltb-true, ltb-false, Each, System, line_text, Taken, lines_of, ◌+◌, length, get_or, map, take, take_more, map-append, true≢false}
 use Rattle.fb_types.specs.States.{Line}
 use Rattle.fb_types.specs.declared.run.Line as run
 use Rattle.fb_types.specs.declared.run.Form.TheVariants.{One}
@@ -159,6 +159,7 @@ held d None = d
 held d (Some x) = x
 
 some_is : {X : Type 0} (x y : X) → Some x ≡ Some y → x ≡ y
+  unfolding held
 some_is x y is = ap (held x) is
 
 none_some : {X : Type 0} (x : X) → None ≡ Some x → ⊥
@@ -230,8 +231,7 @@ number_past P bs k b o within here past before =
     subst (λ (xs : List Break). IsLeastOf P xs o) (sym (take_more bs k b within ∙ ap (λ (x : Break). take k bs ++ x ∷ []) (sym here))) (least_past P (take k bs) b o past before)
 
 pub not_both : (b : Bool) → b ≡ false → b ≡ true → ⊥
-not_both true no yes = absurd cc
-not_both false no yes = absurd cc
+not_both b no yes = absurd (true≢false (sym yes ∙ no))
 
 -- ---- Events
 

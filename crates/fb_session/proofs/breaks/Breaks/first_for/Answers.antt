@@ -1,4 +1,4 @@
-use Rattle.fb_types.proofs.Common.{rules, ◌≡◌, ◌∙◌, List, Option, ℕ, ap, line_of, line_text, option_map, subst, sym, system_of}
+use Rattle.fb_types.proofs.Common.{◌≡◌, ◌++◌, ◌∙◌, List, Option, ℕ, ap, line_of, line_text, option_map, subst, sym, system_of}
 use Rattle.fb_types.specs.declared.run.Form.TheVariants.{One}
 use Rattle.fb_session.specs.Hitting.{IsFor, IsLeastOf}
 use Rattle.fb_session.specs.declared.breaks.Break.{Break}
@@ -12,7 +12,9 @@ loop-line-preserved c =
     let i = c.args.system.now in
     let sys = system_of i in
     let l = c.line-item.result in
-    let text : c.as_slice-in-loop-line.result.now ≡ line_text One sys (line_of sys l) = c.as_slice-in-loop-line.ensures.value ∙ c.in_ok-render.ensures in
+    let text : c.as_slice-in-loop-line.result.now ≡ line_text One sys (line_of sys l) =
+    c.as_slice-in-loop-line.ensures.value ∙ (c.in_ok-render.ensures ∙ ap (λ (t : List ℕ). t ++ line_text One sys (line_of sys l)) c.clear.ensures.items)
+    in
     let number : IsLeastOf (IsFor sys (line_of sys l)) c.loop-line.self.set.items c.number_at-number.result =
     subst (λ (xs : List Break). IsLeastOf (IsFor sys (line_of sys l)) xs c.number_at-number.result) c.as_slice.ensures.value (c.number_at-number.ensures i (line_of sys l) text)
     in
