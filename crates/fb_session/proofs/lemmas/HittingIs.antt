@@ -1,5 +1,5 @@
 -- The breaks that lines are for, line by line and break by break.
-use Rattle.fb_types.proofs.Common.{◌≡◌, ◌⊎◌, ◌∙◌, ℕ, ◌<◌, ◌≤◌, IfSome, option_map, nat_lt, if◌then◌else◌, Bool, true, false, List, [], ◌∷◌, ◌++◌, Option, Some, None, inl, inr, refl, sym, ap, subst, arith, ltb-true, ltb-false, Each, System, line_text, Taken, lines_of, ◌+◌, length, get_or, map, take, take_more, map-append, true≢false}
+use Rattle.fb_types.proofs.Common.{◌≡◌, ◌⊎◌, ◌∙◌, ℕ, ◌<◌, ◌≤◌, IfSome, option_map, nat_lt, if◌then◌else◌, Bool, true, false, List, [], ◌∷◌, ◌++◌, Option, Some, None, inl, inr, refl, sym, ap, subst, arith, ltb-true, ltb-false, Each, System, line_text, Taken, lines_of, ◌+◌, length, get_or, map, take, take_more, map-append, true≢false, same_Some, none-some}
 use Rattle.fb_types.specs.States.{Line}
 use Rattle.fb_types.specs.declared.run.Line as run
 use Rattle.fb_types.specs.declared.run.Form.TheVariants.{One}
@@ -154,16 +154,11 @@ pub hit_unread : (sys : System) (bs : List Break) (l : Line) → ((v : Event) �
 hit_unread sys [] l never = tt
 hit_unread sys (b ∷ bs) l never = (λ for. never for.event for.is_line, hit_unread sys bs l never)
 
-held : {X : Type 0} → X → Option X → X
-held d None = d
-held d (Some x) = x
-
 some_is : {X : Type 0} (x y : X) → Some x ≡ Some y → x ≡ y
-  unfolding held
-some_is x y is = ap (held x) is
+some_is x y is = same_Some x y is
 
 none_some : {X : Type 0} (x : X) → None ≡ Some x → ⊥
-none_some x is = absurd cc
+none_some x is = none-some x is
 
 -- the text of a line, as a reader reads it
 module _ {X : Type 0} (event : X → Event) (sys : System) (bs : List Break) (l : Line) (text : List ℕ) (same : text ≡ line_text One sys l) where
