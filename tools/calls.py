@@ -975,7 +975,7 @@ CALLS += [
     of("session halves", 1, out=SHOWN_AT_5, given=TO_A_STOP),
     *(of("session halves", 3, out=SHOWN_AT_5[:room], err=b"write fault after %d bytes\n" % room, to="short", room=room, given=TO_A_STOP) for room in range(1, len(SHOWN_AT_5))),
     # A control character in a name of a file is shown as a question mark.
-    Call(["check", ODD_NAME, "--why"], 2, err=placed(b"refused E03 line 1\n", b"odd???name:1:31: E03: found END_FBS, expected one of ( ;\n", FILES[ODD_NAME])),
+    Call(["check", ODD_NAME, "--why"], 2, err=placed(b"refused E03 line 1\n", b"odd???name:1:31: E03: found END_FBS, expected one of ; (\n", FILES[ODD_NAME])),
     Call(["check", "halves", "--types", ODD_NAME], 2, err=b"refused E03 odd???name line 1\n"),
     Call(["check", "no\nwhere", "--why"], 3, err=b"file fault\ndeclaration no?where: no file of this name can be read\n"),
     Call(["expect", "rules", "trace", ODD_NAME], 2, err=b"refused trace odd???name line 1\n"),

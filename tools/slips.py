@@ -111,7 +111,7 @@ SLIPS = [
     ]),
     # L23: a row comes before the start
     Slip("bottling/shift", "stimuli.csv", "0,LABEL.ROLL,COUNT=12\n", "0,LABEL.ROLL,COUNT=12\n0,FILL.ARRIVE,\n", [
-        ("|0,FILL.ARRIVE,", f"L23: stimuli: row 1{EARLY}"),
+        ("0,LABEL.ROLL,COUNT=12\n|0,FILL.ARRIVE,", f"L23: stimuli: row 1{EARLY}"),
     ]),
     Slip("conveyor", "stimuli.csv", "tick,event,values\n", "tick,event,values\n0,BELT.R,\n", [
         ("|0,BELT.R,", f"L23: stimuli: row 0{EARLY}"),
