@@ -39,7 +39,7 @@ HELP = """= give TICK INSTANCE.EVENT VAR=value ..: one more stimulus
 """
 TYPES = {
     "BOOL": "BOOL: TRUE or FALSE",
-    "TIME": "TIME: a whole number of milliseconds, without T#",
+    "TIME": "TIME: -9223372036854775808 to 9223372036854775807, in milliseconds, without T#",
     **{f"{sign}{it}": f"{sign}{it}: {low} to {high}" for sign, it, low, high in (
         ("", "SINT", -128, 127), ("", "INT", -32768, 32767), ("", "DINT", -(2**31), 2**31 - 1), ("", "LINT", -(2**63), 2**63 - 1),
         ("U", "SINT", 0, 255), ("U", "INT", 0, 65535), ("U", "DINT", 0, 2**32 - 1), ("U", "LINT", 0, 2**64 - 1))},
