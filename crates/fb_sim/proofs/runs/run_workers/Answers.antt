@@ -12,7 +12,7 @@ use Rattle.fb_sim.proofs.lemmas.text.TextedSends.{texted_send}
 use Rattle.fb_sim.proofs.lemmas.runs.CrewCrossing.{crew_sync}
 use Rattle.fb_sim.proofs.rounds.workers.TextJobs.TheSendSync as windows
 use Rattle.fb_sim.specs.contracts.rounds.workers.TextJobs as TextJobs
-use Rattle.fb_sim.proofs.runs.run_workers.Lts.{arg-4-1, name-35, of-22}
+use Rattle.fb_sim.proofs.runs.run_workers.Lts.{arg-4-1, name-33, of-20}
 use Rattle.fb_sim.proofs.runs.run_workers.Goals as goal
 
 pub new-crew-requires-send-W-Job : goal.new-crew-requires-send-W-Job
@@ -28,8 +28,8 @@ join_mut-ended-requires-send-F g c κs within =
     let number : IsSync (u64-field).row = search sendable in
     let work : IsSync TextJobs.the_row = recorded_sync (TextJobs.the_field).row _ _ (TextJobs.the_type).to_one windows.the_field_sync in
     let T =
-    type_at (name-35 g.row.R g.row.W g.row.P g.row.C g.R.laws g.W.laws g.P.laws g.C.laws g.R.Threads-dict g.R.Wait-dict g.W.Write-dict g.P.Gate-dict g.C.Clock-dict g.C.CpuClock-dict)
-    (of-22 g.row.R g.row.W g.row.P g.row.C g.R.laws g.W.laws g.P.laws g.C.laws g.R.Threads-dict g.R.Wait-dict g.W.Write-dict g.P.Gate-dict g.C.Clock-dict g.C.CpuClock-dict
+    type_at (name-33 g.row.R g.row.W g.row.P g.row.C g.R.laws g.W.laws g.P.laws g.C.laws g.R.Threads-dict g.R.Wait-dict g.W.Write-dict g.P.Gate-dict g.C.Clock-dict g.C.CpuClock-dict)
+    (of-20 g.row.R g.row.W g.row.P g.row.C g.R.laws g.W.laws g.P.laws g.C.laws g.R.Threads-dict g.R.Wait-dict g.W.Write-dict g.P.Gate-dict g.C.Clock-dict g.C.CpuClock-dict
     (record { mir = named 8; lft = κs.1.1.1.1.1.1.1.1.0 })
     (record { mir = named 9; lft = κs.1.1.1.1.1.1.1.1.1.0 })
     (record { mir = named 10; lft = κs.1.1.1.1.1.1.1.1.1.1.0 })
