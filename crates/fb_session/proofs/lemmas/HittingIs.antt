@@ -226,7 +226,7 @@ number_past P bs k b o within here past before =
     subst (λ (xs : List Break). IsLeastOf P xs o) (sym (take_more bs k b within ∙ ap (λ (x : Break). take k bs ++ x ∷ []) (sym here))) (least_past P (take k bs) b o past before)
 
 pub not_both : (b : Bool) → b ≡ false → b ≡ true → ⊥
-not_both b no yes = absurd (true≢false (sym yes ∙ no))
+not_both b off on = absurd (true≢false (sym on ∙ off))
 
 -- ---- Events
 

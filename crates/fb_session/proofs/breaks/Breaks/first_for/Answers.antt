@@ -1,6 +1,7 @@
-use Rattle.fb_types.proofs.Common.{◌≡◌, ◌++◌, ◌∙◌, List, Option, ℕ, ap, line_of, line_text, option_map, subst, sym, system_of}
+use Rattle.fb_types.proofs.Common.{◌≡◌, ◌++◌, ◌∙◌, List, Option, ℕ, ap, line_of, line_text, map, option_map, subst, sym, system_of, take_all}
 use Rattle.fb_types.specs.declared.run.Form.TheVariants.{One}
-use Rattle.fb_session.specs.Hitting.{IsFor, IsLeastOf}
+use Rattle.fb_types.specs.declared.run.Line as run
+use Rattle.fb_session.specs.Hitting.{IsFor, IsHitBy, IsLeastOf}
 use Rattle.fb_session.specs.declared.breaks.Break.{Break}
 use Rattle.fb_session.proofs.lemmas.BreakingIs.{hit_on}
 use Rattle.fb_session.proofs.lemmas.HittingIs.{hit_next}
@@ -25,3 +26,9 @@ loop-line-preserved c =
       least = hit_next sys c.args.self.now.set.items c.loop-line.self.set.items (line_of sys) c.args.lines.now c.loop-line.line-index l (option_map (λ h. h.0) c.loop-line.least)
           c.number_at-number.result (option_map (λ h. h.0) c.earlier-least.result) c.loop-line-test.true c.line-item.is inv.set inv.least number c.earlier-least.ensures.number;
     }
+
+pub returns-clause-least : goal.returns-clause-least
+returns-clause-least c =
+    let sys = system_of c.args.system.now in
+    subst (λ (xs : List run.Line). IsHitBy sys c.args.self.now.set.items (map (line_of sys) xs) (option_map (λ h. h.0) c.loop-line.least))
+    (take_all c.loop-line.line-index c.args.lines.now c.loop-line-test.false) c.loop-line.invariant.least
