@@ -237,12 +237,12 @@ pub(crate) fn line_in_file(lines: &[FileLines], whole: usize) -> Option<FileLine
     }
     let mut left = whole;
     for i in 0..lines.len() {
-        let own = lines[i];
+        let own = &lines[i];
         if left <= own.count {
             return Some(FileLine {
                 file: i,
                 line: left,
-                mark: mark_in(own, left),
+                mark: mark_in(*own, left),
             });
         }
         left -= own.count;

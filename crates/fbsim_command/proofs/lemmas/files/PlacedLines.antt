@@ -1,5 +1,7 @@
 -- Lines of warnings with their places, one after another.
-use Rattle.fbsim_command.proofs.lemmas.Common.{◌≡◌, ℕ, zero, suc, ◌+◌, ◌<◌, List, [], ◌∷◌, ◌++◌, ◌⊎◌, get_or, length, map, append_assoc, append-nil, Option, Some, None, Result, Ok, Err, inl, inr, refl, sym, ◌∙◌, ap, subst, arith, length-map, take, take_more, AllZip, IfNone, IfOk, IfSome, Library, Place, Given}
+use Rattle.fbsim_command.proofs.lemmas.Common.{◌≡◌, ℕ, zero, suc, ◌+◌, ◌<◌, List, [], ◌∷◌, ◌++◌, ◌⊎◌, get_or, length, map, append_assoc, append-nil, Option, Some, None, Result, Ok, Err, inl, inr, refl, sym, ◌∙◌, ap, subst, arith, length-map, take, take_more, AllZip, IfOk, IfSome, Library, Place, Given, Bor, Vec, option_map}
+use Rattle.std.specs.Option.{IfNone}
+use Rattle.fb_types.proofs.Common.{none-some, same_Some, unwrap_or}
 use Rattle.std.proofs.lemmas.Slice.Zip.{AllZip-long}
 use Rattle.fb_lint.specs.Positions.{position_of}
 use Rattle.fb_lint.specs.declared.warning.Warning.{Warning}
@@ -145,8 +147,20 @@ pub rows_placed :
 rows_placed None text ws spans os same near places = unplaced_zip ws spans os text near places
 rows_placed (Some t) text ws spans os same near places = subst (λ (x : List ℕ). AreRowsAt (Some x) ws os) (same t refl) (placed_zip text ws spans os near places)
 
+-- the text that is read, if stimuli are given
+text_given : (given : Option (Bor (List ℕ))) (empty text : Bor (List ℕ)) → text ≡ unwrap_or given empty → (t : List ℕ) → option_map (λ (b : Bor (List ℕ)). b.now) given ≡ Some t → text.now ≡ t
+text_given None empty text is t some = absurd (none-some t some)
+text_given (Some b) empty text is t some = ap (λ (x : Bor (List ℕ)). x.now) is ∙ same_Some b.now t some
+
+pub rows_found :
+    {E : Type 0} (given : Option (Bor (List ℕ))) (empty text : Bor (List ℕ)) (ws : List Warning) (spans : List Span) (r : Result (Vec (Option Place)) E) → text ≡ unwrap_or given empty
+    → AllZip (IsNearInStimuli text.now) (map row_position ws) spans → IfOk r (λ v. AllZip (IsPlaceNear text.now) spans v.items) → IfOk r (λ v. AreRowsAt (option_map (λ (b : Bor (List ℕ)). b.now) given) ws v.items)
+rows_found given empty text ws spans (Err e) is near placed = tt
+rows_found given empty text ws spans (Ok v) is near placed =
+    rows_placed (option_map (λ (b : Bor (List ℕ)). b.now) given) text.now ws spans v.items (text_given given empty text is) near placed
+
 -- one place more
-pub places_push : (text : List ℕ) (spans : List Span) (s : Span) (os : List (Option Place)) (o : Option Place) → AllZip (IsPlaceNear text) spans os → IsPlaceNear text s o → AllZip (IsPlaceNear text) (spans ++ s ∷ []) (os ++ o ∷ [])
+places_push : (text : List ℕ) (spans : List Span) (s : Span) (os : List (Option Place)) (o : Option Place) → AllZip (IsPlaceNear text) spans os → IsPlaceNear text s o → AllZip (IsPlaceNear text) (spans ++ s ∷ []) (os ++ o ∷ [])
 places_push text [] s [] o all is = (is, tt)
 places_push text [] s (p ∷ os) o all is = absurd all
 places_push text (r ∷ spans) s [] o all is = absurd all
