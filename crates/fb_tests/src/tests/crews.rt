@@ -13,15 +13,12 @@ use std::thread;
 use std::thread::{Threads, join};
 use std::time::{Clock, Duration};
 
-/// How many phases a crew has.
-const PHASES: u64 = 10_000;
-
 /// For this many workers threads are started in so many phases, and at least so many of them are at the gate at once in
 /// some phase: of few all, and of many more than there are processors.
-static STARTS: [(usize, u64, u64); 3] = [(2, 4_000, 2), (3, 4_000, 3), (64, 300, 8)];
+static STARTS: [(usize, u64, u64); 3] = [(2, 1_000, 2), (3, 1_000, 3), (64, 400, 8)];
 
-/// How many workers the crews have, and how many of them are at the gate at once.
-static CREWS: [(usize, u64); 3] = [(2, 2), (3, 3), (64, 17)];
+/// How many workers the crews have, how many phases, and how many workers are at the gate at once.
+static CREWS: [(usize, u64, u64); 3] = [(2, 4_000, 2), (3, 4_000, 3), (64, 2_000, 17)];
 
 /// In one of so many phases jobs take time.
 const SLOW: u64 = 50;
@@ -157,14 +154,14 @@ fn expect_crew<R: Abort + Threads + Wait + Sync>(
     alloc: Global,
     naps: &Naps,
     work: &Squares,
-    (workers, least): (usize, u64),
+    (workers, phases, least): (usize, u64, u64),
 ) {
     let crew: Crew<Squares> = Crew::new(alloc);
     join(
         rt,
         || crew.serve(rt, alloc, work, naps, workers.saturating_sub(1)),
         || {
-            for phase in 0..PHASES {
+            for phase in 0..phases {
                 expect_phase(rt, alloc, naps, work, Some(&crew), (phase, workers));
             }
             crew.dismiss(rt);
