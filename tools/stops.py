@@ -238,6 +238,13 @@ def spread(text, lot):
     return re.sub(" ", lambda _: lot.choice(GAPS), text)
 
 
+def late_note(stimuli, horizon):
+    """Returns the line of --why on the rows of stimuli that the run does not take, or nothing."""
+    ticks = [int(row.split(",")[0]) for row in stimuli.splitlines()[1:]]
+    late = sum(tick >= horizon for tick in ticks)
+    return f"stimuli: rows at or beyond the horizon {horizon}: {late} of {len(ticks)}; the run does not take them\n" if late else ""
+
+
 def fault_of(room, seed):
     """Returns the kind of the stop of the system of a seed, or None if it does not stop, and what is wrong with what is said of it, or
     None."""
@@ -252,7 +259,8 @@ def fault_of(room, seed):
     numbers = ["--horizon", str(horizon), "--steps", str(steps)]
     ran = room.call(["run", "-", "--why", "--deploy", f"{seed}.deploy", "--stim", f"{seed}.stimuli", *numbers], declaration.encode())
     came = ran.returncode, ran.stdout, ran.stderr
-    expected = int(bool(note)), trace.encode(), with_source(note.encode(), {b"-": declaration.encode()})
+    located = with_source(note.encode(), {b"-": declaration.encode()})
+    expected = int(bool(note)), trace.encode(), late_note(stimuli, horizon).encode() + located
     fault = None if came == expected else f"seed {seed}: expected {shown(*expected)}; got {shown(*came)}"
     return system.kind() if note else None, fault
 
