@@ -232,8 +232,10 @@ module _ (g : Opening) (now : Option Text) (t : Talk) (h : HasTold g now t) wher
 
   -- ---- The end
 
-  pub ended : (to : ℕ) (u : Talk) (new : Option Text) (o : Outcome) → IsWhole to t u now new (end_of o) → Ends g new o
-  ended to u new o whole =
+  pub ended : (to : ℕ) (new : Option Text) (o : Outcome)
+      → ((p : Past) → StandsBy t p → (bytes : Text) × Appends now new bytes × IsTrace (with_rows t.inputs p.given) t.form to t.steps (told t p ++ bytes) (end_of o))
+      → Ends g new o
+  ended to new o whole =
       let w = whole h.past h.stands in
       let piece = Trace w.0 in
       let ps = h.pieces ++ piece ∷ [] in (
@@ -244,7 +246,7 @@ module _ (g : Opening) (now : Option Text) (t : Talk) (h : HasTold g now t) wher
               given = h.past.given;
               rows = h.stands.rows;
               horizon = to;
-              trace = subst (λ (x : Text). IsTrace (with_rows t.inputs h.past.given) t.form to t.steps x (end_of o)) (sym (told_more h.pieces piece ∙ ap (λ (x : Text). x ++ w.0) h.told_is)) w.3;
+              trace = subst (λ (x : Text). IsTrace (with_rows t.inputs h.past.given) t.form to t.steps x (end_of o)) (sym (told_more h.pieces piece ∙ ap (λ (x : Text). x ++ w.0) h.told_is)) w.2;
             }),
         got_more g.start now new h.pieces piece h.got w.1,
       )

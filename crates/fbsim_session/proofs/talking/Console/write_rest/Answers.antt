@@ -8,11 +8,11 @@ end-requires-clause-stands g c = let h = c.requires.told.1 in (h.past, h.stands)
 pub returns-in_err-flush-in-Ok-Over : goal.returns-in_err-flush-in-Ok-Over
 returns-in_err-flush-in-Ok-Over g c = λ x h.
     concludes_passed x _ c.in_err-flush-in-Ok-Over.field-0.0 c.from_residual.result c.from_residual.ensures.1
-    (ends_failed x _ _ _ (ended x _ _ h _ _ _ _ (rw c.in-Ok-Over.field-0-is at c.in-Ok-Over.ensures)) _ c.in_err-flush-in-Ok-Over.ensures.flushes)
+    (ends_failed x _ _ _ (ended x _ _ h _ _ _ (λ p s. let w = (rw c.in-Ok-Over.field-0-is at c.in-Ok-Over.ensures) p s in (w.0, w.1, w.3))) _ c.in_err-flush-in-Ok-Over.ensures.flushes)
 
 pub returns-in_ok-flush-in-Ok-Over : goal.returns-in_ok-flush-in-Ok-Over
 returns-in_ok-flush-in-Ok-Over g c = λ x h.
-    ends_flushed x _ _ _ (ended x _ _ h _ _ _ _ (rw c.in-Ok-Over.field-0-is at c.in-Ok-Over.ensures)) c.in_ok-flush-in-Ok-Over.ensures.flushes
+    ends_flushed x _ _ _ (ended x _ _ h _ _ _ (λ p s. let w = (rw c.in-Ok-Over.field-0-is at c.in-Ok-Over.ensures) p s in (w.0, w.1, w.3))) c.in_ok-flush-in-Ok-Over.ensures.flushes
 
 pub returns-in-Err : goal.returns-in-Err
 returns-in-Err g c = λ x h. failed x _ _ h c.requires.running _ _ _ _ c.in-Err.ensures c.failed.ensures
