@@ -1156,17 +1156,20 @@ def make(call, words, room):
     return wrong
 
 
-def make_all(program):
-    """Makes all calls of the program, outside the repository, and as nobody if this is root. Returns whether all had the expected result."""
-    drop, failed = rt.drop_to_nobody(), 0
-    if drop is None:
-        print(f"{PROGRAM} was not called: as root, it is called only as nobody, and setpriv failed here")
-        return False
-    with tempfile.TemporaryDirectory(prefix="calls-") as room:
-        os.chmod(room, 0o711)
-        copy, folder = f"{room}/{PROGRAM}", f"{room}/files"
-        shutil.copyfile(program, copy)
-        os.chmod(copy, 0o755)
+class Prepared:
+    """A folder outside the repository with a copy of a program and the files of the calls. It is removed at the end of its `with`."""
+
+    def __init__(self, program):
+        self.given = program
+
+    def __enter__(self):
+        self.drop = rt.drop_to_nobody()
+        self.kept = tempfile.TemporaryDirectory(prefix="calls-")
+        self.room = self.kept.name
+        os.chmod(self.room, 0o711)
+        self.program, folder = f"{self.room}/{PROGRAM}", f"{self.room}/files"
+        shutil.copyfile(self.given, self.program)
+        os.chmod(self.program, 0o755)
         os.mkdir(folder)
         for name, text in FILES.items():
             with open(f"{folder}/{name}", "wb") as it:
@@ -1175,9 +1178,24 @@ def make_all(program):
         for name in PIPES:
             os.mkfifo(f"{folder}/{name}")
             os.chmod(f"{folder}/{name}", 0o644)
-        made = [*CALLS, *calls_of_examples(folder)]
+        self.of_examples = calls_of_examples(folder)
+        self.words = [*(self.drop or []), self.program]
+        return self
+
+    def __exit__(self, *_):
+        self.kept.cleanup()
+
+
+def make_all(program):
+    """Makes all calls of the program, outside the repository, and as nobody if this is root. Returns whether all had the expected result."""
+    failed = 0
+    if rt.drop_to_nobody() is None:
+        print(f"{PROGRAM} was not called: as root, it is called only as nobody, and setpriv failed here")
+        return False
+    with Prepared(program) as prepared:
+        made = [*CALLS, *prepared.of_examples]
         for call in made:
-            wrong = make(call, [*drop, copy], room)
+            wrong = make(call, prepared.words, prepared.room)
             failed += bool(wrong)
             for it in wrong:
                 print(f"{PROGRAM} {call.words}, to {call.to}, {call.errors_to}: {it}")

@@ -1,0 +1,573 @@
+#!/usr/bin/env python3
+"""tools/texts.py [--program PROGRAM] [--list] [FILE..]: changes each text that the built program can print, and looks for a stored case
+that fails.
+
+The texts are the literals in the code of crates/*/src, without contracts and tests. Each place at which the code of the program refers to
+one is changed by itself, in a copy: it then refers to other bytes, so another text of the same length is printed. If no case fails, a
+byte of the text is changed where it stands, and so it is with texts that the compiler put into instructions or copies in parts. Of the
+cases whose expected output has the text, those are run that have most of the other texts of its file, until one fails. The cases are
+those of cases/*.toml, the calls of tools/calls.py, docs/HELP.md and the explanations.
+
+It lists the texts that no case shows, and those that are changed and no case fails, and counts those without a place: they have three
+bytes or fewer. Most of what it lists is no gap: a text that the program compares by numbers in its instructions, and a short one that
+so many outputs have that the right case is not among those that are run. So ./gate does not run it. With files it is about the texts of
+these alone. --list runs nothing: it lists the texts that no case shows. Without --program it takes the program that ./simulate built.
+tools/texts_test.py tests this, in ./gate."""
+
+import bisect
+import glob
+import heapq
+import multiprocessing
+import os
+import re
+import shutil
+import struct
+import sys
+import tempfile
+from collections import defaultdict
+from contextlib import ExitStack
+from typing import NamedTuple
+
+import calls
+import cases
+import unbuilt
+from kit import TOP, rt
+from program import Room
+
+PROGRAM = "fbsim"
+# The most cases that are run for one change before the text counts as shown by none.
+MOST_TRIED = 150
+# Outputs over this many bytes are traces, whose texts shorter ones have too.
+MOST_SHOWN = 20_000
+# Cases with more steps than this in a tick take seconds.
+MOST_STEPS = 1_000_000
+# A text of a file that a case has to have in common with a changed one, so that its code was probably reached, has this many bytes.
+TELLING = 4
+# The sections in which texts stand.
+HOLDING = (".rodata", ".data.rel.ro")
+# The least bytes of a text that is looked for among the numbers of instructions, and the most that one of these has.
+LEAST, WORD = 4, 8
+# Crates that print nothing, or only for tests.
+SILENT = ("fb_tests",)
+
+TOKEN = re.compile(
+    r"""(?P<note>//[^\n]*)
+    |(?P<text>b?"(?:\\.|[^"\\])*")
+    |(?P<letter>b?'(?:\\.|[^'\\])')
+    |(?P<clause>\b(?:requires|ensures\*?)(?=\s|\{)[^{]*\{)
+    |(?P<ghost>\bghost\s+use\b[^;]*;)
+    |(?P<message>\#\[error\([^\n]*)
+    |(?P<tests>\#\[cfg\(test\)\])
+    |(?P<name>\bfn\s+\w+)
+    |(?P<macro>\b(?:format|write|writeln)!\()""",
+    re.X | re.S,
+)
+# Whether an oracle failed, by the changes that were tried.
+NOTICED = {}
+
+ESCAPES = {"n": "\n", "r": "\r", "t": "\t", "0": "\0", "\\": "\\", '"': '"', "'": "'"}
+ESCAPE = re.compile(r"\\(x[0-9a-fA-F]{2}|\n\s*|.)", re.S)
+SLOT = re.compile(r"\{\{|\}\}|\{[^{}]*\}")
+
+
+class Literal(NamedTuple):
+    """A text of a source, or the part of one between two slots."""
+
+    path: str
+    line: int
+    function: str
+    text: bytes
+
+
+class Use(NamedTuple):
+    """A place of the program that refers to a text: the function's symbol, the literal, and the changes of the program that show whether a
+    case fails, each as an offset and the bytes that are written there."""
+
+    symbol: str
+    literal: Literal
+    changes: list
+
+
+# ---- The texts of the sources.
+
+
+def meant(escape):
+    """Returns what an escape in a literal stands for. A line feed and the blanks after it stand for nothing."""
+    it = escape[1]
+    if it[0] == "x" and len(it) == 3:
+        return chr(int(it[1:], 16))
+    return "" if it[0] == "\n" else ESCAPES.get(it, it)
+
+
+def plain(text):
+    """Returns what a literal stands for."""
+    return ESCAPE.sub(meant, text[text.index('"') + 1 : -1])
+
+
+def end_of_braces(source, at):
+    """Returns where the braces end that are open at this place."""
+    depth = 1
+    for it in re.compile(r'"(?:\\.|[^"\\])*"|[{}]').finditer(source, at):
+        depth += {"{": 1, "}": -1}.get(it[0], 0)
+        if not depth:
+            return it.end()
+    return len(source)
+
+
+def end_of_item(source, at):
+    """Returns where the item ends that follows this place."""
+    found = re.compile(r"[{;]").search(source, at)
+    return len(source) if not found else found.end() if found[0] == ";" else end_of_braces(source, found.end())
+
+
+def literals_of(path, source):
+    """Returns the texts of a source."""
+    found, at, function, in_macro = [], 0, "", False
+    while it := TOKEN.search(source, at):
+        at = it.end()
+        if it["clause"]:
+            at = end_of_braces(source, at)
+        elif it["tests"]:
+            at = end_of_item(source, at)
+        elif it["name"]:
+            function = it["name"].split()[1]
+        elif it["macro"]:
+            in_macro = True
+        elif it["text"]:
+            line = source.count("\n", 0, it.start()) + 1
+            whole = plain(it["text"])
+            parts = parts_of(whole) if in_macro else [whole]
+            found += [Literal(path, line, function, part.encode()) for part in parts if part]
+            in_macro = False
+    return found
+
+
+def parts_of(whole):
+    """Returns the parts of a text between its slots. A brace that is written twice is one of the text."""
+    parts, at = [""], 0
+    for it in SLOT.finditer(whole):
+        parts[-1] += whole[at : it.start()]
+        at = it.end()
+        if it[0] in ("{{", "}}"):
+            parts[-1] += it[0][0]
+        else:
+            parts.append("")
+    parts[-1] += whole[at:]
+    return parts
+
+
+def all_literals(paths=()):
+    """Returns the texts of all crates, or of these files."""
+    found = []
+    for path in paths or sorted(glob.glob(f"{TOP}/crates/*/src/**/*.rt", recursive=True)):
+        relative = os.path.relpath(path, TOP)
+        if relative.split(os.sep)[1] not in SILENT:
+            with open(path, encoding="utf-8") as it:
+                found += literals_of(relative, it.read())
+    return found
+
+
+# ---- Their places in the program.
+
+
+class Elf:
+    """The sections of a program, its relocations and the names of its functions."""
+
+    def __init__(self, data):
+        self.data, self.sections = data, {}
+        at, size, count, names = struct.unpack_from("<Q", data, 40)[0], *struct.unpack_from("<HHH", data, 58)
+        rows = [struct.unpack_from("<IIQQQQIIQQ", data, at + size * it) for it in range(count)]
+        for row in rows:
+            begin = rows[names][4] + row[0]
+            # name: the address, the offset, the size
+            self.sections[data[begin : data.index(b"\0", begin)].decode()] = (row[3], row[4], row[5])
+        self.symbols = sorted(self.functions())
+        self.begins = [it[0] for it in self.symbols]
+
+    def functions(self):
+        if ".symtab" not in self.sections:
+            return
+        _, at, size = self.sections[".symtab"]
+        _, names, _ = self.sections[".strtab"]
+        for it in range(at, at + size, 24):
+            name, info, _, _, value, _ = struct.unpack_from("<IBBHQQ", self.data, it)
+            if info & 15 == 2:
+                begin = names + name
+                yield value, self.data[begin : self.data.index(b"\0", begin)].decode(errors="replace")
+
+    def symbol(self, address):
+        """Returns the name of the function that an address is in."""
+        at = bisect.bisect_right(self.begins, address) - 1
+        return self.symbols[at][1] if at >= 0 else ""
+
+    def offset(self, address):
+        """Returns the offset of an address at which a text may stand, or None."""
+        for name in HOLDING:
+            begin, offset, size = self.sections.get(name, (0, 0, 0))
+            if begin <= address < begin + size:
+                return address - begin + offset
+        return None
+
+    def references(self):
+        """Returns each reference to constants: its target, the address of the reference, the offset and the form of its number."""
+        begin, offset, size = self.sections[".text"]
+        code = self.data[offset : offset + size]
+        # lea of an address relative to the next instruction
+        for it in re.finditer(rb"[\x48\x4c]\x8d[\x05\x0d\x15\x1d\x25\x2d\x35\x3d]", code):
+            if it.start() + 7 <= size:
+                at = it.start()
+                target = begin + at + 7 + struct.unpack_from("<i", code, at + 3)[0]
+                if self.offset(target) is not None:
+                    yield target, begin + at, offset + at + 3, "<i"
+        _, at, size = self.sections.get(".rela.dyn", (0, 0, 0))
+        for it in range(at, at + size, 24):
+            where, kind, target = struct.unpack_from("<QQq", self.data, it)
+            if kind & 0xFFFFFFFF == 8 and self.offset(target) is not None:
+                yield target, where, it + 16, "<q"
+
+
+def tables(elf, references, known):
+    """Returns the references in tables of distances to texts, which a compiler makes of a match. A table has the distances from itself."""
+    starts = sorted({it[0] for it in references})
+    for at, end in zip(starts, [*starts[1:], starts[-1] + 4]):
+        offset = elf.offset(at)
+        if at % 4 or offset is None:
+            continue
+        row = []
+        for place in range(offset, offset + end - at - 3, 4):
+            target = at + struct.unpack_from("<i", elf.data, place)[0]
+            if elf.offset(target) is None or not texts_at(elf, target, known):
+                break
+            row.append((target, at, place, "<i"))
+        if len(row) > 1:
+            yield from row
+
+
+def texts_at(elf, address, known):
+    """Returns the texts that stand at an address, the longest first."""
+    offset = elf.offset(address)
+    if offset is None:
+        return []
+    sizes = known["sizes"]
+    return [it for size in sizes if (it := elf.data[offset : offset + size]) in known["texts"]]
+
+
+def module_of(path):
+    """Returns the beginning of the symbols of a source's functions."""
+    parts = path.removesuffix(".rt").split("/")
+    return "::".join([parts[1], *[it for it in parts[3:] if it not in ("lib", "main")]])
+
+
+def likeness(elf, starts, literal, address, symbol, place):
+    """Returns how well a literal fits a reference: the function, the module, its length among the numbers of the code round the
+    reference, the text's end at the beginning of another, the crate."""
+    size = len(literal.text)
+    near = elf.data[max(place - 43, 0) : place + 44]
+    crate = literal.path.split("/")[1]
+    return (
+        symbol.startswith(module_of(literal.path)) and f"::{literal.function}" in symbol,
+        symbol.startswith(module_of(literal.path)),
+        struct.pack("<I", size) in near,
+        address + size in starts,
+        symbol.startswith(f"{crate}::"),
+        size,
+    )
+
+
+def is_sure(fit):
+    """Returns whether a literal is what a reference in the code is about."""
+    _, in_module, is_near, is_whole, in_crate, size = fit
+    return (in_module or (is_whole and (in_crate or size >= TELLING))) and (size >= TELLING or is_near or is_whole)
+
+
+def length_at(elf, address):
+    """Returns the number after a pointer in constants, which is the length of what it points to, if that is a text."""
+    offset = elf.offset(address)
+    return 0 if offset is None else struct.unpack_from("<Q", elf.data, offset + 8)[0]
+
+
+def shifted(elf, address, size):
+    """Returns how far from an address other bytes stand."""
+    offset = elf.offset(address)
+    text = elf.data[offset : offset + size]
+    return next(it for it in (1, -1, 2, -2, 3, 4, 5, 6, 7, 8) if elf.data[offset + it : offset + it + size] != text)
+
+
+def uses_of(data, literals):
+    """Returns the places of a program at which it refers to these texts, or has them itself."""
+    elf = Elf(data)
+    by_text = defaultdict(list)
+    for it in literals:
+        by_text[it.text].append(it)
+    known = {"texts": by_text, "sizes": sorted({len(it) for it in by_text}, reverse=True)}
+    found = list(elf.references())
+    found += tables(elf, found, known)
+    starts = {it[0] for it in found}
+    uses = []
+    for target, where, place, form in found:
+        texts = texts_at(elf, target, known)
+        size = length_at(elf, where) if form == "<q" else 0
+        texts = [it for it in texts if len(it) == size] or texts
+        if texts:
+            symbol = elf.symbol(where) if form == "<i" else ""
+            best = max((it for text in texts for it in by_text[text]), key=lambda it: likeness(elf, starts, it, target, symbol, place))
+            if len(best.text) != size and not is_sure(likeness(elf, starts, best, target, symbol, place)):
+                continue
+            number = struct.unpack_from(form, data, place)[0] + shifted(elf, target, len(best.text))
+            # (a reference may be read by no code any more, which then has the bytes themselves)
+            changes = [(place, struct.pack(form, number)), changed_byte(best.text, elf.offset(target))]
+            uses.append(Use(symbol, best, changes))
+    referred = {it.literal.text for it in uses}
+    for text in by_text.keys() - referred:
+        uses += copies(elf, by_text[text])
+    return uses
+
+
+def changed_byte(text, at):
+    """Returns the change of the first byte of a text at an offset."""
+    return at, bytes([text[0] ^ 1])
+
+
+def copies(elf, them):
+    """Returns the places at which a program has a text to which nothing refers: it is copied in parts, or stands in instructions."""
+    text = them[0].text
+    if len(text) < LEAST:
+        return []
+    whole = re.escape(text)
+    part = re.escape(text[:WORD] if len(text) >= WORD else text[:LEAST])
+    found = []
+    for name, sought in [*((it, whole) for it in HOLDING), (".text", part)]:
+        begin, offset, size = elf.sections.get(name, (0, 0, 0))
+        for it in re.finditer(sought, elf.data[offset : offset + size], re.S):
+            symbol = elf.symbol(begin + it.start()) if name == ".text" else ""
+            own = [one for one in them if symbol.startswith(module_of(one.path))] or them
+            found.append(Use(symbol, own[0], [changed_byte(text, offset + it.start())]))
+    return found
+
+
+# ---- The cases that show them.
+
+
+class Oracle(NamedTuple):
+    """Something to run: its name, what it must print, and the test of whether a program, in a room for it, does so."""
+
+    name: str
+    shown: bytes
+    holds: object
+    size: int
+
+
+def of_case(case):
+    _, wrote, errors = cases.expected_result(case)
+    return Oracle(case.place, wrote + errors, lambda rooms: cases.fault_of(rooms.cases, case) is None, sum(map(len, case.fields.values())))
+
+
+def of_call(call):
+    shown = (call.out or b"") + (call.err or b"") + "\n".join(call.has).encode()
+    size = len(shown) + 1000 * (call.memory is not None)
+    name = f"calls.py, {' '.join(map(str, call.words))[:80]}"
+    return Oracle(name, shown, lambda rooms: not calls.make(call, rooms.words, rooms.calls.room), size)
+
+
+def of_words(words, shown):
+    """Returns that these words print a text on standard output, and nothing else."""
+
+    def holds(rooms):
+        ran = rooms.cases.call(words)
+        return (ran.returncode, ran.stdout, ran.stderr) == (0, shown, b"")
+
+    return Oracle(" ".join(words), shown, holds, len(shown))
+
+
+def printed_texts():
+    """Returns the help of each command, and the explanations."""
+    helps = {("--help",) if not it else (it, "--help"): text for it, text in unbuilt.helps().items()}
+    explained = {("explain", it): text for it, text in unbuilt.explanations().items()}
+    return [of_words([*words], text.encode()) for words, text in {**helps, **explained}.items()]
+
+
+def is_long(case):
+    """Returns whether a case takes many steps."""
+    return int(case.fields.get("steps", b"0")) > MOST_STEPS
+
+
+def has_pipe(call):
+    """Returns whether a call reads a named pipe. A changed program may leave there what the next call reads."""
+    return not calls.PIPES.keys().isdisjoint(call.words)
+
+
+def oracles():
+    """Returns all of them, but those with long outputs."""
+    stored = [of_case(it) for path in sorted(glob.glob(f"{TOP}/cases/*.toml")) for it in cases.cases_of(path) if not is_long(it)]
+    made = [of_call(it) for it in calls.CALLS if it.to == "pipe" and it.errors_to in ("pipe", "terminal") and not it.memory and not has_pipe(it)]
+    return [it for it in [*stored, *made, *printed_texts()] if len(it.shown) <= MOST_SHOWN]
+
+
+class Rooms:
+    """Copies of a program, for cases and for calls, in which the same bytes are changed."""
+
+    def __init__(self, program):
+        self.cases = Room(program)
+        self.calls = calls.Prepared(program)
+
+    def write(self, at, new):
+        for path in (self.cases.program, self.calls.program):
+            with open(path, "r+b") as it:
+                it.seek(at)
+                it.write(new)
+
+    def __enter__(self):
+        self.cases.__enter__()
+        self.words = self.calls.__enter__().words
+        return self
+
+    def __exit__(self, *given):
+        self.cases.__exit__(*given)
+        self.calls.__exit__(*given)
+
+
+class Ranking:
+    """Which oracles show which texts. A set of texts is a number with a bit for each."""
+
+    def __init__(self, literals, found):
+        texts = sorted({it.text for it in literals})
+        self.found, self.bits = found, {text: 1 << at for at, text in enumerate(texts)}
+        self.shown = [sum(bit for text, bit in self.bits.items() if text in it.shown) for it in found]
+        self.of_file, self.of_function = defaultdict(int), defaultdict(int)
+        for it in literals:
+            if len(it.text) >= TELLING:
+                self.of_file[it.path] |= self.bits[it.text]
+                self.of_function[it.path, it.function] |= self.bits[it.text]
+
+    def order(self, literal):
+        """Returns the oracles that show a text, or all if none does. Those that show most of the texts of its function and its file come
+        first."""
+        bit = self.bits[literal.text]
+        own, near = self.of_function[literal.path, literal.function], self.of_file[literal.path]
+        fit = [at for at, texts in enumerate(self.shown) if texts & bit] or range(len(self.found))
+        score = lambda at: (-(self.shown[at] & own).bit_count(), -(self.shown[at] & near).bit_count(), self.found[at].size)
+        return [self.found[at] for at in heapq.nsmallest(MOST_TRIED, fit, key=score)]
+
+
+def is_noticed(rooms, data, use, order):
+    """Returns whether one of the oracles fails for a changed program, and holds for the program as it is."""
+    return any(is_change_noticed(rooms, data, change, order) for change in use.changes)
+
+
+def is_change_noticed(rooms, data, change, order):
+    """Returns whether one of the oracles fails for a change of the program. What was found of a change is kept."""
+    if change not in NOTICED:
+        at, new = change
+        old = data[at : at + len(new)]
+        NOTICED[change] = False
+        for oracle in order:
+            rooms.write(at, new)
+            holds = oracle.holds(rooms)
+            rooms.write(at, old)
+            if not holds and oracle.holds(rooms):
+                NOTICED[change] = True
+                break
+    return NOTICED[change]
+
+
+class Work(NamedTuple):
+    """What a process needs to try the uses: the rooms, of which it takes one, the program's bytes, the uses, and which oracles show what."""
+
+    rooms: list
+    free: object
+    data: bytes
+    uses: list
+    ranking: Ranking
+
+
+class Worker:
+    """The room of this process, and the work that it does there."""
+
+    work, room = None, None
+
+    @staticmethod
+    def begin(work):
+        Worker.work, Worker.room = work, work.rooms[work.free.get()]
+
+    @staticmethod
+    def tried(number):
+        """Returns whether an oracle fails for a change, and whether one shows the text."""
+        work = Worker.work
+        use = work.uses[number]
+        order = work.ranking.order(use.literal)
+        return is_noticed(Worker.room, work.data, use, order), use.literal.text in order[0].shown
+
+
+def try_uses(rooms, data, uses, literals, found):
+    """Returns the uses that no oracle shows, and those that are changed and no oracle fails. Each of the rooms has one change at a time.
+
+    Each has a process of its own. A file that is written can't be run, and threads that start programs would hold it open for others."""
+    own = multiprocessing.get_context("fork")
+    work = Work(rooms, own.SimpleQueue(), data, uses, Ranking(literals, found))
+    for number in range(len(rooms)):
+        work.free.put(number)
+    unshown, survived = [], []
+    with own.Pool(len(rooms), Worker.begin, [work]) as pool:
+        for number, (noticed, is_shown) in enumerate(pool.imap(Worker.tried, range(len(uses)), 4)):
+            if not noticed:
+                (survived if is_shown else unshown).append(uses[number])
+            if number % 100 == 99:
+                print(f"texts: {number + 1} of {len(uses)}, {len(survived)} survived", file=sys.stderr, flush=True)
+    return unshown, survived
+
+
+def shown(use):
+    it = use.literal
+    return f"{it.path}:{it.line}: {it.function}: {it.text.decode(errors='replace')!r}" + f" (in {use.symbol})" * (use.symbol != "")
+
+
+def report(literals, uses, unshown, survived):
+    """Prints what was found, and returns whether all is well."""
+    used = {it.literal.text for it in uses}
+    inlined = {it.text for it in literals} - used
+    for name, them in (("no case shows", unshown), ("changed, and no case fails", survived)):
+        for it in sorted(set(map(shown, them))):
+            print(f"{name}: {it}")
+    print(f"texts: {len(uses)} places of {len(used)} texts, {len(inlined)} texts without a place")
+    print(f"texts: {len(unshown)} that no case shows, {len(survived)} that no case fails for")
+    return not unshown and not survived
+
+
+def try_all(program, paths=()):
+    """Changes each text of a program, or those of these files, and returns whether a case fails for each."""
+    literals, found = all_literals(), oracles()
+    with open(program, "rb") as it:
+        data = it.read()
+    uses = [it for it in uses_of(data, literals) if not paths or it.literal.path in paths]
+    # Each run of a system is on one thread: the texts are the same for each number of workers.
+    ways, cases.WAYS = cases.WAYS, {command: ways[:1] for command, ways in cases.WAYS.items()}
+    try:
+        with ExitStack() as kept:
+            # (the help has the name by which the program is called)
+            called = f"{kept.enter_context(tempfile.TemporaryDirectory(prefix='texts-'))}/{PROGRAM}"
+            shutil.copyfile(program, called)
+            rooms = [kept.enter_context(Rooms(called)) for _ in range(rt.processors())]
+            unshown, survived = try_uses(rooms, data, uses, literals, found)
+    finally:
+        cases.WAYS = ways
+    return report([it for it in literals if not paths or it.path in paths], uses, unshown, survived)
+
+
+def list_unshown(paths):
+    """Prints the texts that no case shows, of all files or of these. Returns whether there are none."""
+    found, literals = oracles(), [it for it in all_literals() if not paths or it.path in paths]
+    unshown = [Use("", it, []) for it in literals if not any(it.text in oracle.shown for oracle in found)]
+    return report(literals, [Use("", it, []) for it in literals], unshown, [])
+
+
+def main(given):
+    program = f"{TOP}/crates/{PROGRAM}/out/{PROGRAM}"
+    if given[:1] == ["--program"]:
+        program, given = os.path.abspath(given[1]), given[2:]
+    lists = given[:1] == ["--list"]
+    paths = {os.path.relpath(it, TOP) for it in given[lists:]}
+    return list_unshown(paths) if lists else try_all(program, paths)
+
+
+if __name__ == "__main__":
+    sys.exit(not main(sys.argv[1:]))

@@ -1,0 +1,144 @@
+#!/usr/bin/env python3
+"""tools/texts_test.py: checks that tools/texts.py finds the texts of a source, and distinguishes those that a case shows to the byte from
+others, in a small program.
+
+The program is made by the kit's clang. It prints one text for each number that it is given, on standard output. ./gate runs this."""
+
+import os
+import subprocess
+import sys
+import tempfile
+
+import texts
+from kit import rtlib
+
+SOURCE = r'''
+//! "no text": a note
+ghost use A.{"no text"};
+const AGAIN: &str = " is \"given\" twice\n";
+/// Says "no text".
+fn first(text: &mut Text)
+    requires { text ≡ codes "a clause" }
+    ensures { result ≡ codes "a clause { of braces }" × { nested } }
+{
+    text.words("the first"); // "a note"
+    let letter = '"';
+    write!(text, "row {row}: {{{word}}}, {}", 'x')
+}
+#[error("no text that is printed")]
+static SIGNS: [(Mark, &[u8]); 2] = [(Mark::Less, b"<"), (Mark::End, b"\x1b[0m")];
+#[cfg(test)]
+mod tests {
+    fn no() { words("no text"); }
+}
+fn last() { format!(in alloc; "{name}; \
+    goes on") }
+'''
+FOUND = [
+    ("", ' is "given" twice\n'),
+    ("first", "the first"),
+    ("first", "row "),
+    ("first", ": {"),
+    ("first", "}, "),
+    ("first", "<"),
+    ("first", "\x1b[0m"),
+    ("last", "; goes on"),
+]
+# A text for 1 and 2, which are referred to, for 3 and 4 by a table, for 5 in an instruction, and for 6 one that nobody asks for.
+PROGRAM = r"""
+static long call(long n, long a, long b, long c) {
+    long r;
+    __asm__ volatile("syscall" : "=a"(r) : "a"(n), "D"(a), "S"(b), "d"(c) : "rcx", "r11", "memory");
+    return r;
+}
+__attribute__((noinline)) static void put(const char *text, long size) { call(1, 1, (long)text, size); }
+static const char *const by_number[] = {"the third text", "the fourth text"};
+static const long sizes[] = {14, 15};
+void print(char number) __asm__("fb_stub::words::print");
+__attribute__((noinline)) void print(char number) {
+    volatile char room[8];
+    switch (number) {
+    case '1': put("the first text", 14); break;
+    case '2': put("the second text", 15); break;
+    case '3': case '4': put(by_number[number - '3'], sizes[number - '3']); break;
+    case '5': *(volatile long *)room = *(const long *)"and five"; put((const char *)room, 8); break;
+    case '6': put("the sixth text", 14); break;
+    }
+}
+__attribute__((force_align_arg_pointer)) void _start(void) {
+    char number = 0;
+    while (call(0, 0, (long)&number, 1) == 1) print(number);
+    call(60, 0, 0, 0);
+}
+"""
+TEXTS = {"1": b"the first text", "2": b"the second text", "3": b"the third text", "4": b"the fourth text", "5": b"and five", "6": b"the sixth text"}
+
+
+class Copy:
+    """A copy of a program in which bytes are changed."""
+
+    def __init__(self, folder, data):
+        self.path = f"{folder}/copy"
+        self.write_all(data)
+
+    def write_all(self, data):
+        with open(self.path, "wb") as it:
+            it.write(data)
+        os.chmod(self.path, 0o755)
+
+    def write(self, at, new):
+        with open(self.path, "r+b") as it:
+            it.seek(at)
+            it.write(new)
+
+    def printed(self, numbers):
+        return subprocess.run([self.path], input=numbers.encode(), capture_output=True, check=True).stdout
+
+
+def made(folder):
+    """Returns the program's bytes."""
+    with open(f"{folder}/stub.c", "w", encoding="utf-8") as it:
+        it.write(PROGRAM)
+    words = [f"{rtlib.KIT}/toolchain/bin/clang", "-O2", "-fPIE", "-static-pie", "-ffreestanding", "-fno-builtin", "-nostdlib", "-fuse-ld=lld"]
+    subprocess.run([*words, "-o", f"{folder}/stub", f"{folder}/stub.c"], check=True)
+    with open(f"{folder}/stub", "rb") as it:
+        return it.read()
+
+
+def oracle(numbers, looks_at):
+    """Returns an oracle that compares the first bytes of what the numbers print, this many."""
+    shown = b"".join(TEXTS[it] for it in numbers)
+    return texts.Oracle(numbers, shown, lambda rooms: rooms.printed(numbers)[:looks_at] == shown[:looks_at], len(shown))
+
+
+def faults_of_program():
+    """Returns what is wrong with what is found in the small program."""
+    literals = [texts.Literal("crates/fb_stub/src/words.rt", 1, "print", it) for it in TEXTS.values()]
+    with tempfile.TemporaryDirectory(prefix="texts-") as folder:
+        data = made(folder)
+        copy = Copy(folder, data)
+        uses = texts.uses_of(data, literals)
+        # The second text is shown, and no case looks at it. No case shows the sixth.
+        found = [oracle("1", 99), oracle("12", 14), oracle("34", 99), oracle("5", 99)]
+        if not all(it.holds(copy) for it in found):
+            return ["the small program does not print what it should"]
+        unshown, survived = texts.try_uses([copy], data, uses, literals, found)
+        with open(copy.path, "rb") as it:
+            is_whole = it.read() == data
+    came = ({it.literal.text for it in uses}, {it.literal.text for it in unshown}, {it.literal.text for it in survived}, is_whole)
+    expected = ({*TEXTS.values()}, {TEXTS["6"]}, {TEXTS["2"]}, True)
+    return [f"expected {it}; got {was}" for it, was in zip(expected, came) if it != was]
+
+
+def main():
+    found = [(it.function, it.text.decode()) for it in texts.literals_of("crates/fb_stub/src/lib.rt", SOURCE)]
+    faults = [] if found == FOUND else [f"the texts of a source: expected {FOUND}; got {found}"]
+    faults += faults_of_program()
+    for it in faults:
+        print(f"texts_test: {it}")
+    print(f"texts_test: {len(faults)} faults")
+    return bool(faults)
+
+
+if __name__ == "__main__":
+    sys.exit(main())
