@@ -15,6 +15,12 @@ pub lines-none : (ts : List (Vec ℕ)) (made : List FileLines) → length ts ≡
 lines-none [] made none is = is
 lines-none (t ∷ ts) made none is = absurd (omega arith)
 
+-- an element is the same, whatever stands beyond the end
+pub same-item : {X : Type 0} (xs : List X) (i : ℕ) (d e : X) → i < length xs → get_or xs i d ≡ get_or xs i e
+same-item [] i d e there = absurd (omega (arith, there))
+same-item (x ∷ xs) zero d e there = refl
+same-item (x ∷ xs) (suc i) d e there = same-item xs i d e (omega (arith, there))
+
 -- the count of a file is at the same index
 pub count-at : (lines : List FileLines) (i : ℕ) (own : FileLines) → i < length lines → own ≡ get_or lines i own → own.count ≡ get_or (counts lines) i 0
 count-at [] i own there is = absurd (omega (arith, there))
