@@ -18,6 +18,6 @@ returns-in-Ok-judge-clause-held g c =
 pub returns-in-Err-Read-clause-unheld : goal.returns-in-Err-Read-clause-unheld
 returns-in-Err-Read-clause-unheld g c = inr (_, c.in-Ok.ensures)
 
-pub returns-clause-unheld : goal.returns-in-Err-Refused-clause-unheld
+pub returns-clause-unheld : goal.returns-clause-unheld
 returns-clause-unheld g c =
     refused-at g.S.Streams.opens c.args.source.now c.open.new.self c.args.name.now c.in-Err-Refused.line _ c.refused_trace.result c.in-Ok.ensures c.refused_trace.ensures

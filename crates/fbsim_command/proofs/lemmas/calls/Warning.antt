@@ -9,7 +9,6 @@ use Rattle.fb_sim.specs.declared.outcome.Refusal.TheVariants as of
 use Rattle.fb_sim.specs.declared.outcome.RunError.TheVariants as run
 use Rattle.fbsim_command.specs.Outcomes.{IsUndeclared}
 use Rattle.fbsim_command.proofs.lemmas.calls.Reporting.{quiet}
-use Rattle.fbsim_command.specs.declared.join.FileLines.{FileLines}
 
 -- the inputs are refused
 pub undeclared : (given : Given) (error : RunError) → IsRefusal given error → IsUndeclared given (failure_of error)
@@ -38,12 +37,12 @@ undeclared given run.BadOption is = absurd is
 undeclared given run.Failed is = absurd is
 
 -- where there is no warning
-pub heard_none : (err : Held) (lines : List FileLines) → lines ≡ [] → Hears true err err lines
+pub heard_none : (err : Held) (lines : List ℕ) → lines ≡ [] → Hears true err err lines
 heard_none err lines none = subst (λ (l : List ℕ). Hears true err err l) (sym none) (quiet err)
 
 -- where a writer took as many bytes of the lines as it says
 pub heard_lines :
-    (old new : Held) (lines : List FileLines) (n : ℕ) (b : Bool) → (lines ≡ [] → ⊥) → n ≤ length lines → Appends old new (take n lines) → (IsTrue b → n ≡ length lines) → Hears b old new lines
+    (old new : Held) (lines : List ℕ) (n : ℕ) (b : Bool) → (lines ≡ [] → ⊥) → n ≤ length lines → Appends old new (take n lines) → (IsTrue b → n ≡ length lines) → Hears b old new lines
 heard_lines old new lines n b some few got all = record {
   front = take n lines;
   rest = drop n lines;
@@ -53,6 +52,6 @@ heard_lines old new lines n b some few got all = record {
   none = λ e. absurd (some e);
 }
 
-pub no_lines : (lines : List FileLines) → length lines ≡ 0 → lines ≡ []
+pub no_lines : (lines : List ℕ) → length lines ≡ 0 → lines ≡ []
 no_lines [] none = refl
 no_lines (l ∷ ls) none = absurd (omega (arith, none))
