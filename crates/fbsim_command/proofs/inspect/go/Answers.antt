@@ -13,7 +13,8 @@ use Rattle.fbsim_command.proofs.inspect.go.Goals as goal
 
 pub returns-in_err-only-clause-fault : goal.returns-in_err-only-clause-fault
 returns-in_err-only-clause-fault g c =
-    on_err_any c.from_residual.result _ (front_none (system_of c.args.system.now) (selection_of c.args.inspect.now) c.args.inspect.now.steps (g.W.Write.contents c.args.out.now))
+    let none = front_none (system_of c.args.system.now) (selection_of c.args.inspect.now) c.args.inspect.now.steps (g.R.Read.remaining c.args.trace.now) (g.W.Write.contents c.args.out.now) in
+    on_err_any c.from_residual.result _ none.front
 
 abbrev uppers : List (Bor Text) → List Text
 uppers texts = map (λ t. upper t.now) texts
