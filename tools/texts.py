@@ -10,7 +10,7 @@ those of cases/*.toml, the calls of tools/calls.py, docs/HELP.md and the explana
 
 It lists the texts that no case shows, and those that are changed and no case fails, and counts those without a place: they have three
 bytes or fewer. Most of what it lists is no gap: a text that the program compares by numbers in its instructions, and a short one that
-so many outputs have that the right case is not among those that are run. So ./gate does not run it. With files it is about the texts of
+many outputs have, so that the right case is not among those that are run. So ./gate does not run it. With files it is about the texts of
 these alone. --list runs nothing: it lists the texts that no case shows. Without --program it takes the program that ./simulate built.
 tools/texts_test.py tests this, in ./gate."""
 

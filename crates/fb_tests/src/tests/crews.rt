@@ -13,14 +13,14 @@ use std::thread;
 use std::thread::{Threads, join};
 use std::time::{Clock, Duration};
 
-/// For this many workers threads are started in so many phases, and at least so many of them are at the gate at once in
-/// some phase: of few all, and of many more than there are processors.
+/// How many workers there are, in how many phases their threads are started, and how many workers meet at the gate in
+/// some phase at least: all of a few workers, and of many more than there are processors.
 static STARTS: [(usize, u64, u64); 3] = [(2, 1_000, 2), (3, 1_000, 3), (64, 400, 8)];
 
 /// How many workers the crews have, how many phases, and how many workers are at the gate at once.
 static CREWS: [(usize, u64, u64); 3] = [(2, 4_000, 2), (3, 4_000, 3), (64, 2_000, 17)];
 
-/// In one of so many phases jobs take time.
+/// Jobs take time in one phase of this number.
 const SLOW: u64 = 50;
 
 /// The gate at which jobs take their time, and what is seen of it.
@@ -127,7 +127,7 @@ fn expect_phase<R: Abort + Threads + Wait + Sync>(
     naps.ended.fetch_add(1, SeqCst);
 }
 
-/// At least so many workers were at the gate at once in some phase.
+/// At least `least` workers were at the gate at once in some phase.
 fn expect_together(rt: &impl Abort, naps: &Naps, least: u64) {
     let most = naps.most.swap(0, SeqCst);
     assert!(rt; least <= most, "the workers were not together");
