@@ -9,6 +9,7 @@ minute off.) A check of few lines always has one job: most of its time is the lo
 to take little processor time, so each of its checks has one job."""
 
 from concurrent.futures import FIRST_COMPLETED, ThreadPoolExecutor, wait
+from contextlib import nullcontext
 
 from kit import rt
 
@@ -24,6 +25,8 @@ FEW_LINES = 1_000
 MEMORY = 0.85
 # By how much the longest chain must be longer than the processors' share of all that is left.
 URGENT = 1.2
+# What ends the commands that are still running if the kit's script is interrupted. Older kits have no name for it.
+ENDING = getattr(rt, "ending", nullcontext)
 
 
 def chains(tasks):
@@ -54,7 +57,7 @@ def in_lanes(tasks, most_jobs=MOST_JOBS):
         rest = sum(tasks[it][1] for it in left) + sum(tasks[it][1] for it in begun) / 2
         return after[key] == max(after[it] for it in [*left, *begun]) and lanes * after[key] > URGENT * rest
 
-    with rt.ending(), ThreadPoolExecutor(lanes) as pool:
+    with ENDING(), ThreadPoolExecutor(lanes) as pool:
         while left or running:
             ready = [it for it in left if all(below in given for below in tasks[it][0])]
             lacks = False
