@@ -1,6 +1,6 @@
 //! Lines that have become final and are not written yet.
 
-ghost use Rattle.std.specs.Prelude.{◌≡◌, ◌<◌, ◌^◌, [], map, length, All, IfErr, IfOk, IfSome, None};
+ghost use Rattle.std.specs.Prelude.{◌≡◌, ◌<◌, ◌≤◌, ◌^◌, [], map, length, All, IfErr, IfOk, IfSome, None};
 ghost use Rattle.fb_system.specs.OfSystem.{BelongsTo};
 ghost use Rattle.fb_trace.specs.Merging.{flat};
 ghost use Rattle.fb_sim.specs.Rounds.{FailsToHandOut, HandsOut, AreUnwrittenOf};
@@ -32,7 +32,8 @@ const MOST: usize = 1_000_000_000_000;
 
 /// How many lines are in the lists, up to the greatest `usize`.
 fn count_in(lists: &[Vec<Line>]) -> usize
-    ensures { result < MOST → result ≡ length (flat lists.now) }
+    ensures count { result < MOST → result ≡ length (flat lists.now) }
+    ensures least { result ≤ length (flat lists.now) }
 {
     let mut count: usize = 0;
     for list in lists {
@@ -101,6 +102,7 @@ impl UnwrittenLines {
         ensures count { IfOk result (λ h. h.count ≡ length (flat lists.items)) }
         ensures few { IfOk result (λ h. h.count < 10 ^ 12) }
         ensures memory { IfErr result (λ e. e ≡ Memory) }
+        ensures many { IfErr result (λ e. 10 ^ 12 ≤ length (flat lists.items)) }
     {
         let count = count_in(&lists);
         if count >= MOST {
