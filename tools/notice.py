@@ -2,10 +2,11 @@
 """tools/notice.py [--write]: compares NOTICE with the libraries that the program links and with their licences in the kit.
 
 The libraries are those of the kit that crates.txt names for the program and the crates below it, and all that these need in turn. For
-each, NOTICE has the licence files in its folder of the kit, and which licence each of them is. With --write this writes NOTICE.
-./gate runs it."""
+each, NOTICE has the licence files in its folder of the kit, and which licence each of them is. NOTICE names the kits of one logic
+(`rt version` prints both), and the one here must be among them. With --write this writes NOTICE. ./gate runs it."""
 
 import os
+import re
 import sys
 
 from kit import TOP, crates_as_built, rtlib
@@ -25,10 +26,13 @@ Copyright 2026 Cambiroa maintainers
 
 Licensed under the Apache License, Version 2.0. The file LICENSE has its text.
 
-The program links these libraries of {kit}. Each licence is the one that the kit's files give, and the last column
-names them, in the kit's folder rattle/. Where none was found, ask the makers of the kit before you pass the program on.
+The program links these libraries of the Rattle kit: {kits}, with the logic {logic}. Each licence
+is the one that the kit's files give, and the last column names them, in the kit's folder rattle/. Where none was found, ask the makers
+of the kit before you pass the program on.
 
 """
+KIT = re.compile(r"rattle-kit-\w+")
+LOGIC = re.compile(r"\blogic (\w+)")
 TAIL = """
 The kit's archives c/libos_c.a and c/liblibc_c.a are linked too; no licence was found for them. The linker adds start-up files
 of the GNU C library (LGPL-2.1-or-later, with an exception for them) and of GCC (GPL-3.0-or-later with the GCC Runtime Library
@@ -65,22 +69,31 @@ def rows():
         yield f"{library:<18}{what:<18}{', '.join(f'{library}/{it}' for it in found)}".rstrip()
 
 
-def notice():
-    """Returns NOTICE as it must be."""
+def kits(known):
+    """Returns the names of the kits to be in NOTICE, and their logic: the kit here, and those that the text `known` has with its logic."""
     with open(f"{rtlib.KIT}/KIT-ID", encoding="utf-8") as it:
-        kit = it.readline().split()[0]
+        said = it.read()
+    logic = LOGIC.search(said)[1]
+    names = KIT.findall(known) if LOGIC.findall(known) == [logic] else []
+    return sorted({KIT.search(said)[0], *names}), logic
+
+
+def notice(known):
+    """Returns NOTICE as it must be, where `known` is what it is."""
+    names, logic = kits(known)
     heading = f"{'library':<18}{'licence':<18}given by"
-    return HEAD.format(kit=kit) + "\n".join([heading, *rows()]) + "\n" + TAIL
+    return HEAD.format(kits=" or ".join(names), logic=logic) + "\n".join([heading, *rows()]) + "\n" + TAIL
 
 
 def main(words=()):
     """Compares NOTICE, or writes it, and returns the status."""
+    with open(NOTICE, encoding="utf-8") as it:
+        known = it.read()
     if [*words] == ["--write"]:
         with open(NOTICE, "w", encoding="utf-8") as it:
-            it.write(notice())
+            it.write(notice(known))
         return 0
-    with open(NOTICE, encoding="utf-8") as it:
-        is_same = it.read() == notice()
+    is_same = known == notice(known)
     print("notice: NOTICE names each library of the program with its licence" if is_same else "notice: NOTICE is not up to date: tools/notice.py --write")
     return int(not is_same)
 
