@@ -156,3 +156,6 @@ IsShownWith cut i = state_waves.IsShownWith cut (system_of i)
 
 abbrev pub WritesFront : Inputs → (steps : ℕ) → (old new : Option (List ℕ)) → Type 0
 WritesFront i = state_waves.WritesFront (system_of i)
+
+abbrev pub WritesRead : Inputs → (steps : ℕ) → (input old new : Option (List ℕ)) → Type 0
+WritesRead i = state_waves.WritesRead (system_of i)

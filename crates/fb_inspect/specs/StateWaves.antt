@@ -1,15 +1,18 @@
 -- What comes of a trace: its dump with the inside of basic blocks, or a front of one.
-use Rattle.std.specs.Prelude.{◌≡◌, ◌⊎◌, ℕ, List, ◌++◌, true, Option}
+use Rattle.std.specs.Prelude.{◌≡◌, ◌⊎◌, ℕ, List, [], ◌++◌, map, true, IfSome, Option}
 use Rattle.std.specs.Io.KnownBytes.{Appends}
 use Rattle.fb_types.specs.Simulation.{Ending}
+use Rattle.fb_types.specs.Numbers.{line_of}
 use Rattle.fb_types.specs.Systems.{System}
+use Rattle.fb_types.specs.Text.{last_line, lines_text}
 use Rattle.fb_types.specs.declared.run.Form.{Form}
 use Rattle.fb_types.specs.declared.run.Line.{Line}
 use Rattle.fb_wave.specs.CutOff.{IsCutTrace}
 use Rattle.fb_wave.specs.Waves.{AreLinesOf, IsTraceOf}
 use Rattle.fb_wave.specs.declared.truncation.Cut.{Cut}
 use Rattle.fb_wave.specs.declared.truncation.Cut.TheVariants as cut
-use Rattle.fb_inspect.specs.Inspections.{AreOfOne, AreTaken, AreTakings, EndsSo, NoneStops, most}
+use Rattle.fb_inspect.specs.Inspections.{AreOfOne, AreTaken, AreTakings, BeginsWith, EndsSo, NoneStops, most}
+use Rattle.fb_inspect.specs.walk.Walking.{IsCutAfter}
 use Rattle.fb_inspect.specs.walk.Looks.{opening_look}
 use Rattle.fb_inspect.specs.dump.StateDumps.{HaveLines, Taken, cut_dump, lines_of, state_dump, takings_of}
 
@@ -25,13 +28,15 @@ pub record IsStateWave (sys : System) (steps : ℕ) (text : List ℕ) (old new :
   pub got : Appends old new (state_dump true sys takings end)
 
 -- The text is a trace that is cut off, and the writer got the dump of its takings. The event is not taken after
--- which only lines of its own block come in its tick, since some of them may be missing.
+-- which only lines of its own block come in its tick, since some of them may be missing. There is such an event, unless the text has no
+-- whole line.
 pub record IsCutStateWave (sys : System) (text : List ℕ) (old new : Option (List ℕ)) : Type 0 where
   pub form : Form
   pub takings : List Taken
   pub untaken : List Line
   pub trace : IsCutTrace sys form text (lines_of takings ++ untaken)
   pub of_one : AreOfOne sys untaken
+  pub last : untaken ≡ [] → takings ≡ []
   pub lines : HaveLines sys takings
   pub chain : AreTakings sys most (opening_look sys) (takings_of takings)
   pub goes_on : NoneStops (takings_of takings)
@@ -59,3 +64,22 @@ pub record WritesFront (sys : System) (steps : ℕ) (old new : Option (List ℕ)
   pub rest : List ℕ
   pub parts : bytes ++ rest ≡ dump
   pub got : Appends old new bytes
+
+-- The bytes are the first of the dump of these takings, whichever come after them, and whether an end comes or the trace is cut off.
+pub record AreFirst (sys : System) (xs : List Taken) (bytes : List ℕ) : Type 0 where
+  pub ended : (more : List Taken) (end : Ending) → BeginsWith bytes (state_dump true sys (xs ++ more) end)
+  pub cut : (more : List Taken) (us : List Line) → BeginsWith bytes (cut_dump true sys (xs ++ more) us)
+
+-- The dump is that of these takings with the end that the text has after them, or with the lines in which it is cut off.
+abbrev pub IsOwnEnd : System → Form → (input : Option (List ℕ)) → List Taken → (dump : List ℕ) → Type 0
+IsOwnEnd sys form input xs dump =
+    ((end : Ending) × (dump ≡ state_dump true sys xs end) × IfSome input (BeginsWith (lines_text form sys (map (line_of sys) (lines_of xs)) ++ last_line sys end)))
+    ⊎ ((us : List Line) × (dump ≡ cut_dump true sys xs us) × IfSome input (λ text. IsCutAfter text (lines_text form sys (map (line_of sys) (lines_of xs ++ us)))))
+
+-- The takings are those of the lines with which the text begins. A writer got the first bytes of the dump of each trace that begins with
+-- them, or of the dump of the text itself, whose end was read.
+pub record WritesRead (sys : System) (steps : ℕ) (input old new : Option (List ℕ)) : Type 0 where
+  pub front : WritesFront sys steps old new
+  pub form : Form
+  pub read : IfSome input (BeginsWith (lines_text form sys (map (line_of sys) (lines_of front.takings))))
+  pub goes_on : AreFirst sys front.takings front.bytes ⊎ IsOwnEnd sys form input front.takings front.dump

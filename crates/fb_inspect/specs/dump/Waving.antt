@@ -130,6 +130,7 @@ pub record IsCut (sys : System) (form : Form) (x : StateWave) (input old new : O
   pub before : AreLinesOf sys (lines_of takings)
   pub untaken : List Line
   pub of_one : AreOfOne sys untaken
+  pub last : untaken ≡ [] → takings ≡ []
   pub are : AreLinesOf sys (lines_of takings ++ untaken)
   pub rest : IfSome input (λ text. IsCutAfter text (lines_text form sys (map (line_of sys) (lines_of takings ++ untaken))))
   pub numbers : IsPortDump sys x.dump

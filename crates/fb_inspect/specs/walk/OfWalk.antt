@@ -223,5 +223,5 @@ HasGoneOn f = waving.HasGoneOn (sys_of f) f.form
 abbrev pub IsShownWith : Cut → Fixed → (steps : ℕ) → (text : List ℕ) → (old new : Option (List ℕ)) → Type 0
 IsShownWith cut f = state_waves.IsShownWith cut (sys_of f)
 
-abbrev pub WritesFront : Fixed → (steps : ℕ) → (old new : Option (List ℕ)) → Type 0
-WritesFront f = state_waves.WritesFront (sys_of f)
+abbrev pub WritesRead : Fixed → (steps : ℕ) → (input old new : Option (List ℕ)) → Type 0
+WritesRead f = state_waves.WritesRead (sys_of f)

@@ -14,7 +14,7 @@ ghost use Rattle.fb_inspect.specs.dump.Saved.{IsBefore};
 ghost use Rattle.fb_inspect.specs.dump.StateDumps.{Taken};
 ghost use Rattle.fb_inspect.specs.dump.Waving.{FinishesCut, SendsCutPart};
 ghost use Rattle.fb_inspect.specs.OfSystem.{AreKept, CanShow, Finishes, IsLineAt, IsNextKept, IsPortDump, SendsPart, Shows, ShowsTaking, ShowsUntaken};
-ghost use Rattle.fb_inspect.specs.walk.OfWalk.{GoesAfter, HasGoneOn, HasLook, HasNames, HasWaved, IsNext, IsShownWith, IsWrongAt, StandsWell, WaveStarts, WritesFront};
+ghost use Rattle.fb_inspect.specs.walk.OfWalk.{GoesAfter, HasGoneOn, HasLook, HasNames, HasWaved, IsNext, IsShownWith, IsWrongAt, StandsWell, WaveStarts, WritesRead};
 
 use crate::Terms;
 use crate::dump::before::Before;
@@ -209,7 +209,8 @@ impl StateWave {
         requires empty { ahead.old.text.items ≡ [] }
         ensures whole { (known : Option (List ℕ)) → Consumes known (R.remaining input.old) self.old.walk.trail.reading.line.items
             → OnOk result (IfSome known (λ text. IsShownWith terms.cut fixed.now terms.steps text (W.contents out.old) (W.contents out.new))) }
-        ensures fault { OnErr result (WritesFront fixed.now terms.steps (W.contents out.old) (W.contents out.new)) }
+        ensures fault { (known : Option (List ℕ)) → Consumes known (R.remaining input.old) self.old.walk.trail.reading.line.items
+            → OnErr result (WritesRead fixed.now terms.steps known (W.contents out.old) (W.contents out.new)) }
         ensures refused { (rest text : List ℕ)
             → terms.steps ≤ most → HasNames fixed.now → R.remaining input.old ≡ Some rest → StandsWell fixed.now terms.steps self.old.walk ahead.old rest text → text ≡ self.old.walk.trail.reading.line.items ++ rest
             → IfErr result (OfRefusal (λ n. IsWrongAt fixed.now terms.steps n text)) }

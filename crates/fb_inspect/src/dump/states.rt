@@ -6,7 +6,7 @@ ghost use Rattle.fb_wave.specs.Copying.{IsFirstLine};
 ghost use Rattle.fb_wave.specs.OfSystem.{HasNames};
 ghost use Rattle.fb_inspect.specs.walk.Looks.{most};
 ghost use Rattle.fb_inspect.specs.Refusals.{OfRefusal};
-ghost use Rattle.fb_inspect.specs.OfSystem.{BeginsWave, IsShownWith, IsWrongAt, WritesFront};
+ghost use Rattle.fb_inspect.specs.OfSystem.{BeginsWave, IsShownWith, IsWrongAt, WritesFront, WritesRead};
 ghost use Rattle.fb_inspect.specs.walk.OfWalk as of_walk;
 ghost use Rattle.fb_inspect.specs.walk.OfWalk.{BeginsText, IsNext};
 
@@ -67,7 +67,7 @@ fn go_through<R: BufRead, W: Write>(
         → OnOk result (IfSome known (λ text. of_walk.IsShownWith terms.cut fixed.now terms.steps text (W.contents out.old) (W.contents out.new))) }
     ensures fault { (known : Option (List ℕ))
         → Consumes known (R.remaining input.old) wave.old.walk.trail.reading.line.items → IsFirstLine wave.old.walk.trail.reading.line.items known
-        → OnErr result (of_walk.WritesFront fixed.now terms.steps (W.contents out.old) (W.contents out.new)) }
+        → OnErr result (of_walk.WritesRead fixed.now terms.steps known (W.contents out.old) (W.contents out.new)) }
     ensures refused { (rest text : List ℕ)
         → terms.steps ≤ most → of_walk.HasNames fixed.now → R.remaining input.old ≡ Some rest → BeginsText fixed.now wave.old.walk.trail.reading.line.items false rest text
         → IfErr result (OfRefusal (λ n. of_walk.IsWrongAt fixed.now terms.steps n text)) }
@@ -91,7 +91,7 @@ fn write_with<R: BufRead, W: Write>(
     out: &mut W,
 ) -> Result<(), InspectError>
     ensures whole { OnOk result (IfSome (R.remaining input.old) (λ text. IsShownWith terms.cut table.now.system.now terms.steps text (W.contents out.old) (W.contents out.new))) }
-    ensures fault { OnErr result (WritesFront table.now.system.now terms.steps (W.contents out.old) (W.contents out.new)) }
+    ensures fault { OnErr result (WritesRead table.now.system.now terms.steps (R.remaining input.old) (W.contents out.old) (W.contents out.new)) }
     ensures refused { HasNames table.now.system.now → terms.steps ≤ most
         → IfErr result (OfRefusal (λ n. IfSome (R.remaining input.old) (IsWrongAt table.now.system.now terms.steps n))) }
 {
@@ -120,7 +120,8 @@ fn write_with<R: BufRead, W: Write>(
 ///
 /// # Errors
 /// As those of `crate::inspect`: the line is lent at which the trace is refused. What was written then is the beginning
-/// of a dump of the takings before the fault.
+/// of the dump of each trace that begins with the events that were taken before. If the end of the trace was read, it is
+/// the beginning of the dump of the trace.
 pub fn write_states<R: BufRead, W: Write>(
     alloc: Global,
     system: &System,
@@ -131,6 +132,7 @@ pub fn write_states<R: BufRead, W: Write>(
 ) -> Result<(), InspectError>
     ensures whole { OnOk result (IfSome (R.remaining input.old) (λ text. IsShownWith terms.cut system.now terms.steps text (W.contents out.old) (W.contents out.new))) }
     ensures fault { OnErr result (WritesFront system.now terms.steps (W.contents out.old) (W.contents out.new)) }
+    ensures read { OnErr result (WritesRead system.now terms.steps (R.remaining input.old) (W.contents out.old) (W.contents out.new)) }
     ensures refused { HasNames system.now → terms.steps ≤ most
         → IfErr result (OfRefusal (λ n. IfSome (R.remaining input.old) (IsWrongAt system.now terms.steps n))) }
 {

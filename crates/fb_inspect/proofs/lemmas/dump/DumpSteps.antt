@@ -6,7 +6,7 @@ use Rattle.fb_inspect.specs.walk.Stepping.{EndsAfter, EndsHere, GoesOn, GoesWith
 use Rattle.fb_inspect.specs.declared.walk.reading.Next.TheVariants as next
 use Rattle.fb_inspect.specs.declared.walk.Step.TheVariants as step
 use Rattle.fb_inspect.proofs.lemmas.walk.WalkedTakings.{chain_more, each_of, rise_more}
-use Rattle.fb_inspect.proofs.lemmas.lines.Moving.{lines-append}
+use Rattle.fb_inspect.proofs.lemmas.lines.Moving.{lines-append, not_none}
 use Rattle.fb_inspect.proofs.lemmas.walk.Stepped.{ends_between, ends_stopped, ends_used, last_limited}
 use Rattle.fb_inspect.specs.dump.Dumping.{IsPortDump, ShowsUntaken}
 use Rattle.fb_inspect.specs.dump.Saved.{IsBefore}
@@ -284,6 +284,7 @@ module _ (types : List BlockType) (sys : System) (form : Form) (steps : ℕ) (w 
         before = have.waved.are;
         untaken = all;
         of_one = x.goes.each;
+        last = λ none. absurd (not_none line rows none);
         are = record {
           each = All-append (IsLineOf sys) (lines_of xs) all have.waved.are.each (each_of sys line.key.tick all at);
           rise = rise_more sys line.key.tick 0 (lines_of xs) all have.waved.are.rise here.1 at;

@@ -1,5 +1,5 @@
 -- How a dump ends, and what the writer got where it does not.
-use Rattle.fb_inspect.proofs.lemmas.Common.{◌≡◌, ◌<◌, ◌+◌, ℕ, true, List, [], ◌∷◌, ◌++◌, length, map, Option, Some, None, refl, sym, ◌∙◌, ap, subst, inl, inr, append_assoc, append-nil, arith, IfSome, Appends, Consumes, Appends-nil, Appends-trans, map-append, All-nil, line_of, AtHorizon, System, lines_text, Form, Line, ending_of, Outcome, IsFirstLine, is_unended, last_tick, IsLineOf, all_lines, taking_lines, IsWrongAt, Page, Reading, Shows, Taken, lines_of, takings_of, HasWaved}
+use Rattle.fb_inspect.proofs.lemmas.Common.{◌≡◌, ◌<◌, ◌+◌, ℕ, true, List, [], ◌∷◌, ◌++◌, length, map, Option, Some, None, refl, sym, ◌∙◌, ap, subst, inl, inr, append_assoc, append-nil, arith, IfSome, Appends, Consumes, Appends-nil, Appends-trans, map-append, All-nil, line_of, AtHorizon, System, last_line, last_look, lines_text, opening_look, Form, Line, One, ending_of, Outcome, IsFirstLine, is_unended, last_tick, IsLineOf, all_lines, taking_lines, IsWrongAt, Page, Reading, Shows, Taken, lines_of, takings_of, HasWaved}
 use Rattle.fb_types.proofs.Common.{IsAtEnd, trace_text}
 use Rattle.std.specs.Io.KnownBytes.{prepend_known}
 use Rattle.fb_types.specs.States as model
@@ -7,12 +7,16 @@ use Rattle.fb_inspect.proofs.lemmas.walk.Stepped.{none_ahead}
 use Rattle.fb_wave.specs.declared.truncation.Cut.{Cut}
 use Rattle.fb_wave.specs.declared.truncation.Cut.TheVariants as cut
 use Rattle.fb_wave.proofs.lemmas.Copied.{ends_after}
+use Rattle.fb_wave.specs.CutOff.{cut_comment}
+use Rattle.fb_wave.specs.Dumps.{end_text}
+use Rattle.fb_inspect.specs.declared.dump.port_dump.PortDump.{PortDump}
+use Rattle.fb_inspect.proofs.lemmas.walk.Ended.{begins_all, begins_cut, begins_none, begins_read}
 use Rattle.fb_wave.specs.Pages.{IsCutShort}
 use Rattle.fb_wave.specs.declared.page.PageFault.{PageFault}
 use Rattle.fb_inspect.proofs.lemmas.lines.Severing.{cut_whole, on_some}
 use Rattle.fb_inspect.specs.dump.Dumping.{ShowsUntaken}
-use Rattle.fb_inspect.specs.dump.StateDumps.{HaveLines, cut_dump, state_dump}
-use Rattle.fb_inspect.specs.StateWaves.{IsCutStateWave, IsShownWith, IsStateWave, WritesFront}
+use Rattle.fb_inspect.specs.dump.StateDumps.{HaveLines, cut_dump, state_dump, takings_text}
+use Rattle.fb_inspect.specs.StateWaves.{AreFirst, IsCutStateWave, IsShownWith, IsStateWave, WritesFront, WritesRead}
 use Rattle.fb_inspect.specs.dump.Waving.{Begins, Finishes, FinishesCut, IsCut, IsWhole, SendsCutPart, SendsPart}
 use Rattle.fb_inspect.specs.declared.dump.state_wave.StateWave.{StateWave}
 use Rattle.fb_inspect.proofs.lemmas.dump.Growing.{shows_cut_front, shows_front, shows_untaken_none}
@@ -86,12 +90,31 @@ part_cut_sent sys x page old new fault whole short = record {
   );
 }
 
+-- ---- Whatever comes after takings
+
+-- what was sent goes on to the dump of the takings and any others
+first_of : (sys : System) (xs : List Taken) (sent waits : List ℕ) (x : PortDump) → Shows sys xs (sent ++ waits) x → AreFirst sys xs sent
+first_of sys xs sent waits x shown = record {
+  ended = λ more end.
+      let K : List ℕ = takings_text true sys [] x.tick shown.before shown.now (last_look (opening_look sys) (takings_of xs)) more in
+      let E : List ℕ = end_text sys (last_tick 0 (lines_of (xs ++ more))) end in
+      (waits ++ (K ++ E), ap (λ (m : List ℕ). m ++ E) (sym (shown.text [] more)) ∙ append_assoc (sent ++ waits) K E ∙ append_assoc sent waits (K ++ E));
+  cut = λ more us.
+      let K : List ℕ = takings_text true sys us x.tick shown.before shown.now (last_look (opening_look sys) (takings_of xs)) more in (
+        waits ++ (K ++ cut_comment),
+        ap (λ (m : List ℕ). m ++ cut_comment) (sym (shown.text us more)) ∙ append_assoc (sent ++ waits) K cut_comment ∙ append_assoc sent waits (K ++ cut_comment),
+      );
+}
+
 -- ---- Fronts
 
 module _ (sys : System) (form : Form) (steps : ℕ) where
+  abbrev text_of : List Taken → List ℕ
+  text_of xs = lines_text form sys (map (line_of sys) (lines_of xs))
+
   -- what the writer got is the front of the dump of the takings that were gone through
-  pub front_waved : (x : StateWave) (input remaining old new : Option (List ℕ)) → HasWaved sys form steps x input remaining old new → WritesFront sys steps old new
-  front_waved x input remaining old new have =
+  waved_front : (x : StateWave) (input remaining old new : Option (List ℕ)) → HasWaved sys form steps x input remaining old new → WritesFront sys steps old new
+  waved_front x input remaining old new have =
       let waved = have.waved in
       let T : List ℕ = x.page.text.items in
       let front = shows_front sys have.takings (waved.sent ++ T) (AtHorizon 0) x.dump waved.shown in
@@ -108,11 +131,20 @@ module _ (sys : System) (form : Form) (steps : ℕ) where
         got = waved.got;
       }
 
+  pub front_waved : (x : StateWave) (input remaining old new : Option (List ℕ)) → HasWaved sys form steps x input remaining old new → WritesRead sys steps input old new
+  unfolding waved_front
+  front_waved x input remaining old new have = record {
+    front = waved_front x input remaining old new have;
+    form = form;
+    read = begins_read input remaining (text_of have.takings) x.walk.trail.reading.line.items have.waved.read;
+    goes_on = inl (first_of sys have.takings have.waved.sent x.page.text.items x.dump have.waved.shown);
+  }
+
   -- the same, where a part of what waits was sent after it
-  pub front_flush :
+  flushed_front :
       (x : StateWave) (input remaining old mid new : Option (List ℕ)) (fault : PageFault) → HasWaved sys form steps x input remaining old mid → IsCutShort mid new x.page fault
       → WritesFront sys steps old new
-  front_flush x input remaining old mid new fault have short =
+  flushed_front x input remaining old mid new fault have short =
       let waved = have.waved in
       let front = shows_front sys have.takings (waved.sent ++ x.page.text.items) (AtHorizon 0) x.dump waved.shown in
       record {
@@ -129,6 +161,20 @@ module _ (sys : System) (form : Form) (steps : ℕ) where
             ∙ front.1;
         got = Appends-trans old mid new waved.sent short.sent waved.got short.got;
       }
+
+  pub front_flush :
+      (x : StateWave) (input remaining old mid new : Option (List ℕ)) (fault : PageFault) → HasWaved sys form steps x input remaining old mid → IsCutShort mid new x.page fault
+      → WritesRead sys steps input old new
+  unfolding flushed_front
+  front_flush x input remaining old mid new fault have short = record {
+    front = flushed_front x input remaining old mid new fault have short;
+    form = form;
+    read = begins_read input remaining (text_of have.takings) x.walk.trail.reading.line.items have.waved.read;
+    goes_on = inl
+        (first_of sys have.takings (have.waved.sent ++ short.sent) short.missing x.dump
+        (subst (λ (l : List ℕ). Shows sys have.takings l x.dump)
+        (ap (λ (l : List ℕ). have.waved.sent ++ l) short.parts ∙ sym (append_assoc have.waved.sent short.sent short.missing)) have.waved.shown));
+  }
 
   -- ---- The whole dump
 
@@ -164,8 +210,8 @@ module _ (sys : System) (form : Form) (steps : ℕ) where
             shown t (read ∙ ap (λ (v : List ℕ). (L ++ whole.line) ++ v) over ∙ append-nil (L ++ whole.line) ∙ ap (λ (v : List ℕ). L ++ v) whole.last.is)
 
     -- a part was written
-    pub whole_part : (new : Option (List ℕ)) → SendsPart sys end x mid new → WritesFront sys steps old new
-    whole_part new part =
+    whole_front : (new : Option (List ℕ)) → SendsPart sys end x mid new → WritesFront sys steps old new
+    whole_front new part =
         let waved = whole.waved in
         let all = part.whole whole.takings waved.sent waved.shown in
         record {
@@ -181,6 +227,20 @@ module _ (sys : System) (form : Form) (steps : ℕ) where
           got = Appends-trans old mid new waved.sent part.part waved.got part.got;
         }
 
+    pub whole_part : (new : Option (List ℕ)) → SendsPart sys end x mid new → WritesRead sys steps input old new
+    unfolding whole_front
+    whole_part new part = record {
+      front = whole_front new part;
+      form = form;
+      read = begins_read input remaining (text_of whole.takings) whole.line whole.waved.read;
+      goes_on = inr (inl (
+        ending_of end,
+        refl,
+        begins_all input remaining (text_of whole.takings ++ last_line sys (ending_of end))
+            (subst (λ (l : List ℕ). Consumes input remaining (text_of whole.takings ++ l)) whole.last.is whole.waved.read),
+      ));
+    }
+
   -- ---- The dump of a trace that is cut off
 
   module _ (x : StateWave) (input old mid : Option (List ℕ)) (off : IsCut sys form x input old mid) where
@@ -194,6 +254,7 @@ module _ (sys : System) (form : Form) (steps : ℕ) where
           untaken = off.untaken;
           trace = record { lines = off.are; part = after.part; unended = after.unended; is = after.is };
           of_one = off.of_one;
+          last = off.last;
           lines = off.lines;
           chain = off.chain;
           goes_on = off.goes_on;
@@ -201,8 +262,8 @@ module _ (sys : System) (form : Form) (steps : ℕ) where
         })
 
     -- a part was written
-    pub cut_part : (new : Option (List ℕ)) → SendsCutPart sys x mid new → WritesFront sys steps old new
-    cut_part new part =
+    cut_front : (new : Option (List ℕ)) → SendsCutPart sys x mid new → WritesFront sys steps old new
+    cut_front new part =
         let all = part.whole off.takings off.untaken off.sent off.shown in
         record {
           takings = off.takings;
@@ -217,6 +278,15 @@ module _ (sys : System) (form : Form) (steps : ℕ) where
           got = Appends-trans old mid new off.sent part.part off.got part.got;
         }
 
+    pub cut_part : (new : Option (List ℕ)) → SendsCutPart sys x mid new → WritesRead sys steps input old new
+    unfolding cut_front
+    cut_part new part = record {
+      front = cut_front new part;
+      form = form;
+      read = on_some input _ _ off.rest (λ text after. begins_cut form sys (lines_of off.takings) off.untaken text after);
+      goes_on = inr (inr (off.untaken, refl, off.rest));
+    }
+
   -- a trace is cut off before its first line ends
   pub cut_none :
       (x : StateWave) (reading : Reading) (line : List ℕ) (input remaining old : Option (List ℕ)) → Begins sys reading x → Consumes input remaining line → IsFirstLine line input
@@ -229,6 +299,7 @@ module _ (sys : System) (form : Form) (steps : ℕ) where
     before = record { each = All-nil (IsLineOf sys); rise = tt };
     untaken = [];
     of_one = tt;
+    last = λ none. refl;
     are = record { each = All-nil (IsLineOf sys); rise = tt };
     rest = cut_whole input remaining line read one short;
     numbers = begins.numbers;
@@ -238,8 +309,8 @@ module _ (sys : System) (form : Form) (steps : ℕ) where
   }
 
 -- The writer got nothing, since nothing was gone through.
-pub front_none : (sys : System) (steps : ℕ) (old : Option (List ℕ)) → WritesFront sys steps old old
-front_none sys steps old = record {
+pub front_nothing : (sys : System) (steps : ℕ) (old : Option (List ℕ)) → WritesFront sys steps old old
+front_nothing sys steps old = record {
   takings = [];
   are = record { each = All-nil (IsLineOf sys); rise = tt };
   lines = tt;
@@ -250,6 +321,15 @@ front_none sys steps old = record {
   rest = state_dump true sys [] (AtHorizon 0);
   parts = refl;
   got = Appends-nil old;
+}
+
+pub front_none : (sys : System) (steps : ℕ) (input old : Option (List ℕ)) → WritesRead sys steps input old old
+unfolding front_nothing
+front_none sys steps input old = record {
+  front = front_nothing sys steps old;
+  form = One;
+  read = begins_none input;
+  goes_on = inl (record { ended = λ more end. (state_dump true sys more end, refl); cut = λ more us. (cut_dump true sys more us, refl) });
 }
 
 -- where a trace may be cut off or not

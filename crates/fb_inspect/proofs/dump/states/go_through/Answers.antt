@@ -37,7 +37,7 @@ returns-then-is_severed-clause-refused g c = λ rest text few names known told. 
 
 pub returns-in_err-ahead-clause-fault : goal.returns-in_err-ahead-clause-fault
 returns-in_err-ahead-clause-fault g c = λ known read one.
-    err_any c.from_residual.result _ (front_none (system_of c.args.fixed.now.table.now.system.now) c.args.terms.steps (g.W.Write.contents c.args.out.now))
+    err_any c.from_residual.result _ (front_none (system_of c.args.fixed.now.table.now.system.now) c.args.terms.steps known (g.W.Write.contents c.args.out.now))
 
 pub go-gone-requires-clause-starts : goal.go-gone-requires-clause-starts
 go-gone-requires-clause-starts g c =
@@ -48,7 +48,7 @@ pub returns-clause-whole : goal.returns-clause-whole
 returns-clause-whole g c = λ known read one. c.go-gone.ensures.whole known read
 
 pub returns-clause-fault : goal.returns-clause-fault
-returns-clause-fault g c = λ known read one. c.go-gone.ensures.fault
+returns-clause-fault g c = λ known read one. c.go-gone.ensures.fault known read
 
 pub returns-clause-refused : goal.returns-clause-refused
 returns-clause-refused g c = λ rest text few names known told.

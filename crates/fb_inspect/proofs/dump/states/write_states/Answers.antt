@@ -1,21 +1,32 @@
 use Rattle.fb_inspect.proofs.lemmas.Common.{subst, ◌∙◌, IfSome, OnErr, OnOk, IfErr, ◌≤◌, Inputs, system_of, HasNames, most, IsWrongAt, OfRefusal}
-use Rattle.fb_inspect.proofs.lemmas.reactions.Placed.{err_any, of_table}
-use Rattle.fb_inspect.specs.StateWaves.{IsShownWith, WritesFront}
-use Rattle.fb_inspect.proofs.lemmas.dump.Ending.{front_none}
+use Rattle.fb_inspect.proofs.lemmas.reactions.Placed.{err_any, err_then, of_table}
+use Rattle.fb_inspect.specs.StateWaves.{IsShownWith, WritesRead}
+use Rattle.fb_inspect.proofs.lemmas.dump.Ending.{front_none, front_nothing}
 use Rattle.fb_inspect.proofs.lemmas.results.Joined.{ok_passed}
 use Rattle.fb_inspect.proofs.lemmas.results.Refused.{none_passed}
 use Rattle.fb_inspect.proofs.dump.states.write_states.Goals as goal
 
 pub returns-in_err-ports-clause-fault : goal.returns-in_err-ports-clause-fault
 returns-in_err-ports-clause-fault g c =
-    err_any c.from_residual.result _ (front_none (system_of c.args.system.now) c.args.terms.steps (g.W.Write.contents c.args.out.now))
+    err_any c.from_residual.result _ (front_nothing (system_of c.args.system.now) c.args.terms.steps (g.W.Write.contents c.args.out.now))
+
+pub returns-in_err-ports-clause-read : goal.returns-in_err-ports-clause-read
+returns-in_err-ports-clause-read g c =
+    err_any c.from_residual.result _ (front_none (system_of c.args.system.now) c.args.terms.steps (g.R.Read.remaining c.args.input.now) (g.W.Write.contents c.args.out.now))
 
 pub returns-in_err-table-clause-fault : goal.returns-in_err-table-clause-fault
 returns-in_err-table-clause-fault g c =
-    err_any c.from_residual-in_err-table.result _ (front_none (system_of c.args.system.now) c.args.terms.steps (g.W.Write.contents c.args.out.now))
+    err_any c.from_residual-in_err-table.result _ (front_nothing (system_of c.args.system.now) c.args.terms.steps (g.W.Write.contents c.args.out.now))
+
+pub returns-in_err-table-clause-read : goal.returns-in_err-table-clause-read
+returns-in_err-table-clause-read g c =
+    err_any c.from_residual-in_err-table.result _ (front_none (system_of c.args.system.now) c.args.terms.steps (g.R.Read.remaining c.args.input.now) (g.W.Write.contents c.args.out.now))
 
 pub returns-in_default-clause-fault : goal.returns-in_default-clause-fault
-returns-in_default-clause-fault g c = front_none (system_of c.args.system.now) c.args.terms.steps (g.W.Write.contents c.args.out.now)
+returns-in_default-clause-fault g c = front_nothing (system_of c.args.system.now) c.args.terms.steps (g.W.Write.contents c.args.out.now)
+
+pub returns-in_default-clause-read : goal.returns-in_default-clause-read
+returns-in_default-clause-read g c = front_none (system_of c.args.system.now) c.args.terms.steps (g.R.Read.remaining c.args.input.now) (g.W.Write.contents c.args.out.now)
 
 pub returns-clause-whole : goal.returns-clause-whole
 returns-clause-whole g c =
@@ -28,7 +39,16 @@ pub returns-clause-fault : goal.returns-clause-fault
 returns-clause-fault g c =
     let old = g.W.Write.contents c.args.out.now in
     let new = g.W.Write.contents c.write_with.new.out in
-    subst (λ (s : Inputs). OnErr c.write_with.result (WritesFront (system_of s) c.args.terms.steps old new))
+    err_then c.write_with.result _ _
+    (subst (λ (s : Inputs). OnErr c.write_with.result (WritesRead (system_of s) c.args.terms.steps (g.R.Read.remaining c.args.input.now) old new))
+    (of_table _ c.in-Some.table _ c.in-Some.is c.in_ok-table.ensures.system ∙ c.in_ok-ports.ensures) c.write_with.ensures.fault)
+    (λ (read : WritesRead (system_of c.args.system.now) c.args.terms.steps (g.R.Read.remaining c.args.input.now) old new). read.front)
+
+pub returns-clause-read : goal.returns-clause-read
+returns-clause-read g c =
+    let old = g.W.Write.contents c.args.out.now in
+    let new = g.W.Write.contents c.write_with.new.out in
+    subst (λ (s : Inputs). OnErr c.write_with.result (WritesRead (system_of s) c.args.terms.steps (g.R.Read.remaining c.args.input.now) old new))
     (of_table _ c.in-Some.table _ c.in-Some.is c.in_ok-table.ensures.system ∙ c.in_ok-ports.ensures) c.write_with.ensures.fault
 
 pub returns-clause-refused : goal.returns-clause-refused

@@ -10,11 +10,11 @@ use Rattle.fb_inspect.proofs.dump.states.write_with.Goals as goal
 
 pub returns-in_err-form-clause-fault : goal.returns-in_err-form-clause-fault
 returns-in_err-form-clause-fault g c =
-    err_any c.from_residual.result _ (front_none (system_of c.args.table.now.system.now) c.args.terms.steps (g.W.Write.contents c.args.out.now))
+    err_any c.from_residual.result _ (front_none (system_of c.args.table.now.system.now) c.args.terms.steps (g.R.Read.remaining c.args.input.now) (g.W.Write.contents c.args.out.now))
 
 pub returns-in_err-wave-clause-fault : goal.returns-in_err-wave-clause-fault
 returns-in_err-wave-clause-fault g c =
-    err_any c.from_residual-in_err-wave.result _ (front_none (system_of c.args.table.now.system.now) c.args.terms.steps (g.W.Write.contents c.args.out.now))
+    err_any c.from_residual-in_err-wave.result _ (front_none (system_of c.args.table.now.system.now) c.args.terms.steps (g.R.Read.remaining c.args.input.now) (g.W.Write.contents c.args.out.now))
 
 pub go_through-requires-clause-begins : goal.go_through-requires-clause-begins
 go_through-requires-clause-begins g c =

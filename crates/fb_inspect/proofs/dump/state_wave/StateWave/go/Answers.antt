@@ -46,27 +46,25 @@ advance-requires-clause-dump g c =
     have.waved.numbers
 
 pub returns-in_err-advance-clause-fault : goal.returns-in_err-advance-clause-fault
-returns-in_err-advance-clause-fault g c =
+returns-in_err-advance-clause-fault g c = λ known read.
     let fixed = c.args.fixed.now in
-    let known = some_text (g.R.Read.remaining c.args.input.now) c.args.self.now.walk.trail.reading.line.items in
-    let have = c.loop.invariant.0 known.0 known.1 in
+    let have = c.loop.invariant.0 known read in
     err_any c.from_residual.result _
-    (front_waved (system_of fixed.table.now.system.now) fixed.form c.args.terms.steps c.loop.self known.0 (unread c.loop.ahead (g.R.Read.remaining c.loop.input)) (g.W.Write.contents c.args.out.now)
+    (front_waved (system_of fixed.table.now.system.now) fixed.form c.args.terms.steps c.loop.self known (unread c.loop.ahead (g.R.Read.remaining c.loop.input)) (g.W.Write.contents c.args.out.now)
     (g.W.Write.contents c.loop.out) have)
 
 pub returns-in_err-flush_much-in-Taken-clause-fault : goal.returns-in_err-flush_much-in-Taken-clause-fault
-returns-in_err-flush_much-in-Taken-clause-fault g c =
+returns-in_err-flush_much-in-Taken-clause-fault g c = λ known read.
     let fixed = c.args.fixed.now in
     let sys = system_of fixed.table.now.system.now in
     let steps = c.args.terms.steps in
     let old = g.W.Write.contents c.args.out.now in
     let mid = g.W.Write.contents c.loop.out in
-    let known = some_text (g.R.Read.remaining c.args.input.now) c.args.self.now.walk.trail.reading.line.items in
-    let have = c.loop.invariant.0 known.0 known.1 in
+    let have = c.loop.invariant.0 known read in
     let r = unread c.advance.new.ahead (g.R.Read.remaining c.advance.new.input) in
-    let next = subst (HasGoneOn sys fixed.form steps c.advance.new.self known.0 r old mid) c.in-Taken.is (c.in_ok-advance.ensures.goes known.0 old mid have) in
+    let next = subst (HasGoneOn sys fixed.form steps c.advance.new.self known r old mid) c.in-Taken.is (c.in_ok-advance.ensures.goes known old mid have) in
     err_any c.from_residual-in_err-flush_much-in-Taken.result _
-    (front_flush sys fixed.form steps c.advance.new.self known.0 r old mid (g.W.Write.contents c.flush_much.new.out) c.in_err-flush_much-in-Taken.field-0.0 next c.in_err-flush_much-in-Taken.ensures.part)
+    (front_flush sys fixed.form steps c.advance.new.self known r old mid (g.W.Write.contents c.flush_much.new.out) c.in_err-flush_much-in-Taken.field-0.0 next c.in_err-flush_much-in-Taken.ensures.part)
 
 pub loop-preserved : goal.loop-preserved
 loop-preserved g c = (
@@ -101,18 +99,17 @@ returns-in-Ended-clause-whole g c = λ known read.
     (λ finished. shown_whole c.args.terms.cut sys steps known old new (whole_done sys fixed.form steps c.advance.new.self c.in-Ended.end known r old mid next new finished))
 
 pub returns-in-Ended-clause-fault : goal.returns-in-Ended-clause-fault
-returns-in-Ended-clause-fault g c =
+returns-in-Ended-clause-fault g c = λ known read.
     let fixed = c.args.fixed.now in
     let sys = system_of fixed.table.now.system.now in
     let steps = c.args.terms.steps in
     let old = g.W.Write.contents c.args.out.now in
     let mid = g.W.Write.contents c.loop.out in
-    let known = some_text (g.R.Read.remaining c.args.input.now) c.args.self.now.walk.trail.reading.line.items in
-    let have = c.loop.invariant.0 known.0 known.1 in
+    let have = c.loop.invariant.0 known read in
     let r = unread c.advance.new.ahead (g.R.Read.remaining c.advance.new.input) in
-    let next = subst (HasGoneOn sys fixed.form steps c.advance.new.self known.0 r old mid) c.in-Ended.is (c.in_ok-advance.ensures.goes known.0 old mid have) in
+    let next = subst (HasGoneOn sys fixed.form steps c.advance.new.self known r old mid) c.in-Ended.is (c.in_ok-advance.ensures.goes known old mid have) in
     err_then c.finish.result _ _ c.finish.ensures.fault
-    (λ part. whole_part sys fixed.form steps c.advance.new.self c.in-Ended.end known.0 r old mid next (g.W.Write.contents c.finish.new.out) part)
+    (λ part. whole_part sys fixed.form steps c.advance.new.self c.in-Ended.end known r old mid next (g.W.Write.contents c.finish.new.out) part)
 
 pub returns-in-CutOff-clause-whole : goal.returns-in-CutOff-clause-whole
 returns-in-CutOff-clause-whole g c = λ known read.
@@ -128,24 +125,22 @@ returns-in-CutOff-clause-whole g c = λ known read.
     (λ finished. shown_cut c.args.terms.cut sys steps known old new (c.in_ok-advance.ensures.cut c.in-CutOff.is) (cut_done sys fixed.form steps c.advance.new.self known old mid next new finished))
 
 pub returns-in-CutOff-clause-fault : goal.returns-in-CutOff-clause-fault
-returns-in-CutOff-clause-fault g c =
+returns-in-CutOff-clause-fault g c = λ known read.
     let fixed = c.args.fixed.now in
     let sys = system_of fixed.table.now.system.now in
     let steps = c.args.terms.steps in
     let old = g.W.Write.contents c.args.out.now in
     let mid = g.W.Write.contents c.loop.out in
-    let known = some_text (g.R.Read.remaining c.args.input.now) c.args.self.now.walk.trail.reading.line.items in
-    let have = c.loop.invariant.0 known.0 known.1 in
+    let have = c.loop.invariant.0 known read in
     let r = unread c.advance.new.ahead (g.R.Read.remaining c.advance.new.input) in
-    let next = subst (HasGoneOn sys fixed.form steps c.advance.new.self known.0 r old mid) c.in-CutOff.is (c.in_ok-advance.ensures.goes known.0 old mid have) in
-    err_then c.finish_cut.result _ _ (c.finish_cut.ensures.fault sys) (λ part. cut_part sys fixed.form steps c.advance.new.self known.0 old mid next (g.W.Write.contents c.finish_cut.new.out) part)
+    let next = subst (HasGoneOn sys fixed.form steps c.advance.new.self known r old mid) c.in-CutOff.is (c.in_ok-advance.ensures.goes known old mid have) in
+    err_then c.finish_cut.result _ _ (c.finish_cut.ensures.fault sys) (λ part. cut_part sys fixed.form steps c.advance.new.self known old mid next (g.W.Write.contents c.finish_cut.new.out) part)
 
 pub returns-clause-fault : goal.returns-clause-fault
-returns-clause-fault g c =
+returns-clause-fault g c = λ known read.
     let fixed = c.args.fixed.now in
-    let known = some_text (g.R.Read.remaining c.args.input.now) c.args.self.now.walk.trail.reading.line.items in
-    let have = c.loop.invariant.0 known.0 known.1 in
-    front_waved (system_of fixed.table.now.system.now) fixed.form c.args.terms.steps c.loop.self known.0 (unread c.loop.ahead (g.R.Read.remaining c.loop.input)) (g.W.Write.contents c.args.out.now)
+    let have = c.loop.invariant.0 known read in
+    front_waved (system_of fixed.table.now.system.now) fixed.form c.args.terms.steps c.loop.self known (unread c.loop.ahead (g.R.Read.remaining c.loop.input)) (g.W.Write.contents c.args.out.now)
     (g.W.Write.contents c.loop.out) have
 
 pub returns-in_err-advance-clause-refused : goal.returns-in_err-advance-clause-refused
