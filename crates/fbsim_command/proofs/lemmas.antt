@@ -1,6 +1,7 @@
 pub mod Common
 pub mod calls
 pub mod files
+pub mod names
 pub mod notes
 pub mod rules
 pub mod Talking

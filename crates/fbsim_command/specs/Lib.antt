@@ -27,3 +27,4 @@ pub mod Covering
 pub mod Sessions
 pub mod Command
 pub mod OfSystem
+pub mod ReadNames

@@ -13,8 +13,12 @@ use Rattle.fbsim_command.specs.declared.failure.RefusalLine.TheVariants.{Numbere
 abbrev pub IsWrongIn : Inputs → (steps : ℕ) → (trace : Held) → (line : ℕ) → Type 0
 IsWrongIn i steps trace line = HasNames (system_of i) → steps ≤ most → IfSome trace (IsWrongAt (system_of i) steps line)
 
+-- The same of inputs that were read: they have names.
+abbrev pub IsWrongOf : Inputs → (steps : ℕ) → (trace : Held) → (line : ℕ) → Type 0
+IsWrongOf i steps trace line = steps ≤ most → IfSome trace (IsWrongAt (system_of i) steps line)
+
 -- A trace is refused for a line that is wrong, or an instance that is to be shown is unknown.
 abbrev pub IsRefusalIn : Inputs → (steps : ℕ) → (trace : Held) → RefusalLine → Type 0
-IsRefusalIn i steps trace (Trace line) = IsWrongIn i steps trace line
+IsRefusalIn i steps trace (Trace line) = IsWrongOf i steps trace line
 IsRefusalIn i steps trace (Numbered n) = n ≡ 21
 IsRefusalIn i steps trace (Syntax line) = ⊥

@@ -21,6 +21,7 @@ use Rattle.fbsim_command.specs.Notes.{IsFileNote, NotesRest}
 use Rattle.fbsim_line.specs.declared.inspect_line.Inspect.{Inspect}
 use Rattle.fbsim_command.proofs.lemmas.notes.NotedLines.{noted_so}
 use Rattle.fbsim_command.specs.declared.join.FileLines.{FileLines}
+use Rattle.fbsim_command.proofs.lemmas.names.ReadNames.{read-names}
 
 -- whatever the call answers
 pub on_err_any : {A E : Type 0} (r : Result A E) (P : Type 0) → P → OnErr r P
@@ -57,7 +58,7 @@ inspects_none given x trace old run.Failed is = absurd is
 pub inspects_front :
     (given : Given) (x : Inspect) (trace old new : Held) (i : Inputs) → Declares given i → (e : InspectError) → ShowsFront (system_of i) (selection_of x) x.steps old new
     → OfRefusal (IsWrongIn i x.steps trace) e → Inspects given x trace old new (Err (failure_of_inspection e))
-inspects_front given x trace old new i is (inspection.Refused line) front wrong = inr (i, is, front, wrong)
+inspects_front given x trace old new i is (inspection.Refused line) front wrong = inr (i, is, front, wrong (read-names given i is))
 inspects_front given x trace old new i is inspection.Names front wrong = inr (i, is, front)
 inspects_front given x trace old new i is inspection.Unknown front wrong = inr (i, is, front, refl)
 inspects_front given x trace old new i is inspection.Memory front wrong = inr (i, is, front)

@@ -11,6 +11,7 @@ use Rattle.fb_sim.specs.declared.outcome.RunError.TheVariants as run
 use Rattle.fb_inspect.specs.StateWaves.{WritesFront}
 use Rattle.fbsim_command.specs.Failures.{failure_of_inspection}
 use Rattle.fbsim_command.specs.StateDumping.{DumpsStates}
+use Rattle.fbsim_command.proofs.lemmas.names.ReadNames.{read-names}
 
 -- nothing is written where the inputs are refused
 pub states_none : (may : Cut) (steps : ℕ) (given : Given) (trace old : Held) (error : RunError) → IsRefusal given error → DumpsStates may steps given trace old old (Err (failure_of error))
@@ -42,7 +43,7 @@ states_none may steps given trace old run.Failed is = absurd is
 pub states_front :
     (may : Cut) (steps : ℕ) (given : Given) (trace old new : Held) (i : Inputs) → Declares given i → (e : InspectError) → WritesFront (system_of i) steps old new
     → OfRefusal (IsWrongIn i steps trace) e → DumpsStates may steps given trace old new (Err (failure_of_inspection e))
-states_front may steps given trace old new i is (inspection.Refused line) front wrong = inr (i, is, front, wrong)
+states_front may steps given trace old new i is (inspection.Refused line) front wrong = inr (i, is, front, wrong (read-names given i is))
 states_front may steps given trace old new i is inspection.Names front wrong = inr (i, is, front)
 states_front may steps given trace old new i is inspection.Unknown front wrong = inr (i, is, front, refl)
 states_front may steps given trace old new i is inspection.Memory front wrong = inr (i, is, front)

@@ -1,0 +1,4 @@
+pub mod GrammarNames
+pub mod NameTokens
+pub mod SystemNames
+pub mod ReadNames
