@@ -2,8 +2,8 @@
 """tools/notice.py [--write]: compares NOTICE with the libraries that the program links and with their licences in the kit.
 
 The libraries are those of the kit that crates.txt names for the program and the crates below it, and all that these need in turn. For
-each, NOTICE has the licence files in its folder of the kit, and which licence each of them is. NOTICE names the kits of one logic
-(`rt version` prints both), and the one here must be among them. With --write this writes NOTICE. ./gate runs it."""
+each, NOTICE has the licence files in its folder of the kit, and which licence each of them is. It also names kits, by what `rt version`
+prints: their logic must be that of the kit here. With --write this writes NOTICE, with the name of the kit here too. ./gate runs it."""
 
 import os
 import re
@@ -69,31 +69,31 @@ def rows():
         yield f"{library:<18}{what:<18}{', '.join(f'{library}/{it}' for it in found)}".rstrip()
 
 
-def kits(known):
-    """Returns the names of the kits to be in NOTICE, and their logic: the kit here, and those that the text `known` has with its logic."""
+def logic_of_kit():
+    """Returns what the kit says of itself: its name, and its logic, which kits of several names have."""
     with open(f"{rtlib.KIT}/KIT-ID", encoding="utf-8") as it:
         said = it.read()
-    logic = LOGIC.search(said)[1]
-    names = KIT.findall(known) if LOGIC.findall(known) == [logic] else []
-    return sorted({KIT.search(said)[0], *names}), logic
+    return KIT.search(said)[0], LOGIC.search(said)[1]
 
 
-def notice(known):
-    """Returns NOTICE as it must be, where `known` is what it is."""
-    names, logic = kits(known)
+def notice(names, logic):
+    """Returns NOTICE as it must be for kits of these names and this logic."""
     heading = f"{'library':<18}{'licence':<18}given by"
-    return HEAD.format(kits=" or ".join(names), logic=logic) + "\n".join([heading, *rows()]) + "\n" + TAIL
+    return HEAD.format(kits=" or ".join(sorted({*names})), logic=logic) + "\n".join([heading, *rows()]) + "\n" + TAIL
 
 
 def main(words=()):
     """Compares NOTICE, or writes it, and returns the status."""
     with open(NOTICE, encoding="utf-8") as it:
         known = it.read()
+    name, logic = logic_of_kit()
+    names = KIT.findall(known) if LOGIC.findall(known) == [logic] else []
     if [*words] == ["--write"]:
         with open(NOTICE, "w", encoding="utf-8") as it:
-            it.write(notice(known))
+            it.write(notice([*names, name], logic))
         return 0
-    is_same = known == notice(known)
+    # (a further kit of the same logic is as good)
+    is_same = known == notice(names or [name], logic)
     print("notice: NOTICE names each library of the program with its licence" if is_same else "notice: NOTICE is not up to date: tools/notice.py --write")
     return int(not is_same)
 
