@@ -7,7 +7,7 @@ ghost use Rattle.fb_st.specs.Frames.{types_in};
 ghost use Rattle.fb_st.specs.WordRuns.{AreKept, AreWords, Assigns, CountsOn, IsCounter, has_passed};
 ghost use Rattle.fb_st.specs.Flows.{end_of};
 ghost use Rattle.fb_st.specs.Compiled.{number_said, truth_said, number_at, truth_at, fits_number, fits_truth, word_at};
-ghost use Rattle.fb_st.specs.Fitting.{spot, begun, name_at, expr_of_number, expr_of_truth, is_long_type, is_within_type, is_truth_type, right_number, right_truth, code_said, codes_said, arms_said, forks_said, code_right, codes_right, arms_right, forks_right, count_right};
+ghost use Rattle.fb_st.specs.Fitting.{spot, begun, name_at, expr_of_number, expr_of_truth, is_truth_type, right_number, right_truth, code_said, codes_said, arms_said, forks_said, code_right, codes_right, arms_right, forks_right, count_right};
 
 use crate::assign::{is_any_around, is_past};
 use crate::compiled::{
@@ -18,53 +18,7 @@ use crate::meter::{Flow, Meter};
 use crate::{exact, short};
 use fb_types::{Label, Reason};
 
-/// An assignment to a variable whose type holds each number of 64 bits, once its step is begun.
-#[inline(always)]
-fn assign_long(
-    slot: usize,
-    expr: &NumberExpr,
-    layout: &Layout,
-    words: &mut [i64],
-) -> Result<Flow, Reason>
-    requires frame { AreWords layout.now words.old }
-    requires right { (is_long_type (slice_get layout.now slot) && right_number layout.now (number_said expr.now)) ≡ true }
-    ensures run { Assigns layout.now slot (expr_of_number layout.now (number_said expr.now)) words.old (end_of result) words.new }
-    ensures length { length words.new ≡ length words.old }
-{
-    match short::number(expr, words) {
-        Some(number) => {
-            words[slot] = number;
-            Ok(Flow::Went)
-        }
-        None => assign_exact(slot, expr, layout, words),
-    }
-}
-
-/// An assignment to a variable whose type holds the numbers from the least to the most, and of 64 bits no others.
-#[inline(always)]
-fn assign_within(
-    slot: usize,
-    least: i64,
-    most: i64,
-    expr: &NumberExpr,
-    layout: &Layout,
-    words: &mut [i64],
-) -> Result<Flow, Reason>
-    requires frame { AreWords layout.now words.old }
-    requires right { (is_within_type least most (slice_get layout.now slot) && right_number layout.now (number_said expr.now)) ≡ true }
-    ensures run { Assigns layout.now slot (expr_of_number layout.now (number_said expr.now)) words.old (end_of result) words.new }
-    ensures length { length words.new ≡ length words.old }
-{
-    match short::number(expr, words) {
-        Some(number) if least <= number && number <= most => {
-            words[slot] = number;
-            Ok(Flow::Went)
-        }
-        _ => assign_exact(slot, expr, layout, words),
-    }
-}
-
-/// An assignment of any number.
+/// An assignment of any number, once its step is begun.
 #[inline(never)]
 fn assign_exact(
     slot: usize,
@@ -176,10 +130,20 @@ fn run(
         CompiledStmt::Empty => Ok(Flow::Went),
         CompiledStmt::Exit => Ok(Flow::Left),
         CompiledStmt::Return => Ok(Flow::Returned),
-        CompiledStmt::AssignLong(slot, expr) => assign_long(*slot, expr, layout, words),
-        CompiledStmt::AssignWithin(slot, least, most, expr) => {
-            assign_within(*slot, *least, *most, expr, layout, words)
-        }
+        CompiledStmt::AssignLong(slot, expr) => match short::number(expr, words) {
+            Some(number) => {
+                words[*slot] = number;
+                Ok(Flow::Went)
+            }
+            None => assign_exact(*slot, expr, layout, words),
+        },
+        CompiledStmt::AssignWithin(slot, least, most, expr) => match short::number(expr, words) {
+            Some(number) if *least <= number && number <= *most => {
+                words[*slot] = number;
+                Ok(Flow::Went)
+            }
+            _ => assign_exact(*slot, expr, layout, words),
+        },
         CompiledStmt::AssignTruth(slot, expr) => assign_truth(*slot, expr, layout, words),
         CompiledStmt::If(choices, others) => {
             run_choice(choices.as_slice(), others.as_slice(), layout, words, meter)

@@ -9,7 +9,7 @@ use Rattle.fb_st.specs.declared.compiled.CompiledStmt.TheVariants as variants
 use Rattle.fb_st.specs.declared.compiled.CompiledChoice.{out-CompiledChoice, fold_out-CompiledChoice}
 use Rattle.fb_st.specs.declared.compiled.CompiledBranch.{CompiledBranch, out-CompiledBranch, fold_out-CompiledBranch}
 use Rattle.fb_st.specs.Compiled.{truth_at}
-use Rattle.fb_st.specs.Fitting.{all_right, code_said, arm_said, arms_said, fork_said, forks_said, count_right, forks_right}
+use Rattle.fb_st.specs.Fitting.{all_right, is_long_type, code_said, arm_said, arms_said, fork_said, forks_said, count_right, forks_right}
 use Rattle.fb_st.proofs.lemmas.Comes.{both_true, condition_comes}
 use Rattle.fb_st.proofs.lemmas.Runs.{Leads, cut_at, written}
 use Rattle.fb_st.proofs.lemmas.Words.{word_written}
@@ -143,6 +143,24 @@ arm_parts ds c right =
     let parts = both_true (right_truth ds (truth_said (out-CompiledChoice c).condition)) (codes_right ds (out-CompiledChoice c).body) (sym says ∙ right) in
     let condition = both_true (fits_truth (length ds) (truth_said (out-CompiledChoice c).condition)) (kinds_truth ds (truth_said (out-CompiledChoice c).condition)) parts.0 in
     (condition.0, condition.1, parts.1)
+
+-- what the compiler has made sure of for an assignment: the type of the variable, and then the expression
+pub long_right : (ds : List Declared) (i : ℕ) (e : NumberExpr) → code_right ds (variants.AssignLong i e) ≡ true
+    → (is_long_type (slice_get ds i) ≡ true) × (right_number ds (number_said e) ≡ true) × (fits_number (length ds) (number_said e) ≡ true) × (kinds_number ds (number_said e) ≡ true)
+long_right ds i e right =
+    let says : code_right ds (variants.AssignLong i e) ≡ (is_long_type (slice_get ds i) && right_number ds (number_said e)) = rw (← variants.rolls-AssignLong i e) (rw fold-roll-CompiledStmt refl) in
+    let parts = both_true (is_long_type (slice_get ds i)) (right_number ds (number_said e)) (sym says ∙ right) in
+    let rest = both_true (fits_number (length ds) (number_said e)) (kinds_number ds (number_said e)) parts.1 in
+    (parts.0, parts.1, rest.0, rest.1)
+
+pub within_right : (ds : List Declared) (i : ℕ) (least most : ℤ) (e : NumberExpr) → code_right ds (variants.AssignWithin i least most e) ≡ true
+    → (is_within_type least most (slice_get ds i) ≡ true) × (right_number ds (number_said e) ≡ true) × (fits_number (length ds) (number_said e) ≡ true) × (kinds_number ds (number_said e) ≡ true)
+within_right ds i least most e right =
+    let says : code_right ds (variants.AssignWithin i least most e) ≡ (is_within_type least most (slice_get ds i) && right_number ds (number_said e)) =
+    rw (← variants.rolls-AssignWithin i least most e) (rw fold-roll-CompiledStmt refl) in
+    let parts = both_true (is_within_type least most (slice_get ds i)) (right_number ds (number_said e)) (sym says ∙ right) in
+    let rest = both_true (fits_number (length ds) (number_said e)) (kinds_number ds (number_said e)) parts.1 in
+    (parts.0, parts.1, rest.0, rest.1)
 
 pub for_right : (ds : List Declared) (k : CountExpr) (body : List CompiledStmt) → code_right ds (variants.For k body) ≡ true → (count_right ds k ≡ true) × (codes_right ds body ≡ true)
 for_right ds k body right =

@@ -1,16 +1,17 @@
-use Rattle.fb_st.proofs.lemmas.Common.{List, length, subst, ◌≡◌, sym, ◌∙◌, ap, not, Bool, ℤ, refl, Result, Ok, Err, false, true, arith, rules, to_z-of_z, slice_get, slice_set, err_from_is_err_and, Name, Stmts, Assign, If, Case, While, Repeat, Types, Values, truth_of, whole, fits, Point, End, Running, Went, Left, Stopped, Step, RunsAll, RunsChoice, RunsBranch, Runs, Advances, passed, Reason, as_whole, CountExpr, CompiledChoice, CompiledStmt, types_in, end_of, number_said, truth_said, fits_truth, fits_number, spot, values_at, name_at, expr_of_number, expr_of_truth, codes_said, code_right, codes_right, arm_right, kinds_truth, kinds_number, ty_or, value_of_word}
+use Rattle.fb_st.proofs.lemmas.Common.{List, ◌<◌, length, subst, ◌≡◌, sym, ◌∙◌, ap, not, Bool, ℤ, refl, Result, Ok, Err, false, true, arith, ints, rules, to_z-of_z, slice_get, slice_set, err_from_is_err_and, Name, Stmts, Assign, If, Case, While, Repeat, Types, Values, truth_of, whole, fits, Point, End, Running, Went, Left, Stopped, Step, RunsAll, RunsChoice, RunsBranch, Runs, Advances, passed, Reason, as_whole, CountExpr, CompiledChoice, CompiledStmt, types_in, end_of, number_said, truth_said, fits_truth, fits_number, spot, values_at, name_at, expr_of_number, expr_of_truth, codes_said, code_right, codes_right, arm_right, kinds_truth, kinds_number, ty_or, value_of_word}
 use Rattle.fb_types.proofs.Common.{Returned, Then}
+use Rattle.std.specs.Prelude.{◌≤ℤ◌}
 use mir.Syntax.{w64, w128}
 use mir.Val.{SFits}
 use Rattle.fb_types.specs.declared.value.Value.TheVariants as value
 use Rattle.fb_st.specs.declared.compiled.CompiledBranch.{CompiledBranch}
 use Rattle.fb_st.specs.declared.meter.Flow.TheVariants as flow
 use Rattle.fb_st.specs.Fitting.{begun, code_said, arms_said, forks_said, count_right, fork_right}
-use Rattle.fb_st.proofs.lemmas.Assigning.{within_slot_there}
+use Rattle.fb_st.proofs.lemmas.Assigning.{assign_writes, long_slot, long_slot_there, within_slot, within_slot_there}
 use Rattle.fb_st.proofs.lemmas.Comes.{both_true, condition_comes, number_comes}
 use Rattle.fb_st.proofs.lemmas.Sizes.{statement_size, body_of_arm_size, body_of_for_size, body_of_repeat_size, body_of_while_size}
 use Rattle.fb_st.proofs.lemmas.Words.{word_type}
-use Rattle.fb_st.proofs.lemmas.CodeRuns.{one_right, codes_go_on, codes_end, codes_as, ends_here, long_says, within_says, truth_says, if_says, case_says, for_says, while_says, repeat_says, case_part, case_stops, count_parts, within_there, counted, for_no_start, for_no_end, for_no_step, first_set, first_read, arm_parts, for_right, while_right, repeat_right, arm_holds, arm_ran, arm_taken, arm_passed, arm_stops, fork_fits, fork_ran, fork_taken, fork_passed}
+use Rattle.fb_st.proofs.lemmas.CodeRuns.{one_right, codes_go_on, codes_end, codes_as, ends_here, long_right, within_right, long_says, within_says, truth_says, if_says, case_says, for_says, while_says, repeat_says, case_part, case_stops, count_parts, within_there, counted, for_no_start, for_no_end, for_no_step, first_set, first_read, arm_parts, for_right, while_right, repeat_right, arm_holds, arm_ran, arm_taken, arm_passed, arm_stops, fork_fits, fork_ran, fork_taken, fork_passed}
 use Rattle.fb_st.proofs.lemmas.Runs.{began, case_runs, for_counts, for_not_begun, stopped_by, ended_by, ok_by, ends_as, nothing_left, loop_over, loop_stops, loop_left, loop_returned, loop_stopped, loop_goes_on, repeat_goes_on, repeat_over, repeat_stops, repeat_left, repeat_returned, repeat_stopped}
 use Rattle.fb_st.proofs.running.+running.Goals as goal
 
@@ -467,20 +468,123 @@ run_branch-returns-clause-run t c =
 
 -- ---- A statement, once its step is begun
 
-pub run-returns-in-AssignLong-clause-run : goal.run-returns-in-AssignLong-clause-run
-run-returns-in-AssignLong-clause-run t c =
+-- the expression of an assignment fits the words, and so does its slot
+pub run-number-requires : goal.run-number-requires
+run-number-requires t c =
+    let ds = c.args.layout.now in
+    let right = long_right ds c.in-AssignLong.slot c.in-AssignLong.expr (ap (code_right ds) (sym c.in-AssignLong.is) ∙ c.requires.right) in
+    rw (c.requires.frame.fit) right.2
+
+pub run-bounds-words-slot : goal.run-bounds-words-slot
+run-bounds-words-slot t c =
+    let ds = c.args.layout.now in
+    let right = long_right ds c.in-AssignLong.slot c.in-AssignLong.expr (ap (code_right ds) (sym c.in-AssignLong.is) ∙ c.requires.right) in
+    rw (c.requires.frame.fit) (long_slot_there ds c.in-AssignLong.slot right.0)
+
+pub run-offset_bounds-words-slot : goal.run-offset_bounds-words-slot
+run-offset_bounds-words-slot t c =
+    let right = long_right c.args.layout.now c.in-AssignLong.slot c.in-AssignLong.expr (ap (code_right c.args.layout.now) (sym c.in-AssignLong.is) ∙ c.requires.right) in
+    let at : c.in-AssignLong.slot < length c.args.words.now = rw (c.requires.frame.fit) (long_slot_there c.args.layout.now c.in-AssignLong.slot right.0) in
+    search rules
+
+pub run-assign_exact-requires-clause-slot : goal.run-assign_exact-requires-clause-slot
+run-assign_exact-requires-clause-slot t c =
+    let ds = c.args.layout.now in
+    let right = long_right ds c.in-AssignLong.slot c.in-AssignLong.expr (ap (code_right ds) (sym c.in-AssignLong.is) ∙ c.requires.right) in
+    long_slot_there ds c.in-AssignLong.slot right.0
+
+pub run-assign_exact-requires-clause-right : goal.run-assign_exact-requires-clause-right
+run-assign_exact-requires-clause-right t c =
+    let ds = c.args.layout.now in
+    let right = long_right ds c.in-AssignLong.slot c.in-AssignLong.expr (ap (code_right ds) (sym c.in-AssignLong.is) ∙ c.requires.right) in
+    right.1
+
+pub run-returns-in-Some-clause-run : goal.run-returns-in-Some-clause-run
+run-returns-in-Some-clause-run t c =
+    let ds = c.args.layout.now in
+    let ws = c.args.words.now in
+    let slot = c.in-AssignLong.slot in
+    let e = number_said c.in-AssignLong.expr in
+    let left = c.step.new.self.left in
+    let right = long_right ds c.in-AssignLong.slot c.in-AssignLong.expr (ap (code_right ds) (sym c.in-AssignLong.is) ∙ c.requires.right) in
+    let fit : SFits w64 c.in-Some.number = search rules in
+    let at = long_slot (slice_get ds slot) right.0 c.in-Some.number fit in
+    let comes = number_comes ds ws c.requires.frame.fit c.requires.frame.once e right.3 ∙ ap as_whole c.in-Some.ensures in
+    rw (to_z-of_z fit)
+    (began (types_in ds) (code_said ds c.args.statement.now) (Assign (name_at ds slot) (expr_of_number ds e))
+    (values_at ds ws) c.args.meter.now.left left Went (spot ds (slice_set ws slot c.in-Some.number) c.step.new.self)
+    (ap (code_said ds) c.in-AssignLong.is ∙ long_says ds slot c.in-AssignLong.expr) c.in_ok-step.ensures.ok
+    (assign_writes ds ws c.requires.frame.fit c.requires.frame.once slot at.0 at.1 (expr_of_number ds e) c.in-Some.number _ comes at.2 at.3 left))
+
+pub run-returns-in-None-clause-run : goal.run-returns-in-None-clause-run
+run-returns-in-None-clause-run t c =
     let ds = c.args.layout.now in
     began (types_in ds) (code_said ds c.args.statement.now) (Assign (name_at ds c.in-AssignLong.slot) (expr_of_number ds (number_said c.in-AssignLong.expr)))
-    (values_at ds c.args.words.now) c.args.meter.now.left c.step.new.self.left (end_of c.assign_long.result) (spot ds c.assign_long.new.words c.step.new.self)
-    (ap (code_said ds) c.in-AssignLong.is ∙ long_says ds c.in-AssignLong.slot c.in-AssignLong.expr) c.in_ok-step.ensures.ok (c.assign_long.ensures.run c.step.new.self.left)
+    (values_at ds c.args.words.now) c.args.meter.now.left c.step.new.self.left (end_of c.assign_exact.result) (spot ds c.assign_exact.new.words c.step.new.self)
+    (ap (code_said ds) c.in-AssignLong.is ∙ long_says ds c.in-AssignLong.slot c.in-AssignLong.expr) c.in_ok-step.ensures.ok (c.assign_exact.ensures.run c.step.new.self.left)
 
-pub run-returns-in-AssignWithin-clause-run : goal.run-returns-in-AssignWithin-clause-run
-run-returns-in-AssignWithin-clause-run t c =
+-- a type that holds fewer numbers: one that it does not hold is left to the exact assignment
+pub run-number-requires-in-AssignWithin : goal.run-number-requires-in-AssignWithin
+run-number-requires-in-AssignWithin t c =
+    let ds = c.args.layout.now in
+    let right = within_right ds c.in-AssignWithin.slot c.in-AssignWithin.least c.in-AssignWithin.most c.in-AssignWithin.expr (ap (code_right ds) (sym c.in-AssignWithin.is) ∙ c.requires.right) in
+    rw (c.requires.frame.fit) right.2
+
+pub run-bounds-words-slot-in-Some-number : goal.run-bounds-words-slot-in-Some-number
+run-bounds-words-slot-in-Some-number t c =
+    let ds = c.args.layout.now in
+    let right = within_right ds c.in-AssignWithin.slot c.in-AssignWithin.least c.in-AssignWithin.most c.in-AssignWithin.expr (ap (code_right ds) (sym c.in-AssignWithin.is) ∙ c.requires.right) in
+    rw (c.requires.frame.fit) (within_slot_there ds c.in-AssignWithin.slot c.in-AssignWithin.least c.in-AssignWithin.most right.0)
+
+pub run-offset_bounds-words-slot-in-Some-number : goal.run-offset_bounds-words-slot-in-Some-number
+run-offset_bounds-words-slot-in-Some-number t c =
+    let right = within_right c.args.layout.now c.in-AssignWithin.slot c.in-AssignWithin.least c.in-AssignWithin.most c.in-AssignWithin.expr (ap (code_right c.args.layout.now) (sym c.in-AssignWithin.is) ∙ c.requires.right) in
+    let at : c.in-AssignWithin.slot < length c.args.words.now = rw (c.requires.frame.fit) (within_slot_there c.args.layout.now c.in-AssignWithin.slot c.in-AssignWithin.least c.in-AssignWithin.most right.0) in
+    search rules
+
+pub run-assign_exact-requires-in_default-clause-slot : goal.run-assign_exact-requires-in_default-clause-slot
+run-assign_exact-requires-in_default-clause-slot t c =
+    let ds = c.args.layout.now in
+    let right = within_right ds c.in-AssignWithin.slot c.in-AssignWithin.least c.in-AssignWithin.most c.in-AssignWithin.expr (ap (code_right ds) (sym c.in-AssignWithin.is) ∙ c.requires.right) in
+    within_slot_there ds c.in-AssignWithin.slot c.in-AssignWithin.least c.in-AssignWithin.most right.0
+
+pub run-assign_exact-requires-in_default-clause-right : goal.run-assign_exact-requires-in_default-clause-right
+run-assign_exact-requires-in_default-clause-right t c =
+    let ds = c.args.layout.now in
+    let right = within_right ds c.in-AssignWithin.slot c.in-AssignWithin.least c.in-AssignWithin.most c.in-AssignWithin.expr (ap (code_right ds) (sym c.in-AssignWithin.is) ∙ c.requires.right) in
+    right.1
+
+pub run-returns-in-Some-number-clause-run : goal.run-returns-in-Some-number-clause-run
+run-returns-in-Some-number-clause-run t c =
+    let ds = c.args.layout.now in
+    let ws = c.args.words.now in
+    let slot = c.in-AssignWithin.slot in
+    let least = c.in-AssignWithin.least in
+    let most = c.in-AssignWithin.most in
+    let e = number_said c.in-AssignWithin.expr in
+    let left = c.step.new.self.left in
+    let number = c.in-Some-number.number in
+    let right = within_right ds c.in-AssignWithin.slot c.in-AssignWithin.least c.in-AssignWithin.most c.in-AssignWithin.expr (ap (code_right ds) (sym c.in-AssignWithin.is) ∙ c.requires.right) in
+    let fit : SFits w64 number = search rules in
+    let fit_least : SFits w64 least = search rules in
+    let fit_most : SFits w64 most = search rules in
+    let low : least ≤ℤ number = let h = rw (to_z-of_z fit_least, to_z-of_z fit) at c.if-least-number.true in grind (arith, ints) in
+    let high : number ≤ℤ most = let h = rw (to_z-of_z fit, to_z-of_z fit_most) at c.if-number-most.true in grind (arith, ints) in
+    let at = within_slot (slice_get ds slot) least most right.0 number low high in
+    let comes = number_comes ds ws c.requires.frame.fit c.requires.frame.once e right.3 ∙ ap as_whole c.in-Some-number.ensures in
+    rw (to_z-of_z fit)
+    (began (types_in ds) (code_said ds c.args.statement.now) (Assign (name_at ds slot) (expr_of_number ds e))
+    (values_at ds ws) c.args.meter.now.left left Went (spot ds (slice_set ws slot number) c.step.new.self)
+    (ap (code_said ds) c.in-AssignWithin.is ∙ within_says ds slot least most c.in-AssignWithin.expr) c.in_ok-step.ensures.ok
+    (assign_writes ds ws c.requires.frame.fit c.requires.frame.once slot at.0 at.1 (expr_of_number ds e) number _ comes at.2 at.3 left))
+
+pub run-returns-in_default-clause-run : goal.run-returns-in_default-clause-run
+run-returns-in_default-clause-run t c =
     let ds = c.args.layout.now in
     began (types_in ds) (code_said ds c.args.statement.now) (Assign (name_at ds c.in-AssignWithin.slot) (expr_of_number ds (number_said c.in-AssignWithin.expr)))
-    (values_at ds c.args.words.now) c.args.meter.now.left c.step.new.self.left (end_of c.assign_within.result) (spot ds c.assign_within.new.words c.step.new.self)
+    (values_at ds c.args.words.now) c.args.meter.now.left c.step.new.self.left (end_of c.assign_exact-in_default.result) (spot ds c.assign_exact-in_default.new.words c.step.new.self)
     (ap (code_said ds) c.in-AssignWithin.is ∙ within_says ds c.in-AssignWithin.slot c.in-AssignWithin.least c.in-AssignWithin.most c.in-AssignWithin.expr) c.in_ok-step.ensures.ok
-    (c.assign_within.ensures.run c.step.new.self.left)
+    (c.assign_exact-in_default.ensures.run c.step.new.self.left)
 
 pub run-returns-in-AssignTruth-clause-run : goal.run-returns-in-AssignTruth-clause-run
 run-returns-in-AssignTruth-clause-run t c =
@@ -509,7 +613,7 @@ run-returns-in_err-number-in-Case-clause-run t c =
     let e = expr_of_number ds (number_said c.in-Case.selector) in
     let kinds = (both_true (fits_number (length ds) (number_said c.in-Case.selector)) (kinds_number ds (number_said c.in-Case.selector)) (case_part ds c.in-Case.selector c.in-Case.branches c.in-Case.others
     (ap (code_right ds) (sym c.in-Case.is) ∙ c.requires.right))).1 in
-    let comes = number_comes ds c.args.words.now c.requires.frame.fit c.requires.frame.once (number_said c.in-Case.selector) kinds ∙ ap as_whole (sym c.number.ensures ∙ c.in_err-number-in-Case.was) in
+    let comes = number_comes ds c.args.words.now c.requires.frame.fit c.requires.frame.once (number_said c.in-Case.selector) kinds ∙ ap as_whole (sym c.number-in-Case.ensures ∙ c.in_err-number-in-Case.was) in
     let x = err_from_is_err_and c.from_residual-in_err-number-in-Case.result c.from_residual-in_err-number-in-Case.ensures.1 in
     let said = ap (code_said ds) c.in-Case.is ∙ case_says ds c.in-Case.selector c.in-Case.branches c.in-Case.others in
     rw (x.1, x.2)
@@ -528,7 +632,7 @@ run-returns-in_ok-number-in-Case-clause-run t c =
     let wide : SFits w128 c.in_ok-number-in-Case.number = search rules in
     let kinds = (both_true (fits_number (length ds) (number_said c.in-Case.selector)) (kinds_number ds (number_said c.in-Case.selector)) (case_part ds c.in-Case.selector c.in-Case.branches c.in-Case.others
     (ap (code_right ds) (sym c.in-Case.is) ∙ c.requires.right))).1 in
-    let comes = number_comes ds c.args.words.now c.requires.frame.fit c.requires.frame.once (number_said c.in-Case.selector) kinds ∙ ap as_whole (sym c.number.ensures ∙ c.in_ok-number-in-Case.was) in
+    let comes = number_comes ds c.args.words.now c.requires.frame.fit c.requires.frame.once (number_said c.in-Case.selector) kinds ∙ ap as_whole (sym c.number-in-Case.ensures ∙ c.in_ok-number-in-Case.was) in
     let said : code_said ds c.args.statement.now ≡ Case e (forks_said ds bs) (codes_said ds others) =
     ap (code_said ds) c.in-Case.is ∙ case_says ds c.in-Case.selector c.in-Case.branches c.in-Case.others
     ∙ ap (λ (l : List CompiledBranch). Case e (forks_said ds l) (codes_said ds c.in-Case.others)) (sym c.as_slice-in-Case.ensures)
@@ -775,8 +879,8 @@ run_choice-is_true-requires t c =
     let right = one_right (arm_right ds) c.args.choices.now c.loop-choice.choice-index one c.loop-choice-test.true c.choice-item.is inv.right in
     rw (ap length inv.same_words ∙ c.requires.frame.fit) (arm_parts ds one right.0).0
 
-pub run-number-requires : goal.run-number-requires
-run-number-requires t c =
+pub run-number-requires-in-Case : goal.run-number-requires-in-Case
+run-number-requires-in-Case t c =
     let ds = c.args.layout.now in
     let e = number_said c.in-Case.selector in
     let right = case_part ds c.in-Case.selector c.in-Case.branches c.in-Case.others (ap (code_right ds) (sym c.in-Case.is) ∙ c.requires.right) in
