@@ -3,6 +3,7 @@ pub mod OneAgenda
 pub mod Serial
 pub mod Rounds
 pub mod Views
+pub mod Horizons
 pub mod Advances
 pub mod Reports
 pub mod Texts

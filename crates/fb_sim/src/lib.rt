@@ -6,9 +6,11 @@
 //!
 //! Read in this order: `options` and `outcome`; `reading`, the steps before a run; `serial` with `one_agenda`, a run on
 //! one thread. A run with workers: `runs`, `progress`, and `rounds`, whose page explains the choice between rounds, turns
-//! and one agenda. Then `simulation` and `state`; `with_progress`, a run that reports its progress.
+//! and one agenda. Then `simulation` and `state`; `laws`, what follows for rounds to rising horizons; `with_progress`, a run
+//! that reports its progress.
 #![tactic(auto)]
 
+pub mod laws;
 mod one_agenda;
 pub mod options;
 pub mod outcome;
