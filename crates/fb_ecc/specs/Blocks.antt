@@ -7,12 +7,11 @@ use Rattle.fb_types.specs.declared.run.Emission.{Emission}
 use Rattle.fb_st.specs.Frames.{declared_in}
 use Rattle.fb_st.specs.declared.frame.Slot.{Slot}
 use Rattle.fb_st.specs.declared.meter.Meter.{Meter}
-use Rattle.fb_ecc.specs.Indexes.{IsBlockOf, IsWellFormed}
+use Rattle.fb_ecc.specs.Indexes.{IsWellFormed}
 use Rattle.fb_ecc.specs.Located.{slots_with_each}
 use Rattle.fb_ecc.specs.Programs.{IsProgramOf}
 use Rattle.fb_ecc.specs.Sound.{IsSound, declared_by}
 use Rattle.fb_ecc.specs.declared.program.Program.{Program}
-use Rattle.fb_ecc.specs.declared.state.BasicState.{BasicState}
 
 -- The variables are those of the type.
 abbrev pub IsFrameOf : BasicType → List Slot → Type 0
@@ -47,13 +46,6 @@ pub record MayRun (t : BasicType) (p : Program) (slots : List Slot) : Type 0 whe
 -- However actions end: the variables are those that there were, no step is gained, what was emitted before comes first still, and what is emitted is well formed.
 pub record AreKept (t : BasicType) (old : List Slot) (m : Meter) (before : List Emission) (new : List Slot) (n : Meter) (after : List Emission) : Type 0 where
   pub declared : declared_in new ≡ declared_in old
-  pub fewer : n.left ≤ m.left
-  pub begins : BeginsWith before after
-  pub well_formed : StillFit t before after
-
--- However a link ends: the block is one of its type, no step is gained, what was emitted before comes first still, and what is emitted is well formed.
-pub record StaysOfType (t : BasicType) (m : Meter) (before : List Emission) (s : BasicState) (n : Meter) (after : List Emission) : Type 0 where
-  pub block : IsBlockOf t s
   pub fewer : n.left ≤ m.left
   pub begins : BeginsWith before after
   pub well_formed : StillFit t before after

@@ -5,15 +5,14 @@ ghost use Rattle.fb_types.specs.Names.{Name};
 ghost use Rattle.fb_types.specs.Charts.{Acts, emitting};
 ghost use Rattle.fb_types.specs.declared.library.Action.{Action};
 ghost use Rattle.fb_st.specs.Frames.{declared_in, values_of};
-ghost use Rattle.fb_ecc.specs.Blocks.{AreKept, AreShown, BeginsWith, IsFrameOf, MayRun, StillFit};
-ghost use Rattle.fb_ecc.specs.Actions.{AreActions, IsAction, IsOutput};
+ghost use Rattle.fb_ecc.specs.Blocks.{AreKept, AreShown, BeginsWith, IsFrameOf, StillFit};
+ghost use Rattle.fb_ecc.specs.Actions.{AreActions, IsOutput};
 ghost use Rattle.fb_ecc.specs.Located.{AreAt};
 ghost use Rattle.fb_ecc.specs.Indexes.{Ended, index};
 ghost use Rattle.fb_ecc.specs.Programs.{IsSharedOf};
 ghost use Rattle.fb_ecc.specs.Sound.{Each, IsSound};
 
 use crate::chart::Act;
-use crate::program::Program;
 use crate::shared::SharedChart;
 use fb_st::{Frame, Meter, exec, exec_compiled};
 use fb_types::{BasicType, Emission, Emits, Halt, Items, Values};
@@ -79,41 +78,8 @@ fn emit(
     }
 }
 
-/// One action: its algorithm, mostly in its compiled form, and then its output event.
-#[inline(always)]
-pub(crate) fn perform(
-    block: &BasicType,
-    program: &Program,
-    act: Act,
-    shown: &[Items<usize>],
-    frame: &mut Frame,
-    meter: &mut Meter,
-    emits: &mut Emits,
-) -> Result<(), Halt>
-    requires may { MayRun block.now program.now frame.old }
-    requires shown { AreShown block.now shown.now }
-    requires act { (a : Action) × IsAction block.now act a }
-    ensures performed { (a : Action) (state : ℕ) → IsAction block.now act a →
-        Ended result (Acts block.now (a ∷ []) meter.old.left) (index block.now state frame.old meter.old.left emits.old) (index block.now state frame.new meter.new.left emits.new) }
-    ensures kept { AreKept block.now frame.old meter.old emits.old frame.new meter.new emits.new }
-{
-    meter.step()?;
-    if let Some(algorithm) = act.algorithm {
-        let codes = program.body(algorithm);
-        match exec_compiled(codes, &program.layout, frame, meter) {
-            Some(end) => {
-                end?;
-            }
-            None => {
-                exec(&block.algorithms.as_slice()[algorithm].body, frame, meter)?;
-            }
-        }
-    }
-    emit(block, act.output, shown, frame, emits)?;
-    Ok(())
-}
-
-/// The actions of a state, in their order. Each costs a step.
+/// Actions in their order, those of a state or one of them. Each costs a step, and has its algorithm, mostly in its
+/// compiled form, and then its output event.
 #[inline(always)]
 pub(crate) fn perform_all(
     block: &BasicType,
@@ -134,7 +100,19 @@ pub(crate) fn perform_all(
     let program = chart.program();
     let shown = chart.shown();
     for act in acts {
-        perform(block, program, *act, shown, frame, meter, emits)?;
+        meter.step()?;
+        if let Some(algorithm) = act.algorithm {
+            let codes = program.body(algorithm);
+            match exec_compiled(codes, &program.layout, frame, meter) {
+                Some(end) => {
+                    end?;
+                }
+                None => {
+                    exec(&block.algorithms.as_slice()[algorithm].body, frame, meter)?;
+                }
+            }
+        }
+        emit(block, act.output, shown, frame, emits)?;
     }
     Ok(())
 }

@@ -11,13 +11,14 @@ ghost use Rattle.fb_ecc.specs.Sound.{Each, IsSound};
 ghost use Rattle.fb_ecc.specs.Steps.{IsFirst, acts_at, clearing_index, trial_by};
 ghost use Rattle.fb_ecc.specs.Trials.{transition_at};
 
-use crate::action::perform;
+use crate::action::perform_all;
 use crate::chart::{Act, ChartState};
 use crate::reaction::sample;
 use crate::state::BasicState;
 use crate::trial::first_exit;
 use fb_st::Meter;
 use fb_types::{BasicType, Emits, Halt, Reason, Value};
+use std::slice::from_ref;
 
 /// A reaction begins: gives the variables WITH an event the values that were sampled.
 pub fn begin(state: &mut BasicState, block: &BasicType, event: u32, values: &[Value])
@@ -115,15 +116,6 @@ pub fn act(
     ensures well_formed { StillFit block.now emits.old emits.new }
 {
     let acts = acts_of(state.chart.rows(), state.state);
-    let program = state.chart.program();
-    let shown = state.chart.shown();
-    perform(
-        block,
-        program,
-        acts[index],
-        shown,
-        &mut state.frame,
-        meter,
-        emits,
-    )
+    let act = from_ref(&acts[index]);
+    perform_all(block, &state.chart, act, &mut state.frame, meter, emits)
 }

@@ -49,13 +49,6 @@ module _ (t : BasicType) (present : Option Name) where
   pub fails : (p : Position) (left : ℕ) (r : Reason) → trial_at t present p ≡ Fails r left → Chain t present p (Some r) (record p { left = left })
   fails p left r tried = (zero, subst (λ (x : Trial). Rests x p (Some r) (record p { left = left })) (sym tried) (refl, refl))
 
--- a state was entered from which the chain goes on, or in which it rests
-pub linked_on :
-    (t : BasicType) (present : Option Name) (p m q : Position) (b : Bool) (h : Result Bool Reason) → h ≡ Ok b → (h ≡ Ok true → q ≡ m) → (h ≡ Ok false → Chain t None m None q)
-    → ((stop : Option Reason) (end : Position) → Chain t None m stop end → Chain t present p stop end) → Linked t (Ok b) present p q
-linked_on t present p m q true h is on rests goes = λ stop end rest. goes stop end (subst (λ (r : Position). Chain t None r stop end) (on is) rest)
-linked_on t present p m q false h is on rests goes = goes None q (rests is)
-
 -- ---- Rows
 
 drop_next : {A : Type 0} (xs ys : List A) (k : ℕ) (x : A) → drop k xs ≡ x ∷ ys → (slice_get xs k ≡ Some x) × (drop (suc k) xs ≡ ys)

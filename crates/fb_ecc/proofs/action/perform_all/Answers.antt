@@ -1,27 +1,25 @@
-use Rattle.fb_types.proofs.Common.{◌≤◌, ◌+◌, ℕ, List, [], ◌∷◌, drop, length, Some, None, Result, refl, sym, ◌∙◌, subst, arith, err_from_is_err_and, Acts, Position}
+use Rattle.fb_types.proofs.Common.{◌≡◌, ◌<◌, ◌≤◌, ◌+◌, ◌∷◌, ℕ, List, [], drop, Option, Some, None, length, get_or, map, refl, sym, ◌∙◌, arith, subst, slice_get, same_Some, slice_get_within, err_from_is_err_and, Acts, Halts, Performs, Position, RunsAll, body_of, stmt_of}
 use Rattle.fb_types.specs.declared.library.Action.{Action}
-use Rattle.fb_types.specs.declared.run.Halt.{Halt}
-use Rattle.fb_ecc.specs.Indexes.{Ended, index}
+use Rattle.fb_types.specs.declared.library.Algorithm.{Algorithm}
+use Rattle.fb_types.specs.declared.value.Reason.TheVariants.{Steps}
+use Rattle.fb_st.specs.FrameRuns.{IsKept}
+use Rattle.fb_st.specs.Flows.{end_of, point}
+use Rattle.fb_st.specs.Frames.{Declared, declared_in, types_in}
+use Rattle.fb_st.specs.Known.{AllKnown}
+use Rattle.fb_st.specs.declared.frame.Slot.{Slot}
+use Rattle.fb_st.specs.declared.meter.Meter.{Meter}
+use Rattle.fb_ecc.specs.Actions.{IsAlgorithm}
+use Rattle.fb_ecc.specs.Indexes.{index}
 use Rattle.fb_ecc.specs.Programs.{IsProgramOf}
 use Rattle.fb_ecc.specs.declared.chart.Act.{Act}
 use Rattle.fb_ecc.specs.declared.program.Program.{Program}
-use Rattle.fb_ecc.proofs.lemmas.Actions.{action_here, begins_on, begins_same, next_acts, no_next_acts, no_action_left, ended_early}
+use Rattle.fb_ecc.proofs.lemmas.Actions.{action_here, acts_goes, acts_stops, algorithm_here, begins_on, begins_same, next_acts, no_action_left, no_next_acts, performed_err, performed_none, performed_ok, read_here}
+use Rattle.fb_ecc.proofs.lemmas.Programs.{body_says}
 use Rattle.fb_ecc.proofs.action.perform_all.Goals as goal
+use Rattle.fb_ecc.proofs.action.perform_all.Goals.{in-Some+in-Some-exec_compiled+in_ok-end-in-Some-exec_compiled, in-Some+in-None+in_ok-exec-in-None, in_default}
 
 abbrev unread : Act
 unread = record { algorithm = None; output = None }
-
-pub perform-requires-clause-may : goal.perform-requires-clause-may
-perform-requires-clause-may c = record {
-  sound = c.requires.sound;
-  program = subst (λ (p : Program). IsProgramOf c.args.block.now p) (sym c.program-program.ensures) c.requires.chart.program;
-  declared = c.loop-act.invariant.declared ∙ c.requires.declared;
-}
-
-pub perform-requires-clause-act : goal.perform-requires-clause-act
-perform-requires-clause-act c =
-    let n = action_here c.args.block.now c.args.acts.now c.requires.acts.0 c.loop-act.act-index unread c.requires.acts.1 c.loop-act-test.true in
-    (n.action, n.is)
 
 pub loop-act-init : goal.loop-act-init
 loop-act-init c = record {
@@ -32,40 +30,249 @@ loop-act-init c = record {
   well_formed = λ all. all;
 }
 
-pub returns-in_err-perform-clause-performed : goal.returns-in_err-perform-clause-performed
-returns-in_err-perform-clause-performed c =
+-- ---- No step is left
+
+pub returns-in_err-step-clause-performed : goal.returns-in_err-step-clause-performed
+returns-in_err-step-clause-performed c = λ actions state are.
+    let t = c.args.block.now in
     let i : ℕ = c.loop-act.act-index in
+    let found = action_here t c.args.acts.now actions i unread are c.loop-act-test.true in
+    let a : Action = found.action in
+    let from : Position = index t state c.loop-act.frame c.loop-act.meter.left c.loop-act.emits in
+    let err = c.in_err-step.ensures.err in
     let x = err_from_is_err_and c.from_residual.result c.from_residual.ensures.1 in
-    λ actions state are.
-    let n = action_here c.args.block.now c.args.acts.now actions i unread are c.loop-act-test.true in
-    let p : Position = index c.args.block.now state c.args.frame.now c.args.meter.now.left c.args.emits.now in
-    let m : Position = index c.args.block.now state c.loop-act.frame c.loop-act.meter.left c.loop-act.emits in
-    let q : Position = index c.args.block.now state c.perform.new.frame c.perform.new.meter.left c.perform.new.emits in
-    let left : ℕ = c.loop-act.meter.left in
-    let ended = subst (λ (r : Result (Unit {0}) Halt). Ended r (Acts c.args.block.now (n.action ∷ []) left) m q) c.in_err-perform.was (c.perform.ensures.performed n.action state n.is) in
+    let stopped : Acts t (a ∷ drop (i + 1) actions) c.loop-act.meter.left from (Some Steps) from =
+    subst (λ (n : ℕ). Acts t (a ∷ drop (i + 1) actions) n from (Some Steps) from) (sym err.1) (refl, refl) in
+    let all = c.loop-act.invariant.performed actions state are (Some Steps) from
+    (subst (λ (l : List Action). Acts t l c.loop-act.meter.left from (Some Steps) from) (sym found.here) stopped) in
+    rw (x.1, x.2, err.0, err.2 ∙ sym err.1) all
+
+-- ---- The compiled form
+
+pub exec_compiled-requires-clause-layout : goal.exec_compiled-requires-clause-layout
+exec_compiled-requires-clause-layout c =
+    let t = c.args.block.now in
+    let declared = c.loop-act.invariant.declared ∙ c.requires.declared in
+    let prog = subst (λ (p : Program). IsProgramOf t p) (sym c.program-program.ensures) c.requires.chart.program in
+    prog.layout ∙ sym declared
+
+pub exec_compiled-requires-clause-says : goal.exec_compiled-requires-clause-says
+exec_compiled-requires-clause-says c =
+    let t = c.args.block.now in
+    let prog = subst (λ (p : Program). IsProgramOf t p) (sym c.program-program.ensures) c.requires.chart.program in
+    let i : ℕ = c.loop-act.act-index in
+    let found = action_here t c.args.acts.now c.requires.acts.0 i unread c.requires.acts.1 c.loop-act-test.true in
+    let a : Action = found.action in
+    let here = found.is in
+    let k : ℕ = c.in-Some.algorithm in
+    let n = algorithm_here t k a.algorithm (subst (λ (o : Option ℕ). IsAlgorithm t o a.algorithm) c.in-Some.is here.algorithm) in
+    let says = body_says c.program-program.result.now.layout t.algorithms c.program-program.result.now.bodies k n.element c.body-codes.result prog.bodies n.at c.body-codes.ensures in
+    (map stmt_of n.element.body.statements, says)
+
+pub returns-in_err-end-in-Some-exec_compiled-clause-performed : goal.returns-in_err-end-in-Some-exec_compiled-clause-performed
+returns-in_err-end-in-Some-exec_compiled-clause-performed c = λ actions state are.
+    let t = c.args.block.now in
+    let slots = c.loop-act.frame in
+    let left = c.step.new.self.left in
+    let declared = c.loop-act.invariant.declared ∙ c.requires.declared in
+    let prog = subst (λ (p : Program). IsProgramOf t p) (sym c.program-program.ensures) c.requires.chart.program in
+    let p : Position = index t state slots left c.loop-act.emits in
+    let from : Position = index t state slots c.loop-act.meter.left c.loop-act.emits in
+    let i : ℕ = c.loop-act.act-index in
+    let found = action_here t c.args.acts.now actions i unread are c.loop-act-test.true in
+    let a : Action = found.action in
+    let here = found.is in
+    let k : ℕ = c.in-Some.algorithm in
+    let n = algorithm_here t k a.algorithm (subst (λ (o : Option ℕ). IsAlgorithm t o a.algorithm) c.in-Some.is here.algorithm) in
+    let says = body_says c.program-program.result.now.layout t.algorithms c.program-program.result.now.bodies k n.element c.body-codes.result prog.bodies n.at c.body-codes.ensures in
+    let ran = c.in-Some-exec_compiled.ensures.run (map stmt_of n.element.body.statements) says in
+    let failed = c.in_err-end-in-Some-exec_compiled in
+    let r = failed.field-0.0 in
+    let x = err_from_is_err_and c.from_residual-in_err-end-in-Some-exec_compiled.result c.from_residual-in_err-end-in-Some-exec_compiled.ensures.1 in
+    let q : Position = index t state c.exec_compiled.new.frame c.exec_compiled.new.meter.left c.loop-act.emits in
+    let one = acts_stops t a [] from q c.loop-act.meter.left left r c.in_ok-step.ensures.ok
+    (performed_err t k a.algorithm n n.element (declared_in slots) p slots c.exec_compiled.new.frame left c.exec_compiled.new.meter.left
+    c.in-Some-exec_compiled.end r n.at declared failed.was ran) in
     rw (x.1, x.2)
-    (ended_early c.in_err-perform.field-0.0 (Acts c.args.block.now (n.action ∷ []) left) (Acts c.args.block.now actions c.args.meter.now.left) p m q
-    (λ r one. c.loop-act.invariant.performed actions state are (Some r) q
-    (subst (λ (l : List Action). Acts c.args.block.now l left m (Some r) q) (sym n.here) (no_next_acts c.args.block.now n.action (drop (i + 1) actions) m q left r one)))
-    ended)
+    (c.loop-act.invariant.performed actions state are (Some r) q
+    (subst (λ (l : List Action). Acts t l c.loop-act.meter.left from (Some r) q) (sym found.here)
+    (no_next_acts t a (drop (i + 1) actions) from q c.loop-act.meter.left r one)))
+
+-- ---- The text
+
+pub bounds-as_slice-algorithm : goal.bounds-as_slice-algorithm
+bounds-as_slice-algorithm c =
+    let t = c.args.block.now in
+    let i : ℕ = c.loop-act.act-index in
+    let found = action_here t c.args.acts.now c.requires.acts.0 i unread c.requires.acts.1 c.loop-act-test.true in
+    let a : Action = found.action in
+    let here = found.is in
+    let k : ℕ = c.in-Some.algorithm in
+    let n = algorithm_here t k a.algorithm (subst (λ (o : Option ℕ). IsAlgorithm t o a.algorithm) c.in-Some.is here.algorithm) in
+    subst (λ (l : List Algorithm). k < length l) (sym c.as_slice.ensures) (slice_get_within t.algorithms k n.element n.at)
+
+pub offset_bounds-as_slice-algorithm : goal.offset_bounds-as_slice-algorithm
+offset_bounds-as_slice-algorithm c =
+    let t = c.args.block.now in
+    let i : ℕ = c.loop-act.act-index in
+    let found = action_here t c.args.acts.now c.requires.acts.0 i unread c.requires.acts.1 c.loop-act-test.true in
+    let a : Action = found.action in
+    let here = found.is in
+    let k : ℕ = c.in-Some.algorithm in
+    let n = algorithm_here t k a.algorithm (subst (λ (o : Option ℕ). IsAlgorithm t o a.algorithm) c.in-Some.is here.algorithm) in
+    let within = subst (λ (l : List Algorithm). k < length l) (sym c.as_slice.ensures) (slice_get_within t.algorithms k n.element n.at) in
+    let fits = c.as_slice.type_inv.1 in
+    omega arith
+
+pub exec-requires : goal.exec-requires
+exec-requires c =
+    let t = c.args.block.now in
+    let declared = c.loop-act.invariant.declared ∙ c.requires.declared in
+    let i : ℕ = c.loop-act.act-index in
+    let found = action_here t c.args.acts.now c.requires.acts.0 i unread c.requires.acts.1 c.loop-act-test.true in
+    let a : Action = found.action in
+    let here = found.is in
+    let k : ℕ = c.in-Some.algorithm in
+    let n = algorithm_here t k a.algorithm (subst (λ (o : Option ℕ). IsAlgorithm t o a.algorithm) c.in-Some.is here.algorithm) in
+    let within = subst (λ (l : List Algorithm). k < length l) (sym c.as_slice.ensures) (slice_get_within t.algorithms k n.element n.at) in
+    let y : Algorithm = get_or c.as_slice.result.now k c.index-as_slice-algorithm.result in
+    record {
+      known = subst (λ (ds : List Declared). AllKnown ds (body_of y.body)) (sym (c.exec_compiled.ensures.declared ∙ declared))
+          (c.requires.sound.bodies k y (read_here t k c.as_slice.result.now c.index-as_slice-algorithm.result c.as_slice.ensures within));
+    }
+
+pub returns-in_err-exec-in-None-clause-performed : goal.returns-in_err-exec-in-None-clause-performed
+returns-in_err-exec-in-None-clause-performed c = λ actions state are.
+    let t = c.args.block.now in
+    let slots = c.loop-act.frame in
+    let left = c.step.new.self.left in
+    let declared = c.loop-act.invariant.declared ∙ c.requires.declared in
+    let p : Position = index t state slots left c.loop-act.emits in
+    let from : Position = index t state slots c.loop-act.meter.left c.loop-act.emits in
+    let i : ℕ = c.loop-act.act-index in
+    let found = action_here t c.args.acts.now actions i unread are c.loop-act-test.true in
+    let a : Action = found.action in
+    let here = found.is in
+    let k : ℕ = c.in-Some.algorithm in
+    let n = algorithm_here t k a.algorithm (subst (λ (o : Option ℕ). IsAlgorithm t o a.algorithm) c.in-Some.is here.algorithm) in
+    let within = subst (λ (l : List Algorithm). k < length l) (sym c.as_slice.ensures) (slice_get_within t.algorithms k n.element n.at) in
+    let y : Algorithm = get_or c.as_slice.result.now k c.index-as_slice-algorithm.result in
+    let there : slice_get t.algorithms k ≡ Some y = read_here t k c.as_slice.result.now c.index-as_slice-algorithm.result c.as_slice.ensures within in
+    let same = c.exec_compiled.ensures.none c.in-None.is in
+    let Framed : List Slot → Type 0 = λ l.
+    RunsAll (types_in (declared_in l)) (body_of y.body) (point l c.exec_compiled.new.meter) (end_of c.exec.result) (point c.exec.new.frame c.exec.new.meter) in
+    let Metered : Meter → Type 0 = λ m.
+    RunsAll (types_in (declared_in slots)) (body_of y.body) (point slots m) (end_of c.exec.result) (point c.exec.new.frame c.exec.new.meter) in
+    let Read : Algorithm → Type 0 = λ x.
+    RunsAll (types_in (declared_in slots)) (body_of x.body) (point slots c.step.new.self) (end_of c.exec.result) (point c.exec.new.frame c.exec.new.meter) in
+    let ran = subst Read (same_Some y n.element (sym there ∙ n.at)) (subst Metered same.1 (subst Framed same.0 c.exec.ensures.run)) in
+    let failed = c.in_err-exec-in-None in
+    let r = failed.field-0.0 in
+    let x = err_from_is_err_and c.from_residual-in_err-exec-in-None.result c.from_residual-in_err-exec-in-None.ensures.1 in
+    let q : Position = index t state c.exec.new.frame c.exec.new.meter.left c.loop-act.emits in
+    let one = acts_stops t a [] from q c.loop-act.meter.left left r c.in_ok-step.ensures.ok
+    (performed_err t k a.algorithm n n.element (declared_in slots) p slots c.exec.new.frame left c.exec.new.meter.left
+    c.exec.result r n.at declared failed.was ran) in
+    rw (x.1, x.2)
+    (c.loop-act.invariant.performed actions state are (Some r) q
+    (subst (λ (l : List Action). Acts t l c.loop-act.meter.left from (Some r) q) (sym found.here)
+    (no_next_acts t a (drop (i + 1) actions) from q c.loop-act.meter.left r one)))
+
+-- ---- Its output event
+
+pub emit-requires-clause-declared : goal.emit-requires-clause-declared
+emit-requires-clause-declared c =
+    let slots = c.loop-act.frame in
+    let declared = c.loop-act.invariant.declared ∙ c.requires.declared in
+    let kept : IsKept slots c.step.new.self c.match-act.frame c.match-act.meter = elim c.match-act.branch [
+      | in-Some+in-Some-exec_compiled+in_ok-end-in-Some-exec_compiled w ↦
+          rw (w.frame-is, w.meter-is) (record { declared = w.exec_compiled.ensures.declared; fewer = w.exec_compiled.ensures.fewer })
+      | in-Some+in-None+in_ok-exec-in-None w ↦
+          rw (w.frame-is, w.meter-is)
+          (record {
+            declared = w.exec.ensures.declared ∙ w.exec_compiled.ensures.declared;
+            fewer = let a = w.exec_compiled.ensures.fewer in let b = w.exec.ensures.fewer in omega arith;
+          })
+      | in_default w ↦ rw (w.frame-is, w.meter-is) (record { declared = refl; fewer = omega arith })
+    ] in
+    kept.declared ∙ declared
+
+pub emit-requires-clause-event : goal.emit-requires-clause-event
+emit-requires-clause-event c =
+    let t = c.args.block.now in
+    let i : ℕ = c.loop-act.act-index in
+    let found = action_here t c.args.acts.now c.requires.acts.0 i unread c.requires.acts.1 c.loop-act-test.true in
+    let a : Action = found.action in
+    let here = found.is in
+    (a.output, here.output)
 
 pub loop-act-preserved : goal.loop-act-preserved
 loop-act-preserved c =
-    let i : ℕ = c.loop-act.act-index in
-    let left : ℕ = c.loop-act.meter.left in
+    let t = c.args.block.now in
+    let slots = c.loop-act.frame in
+    let left = c.step.new.self.left in
+    let declared = c.loop-act.invariant.declared ∙ c.requires.declared in
+    let prog = subst (λ (p : Program). IsProgramOf t p) (sym c.program-program.ensures) c.requires.chart.program in
+    let kept : IsKept slots c.step.new.self c.match-act.frame c.match-act.meter = elim c.match-act.branch [
+      | in-Some+in-Some-exec_compiled+in_ok-end-in-Some-exec_compiled w ↦
+          rw (w.frame-is, w.meter-is) (record { declared = w.exec_compiled.ensures.declared; fewer = w.exec_compiled.ensures.fewer })
+      | in-Some+in-None+in_ok-exec-in-None w ↦
+          rw (w.frame-is, w.meter-is)
+          (record {
+            declared = w.exec.ensures.declared ∙ w.exec_compiled.ensures.declared;
+            fewer = let a = w.exec_compiled.ensures.fewer in let b = w.exec.ensures.fewer in omega arith;
+          })
+      | in_default w ↦ rw (w.frame-is, w.meter-is) (record { declared = refl; fewer = omega arith })
+    ] in
     record {
       performed = λ actions state are stop q rest.
-          let n = action_here c.args.block.now c.args.acts.now actions i unread are c.loop-act-test.true in
-          let m : Position = index c.args.block.now state c.loop-act.frame c.loop-act.meter.left c.loop-act.emits in
-          let o : Position = index c.args.block.now state c.perform.new.frame c.perform.new.meter.left c.perform.new.emits in
-          let one = subst (λ (r : Result (Unit {0}) Halt). Ended r (Acts c.args.block.now (n.action ∷ []) left) m o) c.in_ok-perform.was (c.perform.ensures.performed n.action state n.is) in
+          let p : Position = index t state slots left c.loop-act.emits in
+          let from : Position = index t state slots c.loop-act.meter.left c.loop-act.emits in
+          let i : ℕ = c.loop-act.act-index in
+          let found = action_here t c.args.acts.now actions i unread are c.loop-act-test.true in
+          let a : Action = found.action in
+          let here = found.is in
+          let m : Position = index t state c.match-act.frame c.match-act.meter.left c.loop-act.emits in
+          let ran : Performs t a.algorithm (Halts None) p None m = elim c.match-act.branch [
+            | in-Some+in-Some-exec_compiled+in_ok-end-in-Some-exec_compiled w ↦
+                let k : ℕ = w.in-Some.algorithm in
+                let n = algorithm_here t k a.algorithm (subst (λ (o : Option ℕ). IsAlgorithm t o a.algorithm) w.in-Some.is here.algorithm) in
+                let says = body_says c.program-program.result.now.layout t.algorithms c.program-program.result.now.bodies k n.element w.body-codes.result prog.bodies n.at w.body-codes.ensures in
+                let ran = w.in-Some-exec_compiled.ensures.run (map stmt_of n.element.body.statements) says in
+                let ended = w.in_ok-end-in-Some-exec_compiled in
+                rw (w.frame-is, w.meter-is)
+                (performed_ok t k a.algorithm n n.element (declared_in slots) p slots w.exec_compiled.new.frame left w.exec_compiled.new.meter.left
+                w.in-Some-exec_compiled.end ended.field-0 n.at declared ended.was ran)
+            | in-Some+in-None+in_ok-exec-in-None w ↦
+                let k : ℕ = w.in-Some.algorithm in
+                let n = algorithm_here t k a.algorithm (subst (λ (o : Option ℕ). IsAlgorithm t o a.algorithm) w.in-Some.is here.algorithm) in
+                let within = subst (λ (l : List Algorithm). k < length l) (sym w.as_slice.ensures) (slice_get_within t.algorithms k n.element n.at) in
+                let y : Algorithm = get_or w.as_slice.result.now k w.index-as_slice-algorithm.result in
+                let there : slice_get t.algorithms k ≡ Some y = read_here t k w.as_slice.result.now w.index-as_slice-algorithm.result w.as_slice.ensures within in
+                let same = w.exec_compiled.ensures.none w.in-None.is in
+                let Framed : List Slot → Type 0 = λ l.
+                RunsAll (types_in (declared_in l)) (body_of y.body) (point l w.exec_compiled.new.meter) (end_of w.exec.result) (point w.exec.new.frame w.exec.new.meter) in
+                let Metered : Meter → Type 0 = λ m.
+                RunsAll (types_in (declared_in slots)) (body_of y.body) (point slots m) (end_of w.exec.result) (point w.exec.new.frame w.exec.new.meter) in
+                let Read : Algorithm → Type 0 = λ x.
+                RunsAll (types_in (declared_in slots)) (body_of x.body) (point slots c.step.new.self) (end_of w.exec.result) (point w.exec.new.frame w.exec.new.meter) in
+                let ran = subst Read (same_Some y n.element (sym there ∙ n.at)) (subst Metered same.1 (subst Framed same.0 w.exec.ensures.run)) in
+                let ended = w.in_ok-exec-in-None in
+                rw (w.frame-is, w.meter-is)
+                (performed_ok t k a.algorithm n n.element (declared_in slots) p slots w.exec.new.frame left w.exec.new.meter.left
+                w.exec.result ended.field-0 n.at declared ended.was ran)
+            | in_default w ↦
+                rw (w.frame-is, w.meter-is) (performed_none t a.algorithm p (subst (λ (o : Option ℕ). IsAlgorithm t o a.algorithm) w.in_default.is here.algorithm))
+          ] in
+          let o : Position = index t state c.match-act.frame c.match-act.meter.left c.emit.new.emits in
+          let one = acts_goes t a from m o c.loop-act.meter.left left c.in_ok-step.ensures.ok ran (c.in_ok-emit.ensures.emitted a.output state c.match-act.meter.left here.output) in
           c.loop-act.invariant.performed actions state are stop q
-          (subst (λ (l : List Action). Acts c.args.block.now l left m stop q) (sym n.here)
-          (next_acts c.args.block.now n.action (drop (i + 1) actions) m o q left stop one rest));
-      declared = c.perform.ensures.kept.declared ∙ c.loop-act.invariant.declared;
-      fewer = let a = c.perform.ensures.kept.fewer in let b = c.loop-act.invariant.fewer in omega arith;
-      begins = begins_on c.args.emits.now c.loop-act.emits c.perform.new.emits c.loop-act.invariant.begins c.perform.ensures.kept.begins;
-      well_formed = λ all. c.perform.ensures.kept.well_formed (c.loop-act.invariant.well_formed all);
+          (subst (λ (l : List Action). Acts t l c.loop-act.meter.left from stop q) (sym found.here)
+          (next_acts t a (drop (i + 1) actions) from o q c.loop-act.meter.left stop one rest));
+      declared = kept.declared ∙ c.loop-act.invariant.declared;
+      fewer = let s = c.in_ok-step.ensures.ok in let b = kept.fewer in let d = c.loop-act.invariant.fewer in omega arith;
+      begins = begins_on c.args.emits.now c.loop-act.emits c.emit.new.emits c.loop-act.invariant.begins c.emit.ensures.begins;
+      well_formed = λ all. c.emit.ensures.well_formed (c.loop-act.invariant.well_formed all);
     }
 
 pub returns-clause-performed : goal.returns-clause-performed
@@ -76,10 +283,49 @@ returns-clause-performed c = λ actions state are.
     c.loop-act.invariant.performed actions state are None m
     (subst (λ (l : List Action). Acts c.args.block.now l c.loop-act.meter.left m None m) (sym (no_action_left c.args.block.now c.args.acts.now actions i are over)) (refl, refl))
 
-pub returns-in_err-perform-clause-kept : goal.returns-in_err-perform-clause-kept
-returns-in_err-perform-clause-kept c = record {
-  declared = c.perform.ensures.kept.declared ∙ c.loop-act.invariant.declared;
-  fewer = let a = c.perform.ensures.kept.fewer in let b = c.loop-act.invariant.fewer in omega arith;
-  begins = begins_on c.args.emits.now c.loop-act.emits c.perform.new.emits c.loop-act.invariant.begins c.perform.ensures.kept.begins;
-  well_formed = λ all. c.perform.ensures.kept.well_formed (c.loop-act.invariant.well_formed all);
+-- ---- What is kept
+
+pub returns-in_err-step-clause-kept : goal.returns-in_err-step-clause-kept
+returns-in_err-step-clause-kept c = record {
+  declared = c.loop-act.invariant.declared;
+  fewer = let a = c.in_err-step.ensures.err.2 in omega arith;
+  begins = c.loop-act.invariant.begins;
+  well_formed = c.loop-act.invariant.well_formed;
 }
+
+pub returns-in_err-end-in-Some-exec_compiled-clause-kept : goal.returns-in_err-end-in-Some-exec_compiled-clause-kept
+returns-in_err-end-in-Some-exec_compiled-clause-kept c = record {
+  declared = c.exec_compiled.ensures.declared ∙ c.loop-act.invariant.declared;
+  fewer = let s = c.in_ok-step.ensures.ok in let b = c.exec_compiled.ensures.fewer in let d = c.loop-act.invariant.fewer in omega arith;
+  begins = c.loop-act.invariant.begins;
+  well_formed = c.loop-act.invariant.well_formed;
+}
+
+pub returns-in_err-exec-in-None-clause-kept : goal.returns-in_err-exec-in-None-clause-kept
+returns-in_err-exec-in-None-clause-kept c = record {
+  declared = c.exec.ensures.declared ∙ c.exec_compiled.ensures.declared ∙ c.loop-act.invariant.declared;
+  fewer = let s = c.in_ok-step.ensures.ok in let b = c.exec_compiled.ensures.fewer in let e = c.exec.ensures.fewer in let d = c.loop-act.invariant.fewer in omega arith;
+  begins = c.loop-act.invariant.begins;
+  well_formed = c.loop-act.invariant.well_formed;
+}
+
+pub returns-in_err-emit-clause-kept : goal.returns-in_err-emit-clause-kept
+returns-in_err-emit-clause-kept c =
+    let slots = c.loop-act.frame in
+    let kept : IsKept slots c.step.new.self c.match-act.frame c.match-act.meter = elim c.match-act.branch [
+      | in-Some+in-Some-exec_compiled+in_ok-end-in-Some-exec_compiled w ↦
+          rw (w.frame-is, w.meter-is) (record { declared = w.exec_compiled.ensures.declared; fewer = w.exec_compiled.ensures.fewer })
+      | in-Some+in-None+in_ok-exec-in-None w ↦
+          rw (w.frame-is, w.meter-is)
+          (record {
+            declared = w.exec.ensures.declared ∙ w.exec_compiled.ensures.declared;
+            fewer = let a = w.exec_compiled.ensures.fewer in let b = w.exec.ensures.fewer in omega arith;
+          })
+      | in_default w ↦ rw (w.frame-is, w.meter-is) (record { declared = refl; fewer = omega arith })
+    ] in
+    record {
+      declared = kept.declared ∙ c.loop-act.invariant.declared;
+      fewer = let s = c.in_ok-step.ensures.ok in let b = kept.fewer in let d = c.loop-act.invariant.fewer in omega arith;
+      begins = begins_on c.args.emits.now c.loop-act.emits c.emit.new.emits c.loop-act.invariant.begins c.emit.ensures.begins;
+      well_formed = λ all. c.emit.ensures.well_formed (c.loop-act.invariant.well_formed all);
+    }
