@@ -1,6 +1,7 @@
 """The figures of README.md and CONTRIBUTING.md, compared with their sources. tools/documents.py prints the faults.
 
-- Each amount of time or memory has a date in its paragraph, or in the one before or after its table: it was measured then.
+- Each amount of time or memory, and each factor of speed, has a date in its paragraph, or in the one before or after its table: it
+  was measured then.
 - The rows of README's table of speed are those of bench/README.md, rounded, with the same commit and date.
 - The minutes of the gate are those of a row of bench/README.md with the same date.
 - Numbers of crates, stored cases and wrong implementations are those that there are.
@@ -17,7 +18,8 @@ PAGES = ("README.md", "CONTRIBUTING.md")
 SPEED = "bench/README.md"
 DATE = re.compile(r"\b20\d\d-\d\d-\d\d\b")
 NUMBER = r"(?:\d[\d,.]*|two|three|four|five|six|seven|eight|nine|ten|twenty)"
-AMOUNT = re.compile(rf"\b{NUMBER}(?: to {NUMBER})? (?:processor )?(?:minutes|seconds|hours|GB|MB)\b|\b(?:a|an) (?:minute|hour)\b")
+UNIT = r"(?:minutes|seconds|s|hours|GB|MB|(?:million )?lines a second|times as (?:long|fast|much))"
+AMOUNT = re.compile(rf"\b{NUMBER}(?: to {NUMBER})? (?:processor )?{UNIT}\b|\b(?:a|an) (?:minute|hour)\b")
 COUNT = re.compile(r"\b(\d[\d,]*) (crates|stored cases|wrong implementations)\b")
 TABLE = re.compile(r"^\| application \| ticks \|(.*)\|\n\|[-|]+\|\n((?:\|.*\|\n)+)", re.M)
 MEASURED = re.compile(r"at\s+commit\s+([0-9a-f]{8})\s+on\s+(20\d\d-\d\d-\d\d)")

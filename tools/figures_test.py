@@ -17,6 +17,9 @@ CHANGES = (
     ("CONTRIBUTING.md", r"\Z", "\n\nThere are 7 crates.\n"),
     ("CONTRIBUTING.md", r"\Z", "\n\nThere are 7 stored cases.\n"),
     ("CONTRIBUTING.md", r"\Z", "\n\nA check takes 17 minutes.\n"),
+    ("CONTRIBUTING.md", r"\Z", "\n\nA check takes 17 s.\n"),
+    ("README.md", r"\Z", "\n\nTwo workers are 1.9 times as fast.\n"),
+    ("README.md", r"\Z", "\n\nIt writes 10.6 million lines a second.\n"),
 )
 
 
