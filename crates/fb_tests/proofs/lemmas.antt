@@ -1,5 +1,5 @@
-pub mod Again
 pub mod Coming
 pub mod Handed
+pub mod RefusedMemory
 pub mod Unheard
 pub mod Zips

@@ -1,6 +1,6 @@
 use Rattle.std.proofs.Common.{subst, sym, refl, All}
 use Rattle.fb_resource.specs.Resources.{IsFor, IsSame}
-use Rattle.fb_tests.proofs.lemmas.Again.{still_for, still_of}
+use Rattle.fb_tests.proofs.lemmas.RefusedMemory.{still_for, still_of}
 use Rattle.fb_tests.proofs.lemmas.Unheard.{are_new}
 use Rattle.fb_tests.proofs.tests.parts.chain.deliver_first.Goals as goal
 
