@@ -1,15 +1,16 @@
 //! Breaks: patterns of lines after which a session pauses.
 
-ghost use Rattle.std.specs.Prelude.{◌≡◌, ◌⊎◌, ◌↔◌, ◌++◌, [], All, Contains, IfOk, IfSome, IsTrue, OnOk, Some, map, option_map, true};
+ghost use Rattle.std.specs.Prelude.{◌≡◌, ◌⊎◌, ◌↔◌, ◌++◌, ◌∷◌, [], All, Contains, IfOk, IfSome, IsTrue, MatchOption, OnErr, OnOk, Some, map, nat_eq, option_map, position, true};
 ghost use Rattle.fb_expect.specs.Events.{event_of};
 ghost use Rattle.fb_expect.specs.Patterns as patterns;
+ghost use Rattle.fb_expect.specs.declared.pattern.Pattern as pattern;
 ghost use Rattle.fb_system.specs.OfSystem.{BelongsTo};
 ghost use Rattle.fb_types.specs.OfSystem.{line_of, line_text};
 ghost use Rattle.fb_types.specs.States as states;
 ghost use Rattle.fb_types.specs.Headline.{Inputs, system_of};
 ghost use Rattle.fb_types.specs.declared.run.Line as run;
 ghost use Rattle.fb_types.specs.declared.run.Form.TheVariants.{One};
-ghost use Rattle.fb_session.specs.Breaking.{OnlyBreaks};
+ghost use Rattle.fb_session.specs.Breaking.{ClearsBreak, IsPattern, OnlyBreaks, SetsBreak};
 ghost use Rattle.fb_session.specs.Hitting as spec;
 ghost use Rattle.fb_session.specs.Hitting.{IsFor, IsHitBy, IsLeastOf};
 
@@ -71,7 +72,8 @@ impl Session<'_, '_> {
     /// # Errors
     /// Why it is not set.
     pub fn set_break(&mut self, text: &[u8]) -> Result<u64, BreakFault>
-        ensures { OnlyBreaks self.old self.new }
+        ensures only { OnlyBreaks self.old self.new }
+        ensures set { SetsBreak text.now self.old self.new result }
     {
         let Stage::Running = self.stage else {
             return Err(BreakFault::NotGoing);
@@ -86,17 +88,15 @@ impl Session<'_, '_> {
         let Some(number) = self.breaks.count.checked_add(1) else {
             return Err(BreakFault::Many);
         };
-        match self.breaks.set.push(Break { number, pattern }) {
-            Ok(()) => {
-                self.breaks.count = number;
-                Ok(number)
-            }
-            Err(_) => Err(BreakFault::Memory),
-        }
+        add(&mut self.breaks.set, Break { number, pattern })?;
+        self.breaks.count = number;
+        Ok(number)
     }
 
     /// The pattern that these bytes are, if they are one.
-    fn pattern_in(&self, text: &[u8]) -> Result<Option<Pattern>, AllocError> {
+    fn pattern_in(&self, text: &[u8]) -> Result<Option<Pattern>, AllocError>
+        ensures { IfOk result (λ o. MatchOption o ((p : pattern.Pattern) → IsPattern text.now p → ⊥) (IsPattern text.now)) }
+    {
         match from_utf8(text) {
             Ok(text) => pattern_of(self.alloc, text),
             Err(_) => Ok(None),
@@ -105,14 +105,33 @@ impl Session<'_, '_> {
 
     /// Removes the break with this number, and says whether it was set.
     pub fn clear_break(&mut self, number: u64) -> bool
-        ensures { OnlyBreaks self.old self.new }
+        ensures only { OnlyBreaks self.old self.new }
+        ensures cleared { ClearsBreak number self.old self.new result }
     {
-        let Some(index) = self.breaks.set.iter().position(|b| b.number == number) else {
-            return false;
-        };
-        self.breaks.set.remove(index);
-        true
+        match index_of(self.breaks.set.as_slice(), number) {
+            Some(index) => {
+                self.breaks.set.remove(index);
+                true
+            }
+            None => false,
+        }
     }
+}
+
+/// Adds a break after the others.
+fn add(set: &mut Vec<Break>, one: Break) -> Result<(), AllocError>
+    ensures ok { OnOk result (set.new.items ≡ set.old.items ++ one ∷ []) }
+    ensures err { OnErr result (set.new.items ≡ set.old.items) }
+{
+    set.push(one)?;
+    Ok(())
+}
+
+/// The index of the break with this number.
+fn index_of(set: &[Break], number: u64) -> Option<usize>
+    ensures { result ≡ position (λ b. nat_eq b.number number) set.now }
+{
+    set.iter().position(|one| one.number == number)
 }
 
 impl Breaks {

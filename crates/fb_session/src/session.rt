@@ -59,7 +59,7 @@ impl<'j, 's> Session<'j, 's> {
         requires some { 1 ≤ steps }
         requires few { steps ≤ 10 ^ 7 }
         requires judge { judge.now.library.now ≡ system.now.library }
-        ensures opened { IfOk result (λ s. (s.inputs ≡ system.now) × (s.steps ≡ steps) × (s.form ≡ form) × (s.rows ≡ length system.now.stimuli) × (s.reached ≡ 0) × (s.stage ≡ going.Running) × (s.breaks ≡ [])) }
+        ensures opened { IfOk result (λ s. (s.inputs ≡ system.now) × (s.steps ≡ steps) × (s.form ≡ form) × (s.rows ≡ length system.now.stimuli) × (s.reached ≡ 0) × (s.stage ≡ going.Running) × (s.breaks ≡ []) × (s.set ≡ 0) × (s.written ≡ 0)) }
         ensures stands { IfOk result (λ s. StandsBy s (record { given = []; taken = [] })) }
     {
         // for the prover: there are at most 100,000 rows

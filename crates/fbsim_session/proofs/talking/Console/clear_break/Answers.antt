@@ -10,4 +10,4 @@ returns-in-Stopped c = stays_as _ _ c.error.ensures
 pub returns : goal.returns
 returns c =
     subst (λ (t : Talk). Stays c.args.self.now.session t) (sym c.say_cleared.ensures)
-    (stays_broken _ _ c.clear_break-is_found.ensures)
+    (stays_broken _ _ c.clear_break-is_found.ensures.only)
