@@ -1,11 +1,12 @@
 -- Where rules are refused (E40 to E44), with `--why`: the location, and what is wrong there (docs/FORMATS.md; this project's own).
-use Rattle.std.specs.Prelude.{◌≡◌, ◌⊎◌, ◌≤◌, ℕ, Bool, true, false, not, if◌then◌else◌, nat_le, nat_lt, ℤ, List, length, Option, Some, None, is_some, slice_get, codes}
+use Rattle.std.specs.Prelude.{◌≡◌, ◌⊎◌, ◌≤◌, ℕ, Bool, true, false, not, if◌then◌else◌, nat_le, nat_lt, ℤ, List, length, take, Option, Some, None, Ok, Err, is_some, slice_get, codes}
+use Rattle.std.specs.List.{list_all}
 use Rattle.toml.specs.Data.{Data, Members, get_member, as_bool, as_str, as_integer, as_table}
 use Rattle.fb_expect.specs.Drafts.{RuleText, rule_text, rules_in, text_values, texts_of}
-use Rattle.fb_expect.specs.Lists.{may}
-use Rattle.fb_expect.specs.Needs.{names_of, need_of, within}
-use Rattle.fb_expect.specs.Reading.{document, most_bytes, most_rules}
-use Rattle.fb_expect.specs.Refusals.{over_limit, no_document, bad_shape, bad_pattern, bad_number}
+use Rattle.fb_expect.specs.Lists.{each, may}
+use Rattle.fb_expect.specs.Needs.{has_patterns, names_of, need_of, rule_of, within}
+use Rattle.fb_expect.specs.Reading.{document, limited, most_bytes, most_rules}
+use Rattle.fb_expect.specs.Refusals.{Outcome, ◌>>=◌, or_refuse, over_limit, no_document, bad_shape, bad_pattern, bad_number}
 use Rattle.fb_expect.specs.Words.{Text}
 use Rattle.fb_expect.specs.Written.{pattern_of}
 use Rattle.fb_expect.specs.declared.document.NeedDraft.{NeedDraft}
@@ -18,6 +19,7 @@ use Rattle.fb_expect.specs.declared.location.RulesLocation.{RulesLocation}
 use Rattle.fb_expect.specs.declared.location.RulesLocation.TheVariants as location
 use Rattle.fb_expect.specs.declared.rule.Need.{Need}
 use Rattle.fb_expect.specs.declared.rule.Need.TheVariants as need
+use Rattle.fb_expect.specs.declared.rule.Rule.{Rule}
 
 -- ---- Keys
 
@@ -118,11 +120,11 @@ abbrev pub IsPatternFault : RuleText → RuleKey → Type 0
 IsPatternFault t k =
     ((k ≡ first_key t.need) × (is_bad (Some t.first) ≡ true)) ⊎ (((k ≡ second_key t.need) × (is_bad t.second ≡ true)) ⊎ (((k ≡ key.To) × (is_bad t.third ≡ true)) ⊎ ((k ≡ key.Same) × (names_of t.same ≡ None))))
 
--- The number at the key of a rule that counts is out of its range, or else it is the most, and that may be under the least.
+-- The number at the key of a rule that counts is the first out of its range, or else it is the most, and that may be under the least.
 abbrev pub IsCountKey : (least every : Option ℤ) → RuleKey → Type 0
 IsCountKey least every key.Least = may (within 0) least ≡ None
-IsCountKey least every key.Every = may (within 1) every ≡ None
-IsCountKey least every key.Most = Unit {0}
+IsCountKey least every key.Every = (is_some (may (within 0) least) ≡ true) × (may (within 1) every ≡ None)
+IsCountKey least every key.Most = (is_some (may (within 0) least) ≡ true) × (is_some (may (within 1) every) ≡ true)
 IsCountKey least every _ = ⊥
 
 -- The number at the key is out of its range.
@@ -140,27 +142,36 @@ pub record IsNumberFault (t : RuleText) (k : RuleKey) : Type 0 where
 
 -- ---- Places
 
--- The shape of the value at an index is wrong.
+abbrev pub has_shape : Data → Bool
+has_shape d = is_some (rule_text d)
+
+-- The shape of the value at an index is wrong, and of none before it.
 pub record IsRuleAt (ds : List Data) (i : ℕ) (f : RuleFault) : Type 0 where
   pub value : Data
   pub there : slice_get ds i ≡ Some value
   pub so : IsRuleFault value f
+  pub before : list_all has_shape (take i ds) ≡ true
 
 abbrev pub IsAmongValues : List Data → RulesLocation → Type 0
 IsAmongValues ds (location.Rule i f) = IsRuleAt ds i f
 IsAmongValues ds _ = ⊥
 
--- A text of the rule at an index is no pattern.
+-- A text of the rule at an index is no pattern, and all before it have theirs.
 pub record IsPatternAt (ts : List RuleText) (i : ℕ) (k : RuleKey) : Type 0 where
   pub rule : RuleText
   pub there : slice_get ts i ≡ Some rule
   pub so : IsPatternFault rule k
+  pub before : list_all has_patterns (take i ts) ≡ true
 
--- A number of the rule at an index is out of its range.
+abbrev pub has_numbers : RuleText → Bool
+has_numbers t = is_some (need_of t.need)
+
+-- A number of the rule at an index is out of its range, and none of those before it.
 pub record IsNumberAt (ts : List RuleText) (i : ℕ) (k : RuleKey) : Type 0 where
   pub rule : RuleText
   pub there : slice_get ts i ≡ Some rule
   pub so : IsNumberFault rule k
+  pub before : list_all has_numbers (take i ts) ≡ true
 
 abbrev pub IsAmongTexts : List RuleText → RulesLocation → Type 0
 IsAmongTexts ts (location.Pattern i k) = IsPatternAt ts i k
@@ -189,3 +200,12 @@ number_at location.List = bad_shape
 number_at (location.Rule i f) = bad_shape
 number_at (location.Pattern i k) = bad_pattern
 number_at (location.Number i k) = bad_number
+
+-- the number of a refusal, if it is one
+abbrev pub refusal_of : {A : Type 0} → Outcome A → Option ℕ
+refusal_of (Ok x) = None
+refusal_of (Err n) = Some n
+
+-- what comes of rules whose texts are patterns
+abbrev pub numbers_judged : List RuleText → Outcome (List Rule)
+numbers_judged ts = or_refuse bad_number (each rule_of ts) >>= limited

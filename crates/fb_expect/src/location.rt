@@ -1,9 +1,13 @@
 //! Where rules are refused.
 
-ghost use Rattle.std.specs.Prelude.{◌≡◌, IfOk, IfSome, map, option_map};
+ghost use Rattle.std.specs.Prelude.{◌≡◌, IfNone, IfOk, IfSome, None, Some, if◌then◌else◌, is_some, map, not, option_map, true};
+ghost use Rattle.std.specs.List.{list_all};
 ghost use Rattle.toml.specs.View.{table_view, view};
 ghost use Rattle.fb_expect.specs.Drafts.{text_of};
 ghost use Rattle.fb_expect.specs.Locations as spec;
+ghost use Rattle.fb_expect.specs.Needs as needs;
+ghost use Rattle.fb_expect.specs.Reading as reading;
+ghost use Rattle.fb_expect.specs.Refusals.{bad_pattern};
 
 use crate::document::{Draft, NeedDraft, draft_of, drafts_of, rules_in, text_values};
 use crate::rule::Need;
@@ -262,7 +266,8 @@ fn fault_of(value: &Value) -> RuleFault
 
 /// What is wrong with the shape of a rule.
 fn rule_fault(value: &Value) -> Option<RuleFault>
-    ensures { IfSome result (spec.IsRuleFault (view value.now)) }
+    ensures fault { IfSome result (spec.IsRuleFault (view value.now)) }
+    ensures none { IfNone result (spec.has_shape (view value.now) ≡ true) }
 {
     match draft_of(value) {
         Some(_) => None,
@@ -272,7 +277,8 @@ fn rule_fault(value: &Value) -> Option<RuleFault>
 
 /// The first rule whose shape is wrong.
 fn shape_location(values: &[Value]) -> Option<RulesLocation>
-    ensures { IfSome result (spec.IsAmongValues (map view values.now)) }
+    ensures among { IfSome result (spec.IsAmongValues (map view values.now)) }
+    ensures none { IfNone result (list_all spec.has_shape (map view values.now) ≡ true) }
 {
     for (rule, value) in values.iter().enumerate() {
         if let Some(fault) = rule_fault(value) {
@@ -306,8 +312,10 @@ fn second_key(need: NeedDraft) -> RuleKey
 }
 
 /// The key of the first text of a rule that is no pattern, or else that of `same` where a text is no name.
+#[tactic(auto, unfolding(crate::specs::Needs::has_patterns))]
 fn pattern_key(alloc: Global, draft: &Draft<'_>) -> Result<Option<RuleKey>, AllocError>
-    ensures { IfOk result (λ o. IfSome o (spec.IsPatternFault (text_of draft.now))) }
+    ensures fault { IfOk result (λ o. IfSome o (spec.IsPatternFault (text_of draft.now))) }
+    ensures exact { IfOk result (λ o. is_some o ≡ not (needs.has_patterns (text_of draft.now))) }
 {
     if !is_pattern(alloc, draft.first)? {
         return Ok(Some(first_key(draft.need)));
@@ -329,7 +337,8 @@ fn pattern_location(
     alloc: Global,
     drafts: &[Draft<'_>],
 ) -> Result<Option<RulesLocation>, AllocError>
-    ensures { IfOk result (λ o. IfSome o (spec.IsAmongTexts (map text_of drafts.now))) }
+    ensures among { IfOk result (λ o. IfSome o (spec.IsAmongTexts (map text_of drafts.now))) }
+    ensures exact { IfOk result (λ o. option_map spec.number_at o ≡ (if list_all needs.has_patterns (map text_of drafts.now) then None else Some bad_pattern)) }
 {
     for (rule, draft) in drafts.iter().enumerate() {
         if let Some(key) = pattern_key(alloc, draft)? {
@@ -365,7 +374,8 @@ fn number_key_of(need: NeedDraft) -> RuleKey
 
 /// The key of the number of a rule that is out of its range.
 fn number_key(draft: &Draft<'_>) -> Option<RuleKey>
-    ensures { IfSome result (spec.IsNumberFault (text_of draft.now)) }
+    ensures fault { IfSome result (spec.IsNumberFault (text_of draft.now)) }
+    ensures none { IfNone result (spec.has_numbers (text_of draft.now) ≡ true) }
 {
     match need_of(draft.need) {
         Some(_) => None,
@@ -375,7 +385,8 @@ fn number_key(draft: &Draft<'_>) -> Option<RuleKey>
 
 /// The first rule with a number out of its range, or that there are too many rules.
 fn number_location(drafts: &[Draft<'_>]) -> Option<RulesLocation>
-    ensures { IfSome result (spec.IsAmongTexts (map text_of drafts.now)) }
+    ensures among { IfSome result (spec.IsAmongTexts (map text_of drafts.now)) }
+    ensures exact { list_all needs.has_patterns (map text_of drafts.now) ≡ true → option_map spec.number_at result ≡ spec.refusal_of (spec.numbers_judged (map text_of drafts.now)) }
 {
     for (rule, draft) in drafts.iter().enumerate() {
         if let Some(key) = number_key(draft) {
@@ -390,8 +401,10 @@ fn number_location(drafts: &[Draft<'_>]) -> Option<RulesLocation>
 }
 
 /// Where rules with the right shape are refused.
+#[tactic(auto, unfolding(crate::specs::Reading::rules_of_drafts))]
 fn drafts_location(alloc: Global, drafts: &[Draft<'_>]) -> Result<Option<RulesLocation>, AllocError>
-    ensures { IfOk result (λ o. IfSome o (spec.IsAmongTexts (map text_of drafts.now))) }
+    ensures among { IfOk result (λ o. IfSome o (spec.IsAmongTexts (map text_of drafts.now))) }
+    ensures exact { IfOk result (λ o. option_map spec.number_at o ≡ spec.refusal_of (reading.rules_of_drafts (map text_of drafts.now))) }
 {
     match pattern_location(alloc, drafts)? {
         Some(location) => Ok(Some(location)),
@@ -401,7 +414,8 @@ fn drafts_location(alloc: Global, drafts: &[Draft<'_>]) -> Result<Option<RulesLo
 
 /// Where a document is refused.
 fn document_location(alloc: Global, keys: &Table) -> Result<Option<RulesLocation>, AllocError>
-    ensures { IfOk result (λ o. IfSome o (spec.IsDocumentFault (table_view keys.now))) }
+    ensures fault { IfOk result (λ o. IfSome o (spec.IsDocumentFault (table_view keys.now))) }
+    ensures exact { IfOk result (λ o. option_map spec.number_at o ≡ spec.refusal_of (reading.of_document (table_view keys.now))) }
 {
     let Some(values) = rules_in(keys) else {
         return Ok(Some(RulesLocation::List));
@@ -415,13 +429,15 @@ fn document_location(alloc: Global, keys: &Table) -> Result<Option<RulesLocation
     }
 }
 
-/// Where the rules in these bytes are refused, if they are.
+/// Where the rules in these bytes are refused, if they are, and only then. It is where reading them ends, with the number
+/// of its refusal.
 ///
 /// # Errors
 ///
 /// When memory runs out.
 pub fn rules_location(alloc: Global, bytes: &[u8]) -> Result<Option<RulesLocation>, AllocError>
-    ensures { IfOk result (λ o. IfSome o (spec.IsLocation bytes.now)) }
+    ensures location { IfOk result (λ o. IfSome o (spec.IsLocation bytes.now)) }
+    ensures exact { IfOk result (λ o. option_map spec.number_at o ≡ spec.refusal_of (reading.rules_of bytes.now)) }
 {
     if bytes.len() > MOST_BYTES {
         return Ok(Some(RulesLocation::Bytes));
