@@ -7,6 +7,6 @@ pub returns-in-Ok : goal.returns-in-Ok
 returns-in-Ok c =
     record {
       location = c.in-Ok-Some.location;
-      is = subst (λ (o : Option RulesLocation). IfSome o (IsLocation c.args.bytes.now)) c.in-Ok-Some.field-0-is c.in-Ok-Some.ensures;
+      is = subst (λ (o : Option RulesLocation). IfSome o (IsLocation c.args.bytes.now)) c.in-Ok-Some.field-0-is c.in-Ok-Some.ensures.location;
       number_is = omega arith;
     }
