@@ -4,3 +4,4 @@ pub mod Breaking
 pub mod Giving
 pub mod Running
 pub mod Going
+pub mod Shown

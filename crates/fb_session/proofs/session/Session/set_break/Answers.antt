@@ -1,4 +1,4 @@
-use Rattle.fb_types.proofs.Common.{◌≡◌, ◌+◌, ◌++◌, ◌∷◌, ◌∙◌, [], List, ap, refl}
+use Rattle.fb_types.proofs.Common.{◌+◌, ◌++◌, ◌∷◌, ◌∙◌, [], List, ap, refl}
 use Rattle.fb_session.specs.Pasts.{Talk}
 use Rattle.fb_session.specs.declared.breaks.Break.{Break}
 use Rattle.fb_session.proofs.lemmas.BreakingIs.{next_is, only_from, unset_for_memory}
