@@ -17,6 +17,7 @@ use Rattle.fb_inputs.specs.declared.position.DeployPosition.{DeployPosition}
 use Rattle.fb_inputs.specs.declared.position.DeployPosition.TheVariants as in_deploy
 use Rattle.fb_inputs.specs.declared.position.StimuliPosition.{StimuliPosition}
 use Rattle.fb_inputs.specs.declared.position.StimuliPosition.TheVariants as in_stimuli
+use Rattle.fb_why.specs.WrittenKeys.{IsWritten}
 use Rattle.fb_why.specs.InputStretches.{IsDeployPlace, IsStimuliPlace}
 use Rattle.fb_check_names.specs.declared.location.Side.{Side}
 use Rattle.fb_check_names.specs.declared.location.Side.TheVariants as side
@@ -48,9 +49,10 @@ Text = List ℕ
 abbrev pub IsArrayAt : Text → (key : Text) → Span → Type 0
 IsArrayAt text key span = IsHeadingAt text (codes "[[" ++ key ++ codes "]]") 0 span
 
--- The bytes are those of the key, or of the heading of an array of tables at this key of the document.
+-- The bytes are those of the key, or of the heading of an array of tables at this key of the document; in another form
+-- they are those that TOML reads as the key.
 abbrev pub IsKeyOrHeading : Text → TableLocation → (key : Text) → Span → Type 0
-IsKeyOrHeading text t key span = IsNamedKeyAt text t key span ⊎ ((t ≡ table.Top) × IsArrayAt text key span)
+IsKeyOrHeading text t key span = IsNamedKeyAt text t key span ⊎ (((t ≡ table.Top) × IsArrayAt text key span) ⊎ IsWritten text t key span)
 
 -- The same for some key. That it is the first one which the table may not have is only tested.
 abbrev pub IsFurtherAt : Text → TableLocation → Span → Type 0

@@ -4,6 +4,7 @@ pub mod Explained
 pub mod Causes
 pub mod Positions
 pub mod Places
+pub mod WrittenKeys
 pub mod InputPlaces
 pub mod Findings
 pub mod Roots

@@ -4,6 +4,7 @@ ghost use Rattle.std.specs.Prelude.{IfSome};
 ghost use Rattle.fb_why.specs.InputPlaces as spec;
 ghost use Rattle.fb_why.specs.InputPlaces.{IsFurtherAt, IsKeyOrHeading};
 
+use crate::written::written_span;
 use fb_inputs::{TableLocation, heading_span, named_key_span};
 use fb_read::token::Span;
 use std::alloc::Global;
@@ -68,14 +69,18 @@ fn array_span(alloc: Global, bytes: &[u8], key: &str) -> Option<Span>
     }
 }
 
-/// A key of a table, or the heading of an array of tables at a key of the document.
+/// A key of a table, or the heading of an array of tables at a key of the document. Where neither is written as its name
+/// alone, what TOML's reader takes for the key.
 fn key_or_heading(alloc: Global, bytes: &[u8], table: TableLocation, key: &str) -> Option<Span>
     ensures { IfSome result (IsKeyOrHeading bytes.now table key.now) }
 {
     match (named_key_span(bytes, table, key.as_bytes()), table) {
         (Some(span), _) => Some(span),
-        (None, TableLocation::Top) => array_span(alloc, bytes, key),
-        (None, _) => None,
+        (None, TableLocation::Top) => match array_span(alloc, bytes, key) {
+            Some(span) => Some(span),
+            None => written_span(alloc, bytes, table, key),
+        },
+        (None, _) => written_span(alloc, bytes, table, key),
     }
 }
 

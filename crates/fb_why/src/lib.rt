@@ -9,10 +9,10 @@
 //! with its line and column, at which a declaration is refused. The wording of the texts is not part of any contract.
 //!
 //! Read in this order: `explanation` and `table`; `cause` and `location`, what each number is about, and where.
-//! Then the bytes: `find`, the refusal of a text and its location; `further`, keys that a table may not have. Then
-//! a location as text: the modules `.._messages`, with `contents`. Then `refused`, `roots` and `declared`,
-//! locations in bytes and in what they declare; `place` and `input_place`, where a location is in its text;
-//! `listing` and `finding`, which reads the bytes again. All of this runs only after a refusal.
+//! Then the bytes: `find`, the refusal of a text and its location; `further`, keys that a table may not have, and
+//! `written`, how TOML writes them. Then a location as text: the modules `.._messages`, with `contents`. Then `refused`,
+//! `roots` and `declared`, locations in bytes and in what they declare; `place` and `input_place`, where a location is in
+//! its text; `listing` and `finding`, which reads the bytes again. All of this runs only after a refusal.
 #![tactic(auto)]
 
 pub mod cause;
@@ -38,6 +38,7 @@ mod stimulus_messages;
 pub mod table;
 pub mod text_messages;
 mod unknown_messages;
+mod written;
 
 pub use cause::Cause;
 pub use deployment_messages::deployment_message;
