@@ -10,7 +10,7 @@
 //!
 //! Read in this order: `explanation` and `table`; `cause` and `location`, what each number is about, and where.
 //! Then the bytes: `find`, the refusal of a text and its location; `further`, keys that a table may not have, and
-//! `written`, how TOML writes them. Then a location as text: the modules `.._messages`, with `contents`. Then `refused`,
+//! `written`, how TOML writes them. Then a location as text: `messages`, with `contents`. Then `refused`,
 //! `roots` and `declared`, locations in bytes and in what they declare; `place` and `input_place`, where a location is in
 //! its text; `listing` and `finding`, which reads the bytes again. All of this runs only after a refusal.
 #![tactic(auto)]
@@ -18,39 +18,31 @@
 pub mod cause;
 mod contents;
 mod declared;
-pub mod deployment_messages;
 pub mod explanation;
 pub mod find;
 pub mod finding;
-mod flaw_messages;
 mod further;
 pub mod input_place;
-mod kind_messages;
 pub mod listing;
 pub mod location;
-mod operand_messages;
+pub mod messages;
 pub mod place;
 mod refused;
 mod roots;
-pub mod rules_messages;
-pub mod stimuli_messages;
-mod stimulus_messages;
 pub mod table;
-pub mod text_messages;
-mod unknown_messages;
 mod written;
 
 pub use cause::Cause;
-pub use deployment_messages::deployment_message;
 pub use explanation::explain;
 pub use find::{TextRefusal, text_refusal};
 pub use finding::findings_of;
 pub use input_place::{InputFile, InputPlace, place_in_deployment, places_in_inputs};
 pub use listing::{Findings, MOST_FINDINGS, discard_findings};
 pub use location::{Finding, FindingLocation};
+pub use messages::deployment::deployment_message;
+pub use messages::rules::{pattern_message, rule_span, rules_message, unknown_key_message};
+pub use messages::stimuli::{row_message, stimuli_message};
+pub use messages::stimulus::unfit_message;
+pub use messages::text::text_message;
 pub use place::PlacedFinding;
-pub use rules_messages::{pattern_message, rule_span, rules_message, unknown_key_message};
-pub use stimuli_messages::{row_message, stimuli_message};
-pub use stimulus_messages::unfit_message;
 pub use table::{Explanation, OF_CHECKS, OF_DECLARATIONS, OF_INPUTS};
-pub use text_messages::text_message;

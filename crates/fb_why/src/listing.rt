@@ -8,8 +8,8 @@ ghost use Rattle.fb_why.specs.Places.{IsPlacedFinding};
 ghost use Rattle.fb_why.specs.declared.location.FindingLocation.TheVariants.{Check};
 
 use crate::contents::Contents;
-use crate::flaw_messages::push_flaw;
 use crate::location::{Finding, FindingLocation};
+use crate::messages::flaw::push_flaw;
 use crate::place::{PlacedFinding, position_of};
 use fb_check::{Case, Location};
 use fb_read_positions::{BlockTypes, Place, Text, places_of};

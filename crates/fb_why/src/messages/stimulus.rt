@@ -1,6 +1,6 @@
 //! The text for a stimulus that does not fit (E29).
 
-use crate::kind_messages::ports_of_instance;
+use crate::messages::kind::ports_of_instance;
 use fb_check::types::variable_type;
 use fb_check::{StimulusFault, StimulusLocation};
 use fb_read_positions::{BlockTypes, Text};

@@ -1,10 +1,10 @@
 //! The text for a location in inputs that can be read (E20 to E30): words for a position, and what is wrong there.
 
 use crate::contents::Contents;
-use crate::kind_messages::{push_kind_wrong, push_out_of_range};
+use crate::messages::kind::{push_kind_wrong, push_out_of_range};
+use crate::messages::stimulus::push_stimulus;
+use crate::messages::unknown::push_unknown;
 use crate::place::position_of;
-use crate::stimulus_messages::push_stimulus;
-use crate::unknown_messages::push_unknown;
 use fb_check::{Case, Limit, Location};
 use fb_check_names::{
     FlowKind, GivenTwice, InBlock, NoLinkAt, NotMappedAt, Repeat, TooHighAt, TwoSourcesAt,

@@ -2,8 +2,8 @@
 
 ghost use Rattle.std.specs.Prelude.{◌≤◌, length};
 
-use crate::deployment_messages::push_further;
 use crate::further::item_at;
+use crate::messages::deployment::push_further;
 use fb_expect::{
     PatternFault, PatternPart, RuleFault, RuleKey, RulesLocation, key_text, pattern_fault,
 };

@@ -1,7 +1,7 @@
 //! The text for an unknown name (E21), after the words for its position: what was expected there.
 
 use crate::contents::{Contents, Kind};
-use crate::flaw_messages::push_link;
+use crate::messages::flaw::push_link;
 use fb_check_names::{PortKind, Side, UnknownName};
 use fb_read_positions::headings::basic_at;
 use fb_read_positions::hints::push_left_out_block;

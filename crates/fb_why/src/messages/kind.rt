@@ -2,7 +2,7 @@
 //! was expected.
 
 use crate::contents::Contents;
-use crate::operand_messages::kind_or_why;
+use crate::messages::operand::kind_or_why;
 use fb_check::types::{
     Typing, internals_of, port_type, value_kind_of, value_kind_of_type, variable_type,
 };
