@@ -6,7 +6,7 @@
 - docs/maintain/PROOFS.md has each crate, except those of tests, in a row for each promise, and names only functions, clauses and definitions
   that exist.
 - Each block of docs/maintain/READING.md is word for word in the file named before it.
-- CONTRIBUTING.md names each tool that tools/gate.py calls to check something.
+- CONTRIBUTING.md names each tool that tools/gate.py calls to check something, and README.md each crate of the kit in crates.txt.
 - docs/maintain/DEFINITIONS.md names every file of definitions of the model, and each file of definitions begins with a comment.
 - The example in the comment of a public item is the body of the test that it names.
 - Every function like `fb_sim::run::run` and every file like `docs/FORMATS.md` that a page names exists, and so does every type or
@@ -191,6 +191,13 @@ def tool_faults():
     return [f"{page}: tools/{it}.py is not named" for it in lacking]
 
 
+def kit_faults():
+    """Returns the crates of the kit that crates.txt names and README.md does not have among what is trusted."""
+    named = {word for it in text_of("crates.txt").splitlines() if not it.startswith("#") for word in it.partition(":")[2].split()}
+    trusted = re.search(r"^\*\*Trusted\.\*\*.*?\n\n", text_of("README.md"), re.M | re.S)[0]
+    return [f"README.md: {it} is not among what is trusted" for it in sorted(named - {*crates()}) if f"`{it}`" not in trusted]
+
+
 def tests():
     """Returns the body of each test, by name, without its indentation."""
     found = {}
@@ -264,7 +271,7 @@ def main():
     proved = [it for it in crates() if it != "fbsim" and not it.endswith("_tests")]
     faults = has_all("docs/maintain/ARCHITECTURE.md", crates()) + has_all("docs/maintain/PROOFS.md", proved, may_repeat=True)
     faults += module_faults() + proof_faults() + definition_faults()
-    faults += comment_faults() + block_faults() + example_faults() + length_faults() + tool_faults() + version_faults() + figures.faults() + synopsis_faults()
+    faults += comment_faults() + block_faults() + example_faults() + length_faults() + tool_faults() + kit_faults() + version_faults() + figures.faults() + synopsis_faults()
     places = [it for kind in ("src/**/*.rt", "specs/**/*.antt", "proofs/**/*.antt") for it in glob.glob(f"{TOP}/crates/*/{kind}", recursive=True)]
     known = {word for it in places for word in re.findall(r"[A-Z]\w+", text_of(os.path.relpath(it, TOP)))}
     known |= {os.path.basename(it).removesuffix(".antt") for it in places}
