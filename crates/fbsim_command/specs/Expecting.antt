@@ -7,6 +7,7 @@ use Rattle.clap.specs.Words.{Text}
 use Rattle.fb_types.specs.Headline.{Inputs, system_of}
 use Rattle.fb_sim.specs.Given.{Given}
 use Rattle.fb_sim.specs.Serial.{Declares}
+use Rattle.fb_expect.specs.Judging as judging
 use Rattle.fb_expect.specs.Judging.{Judges}
 use Rattle.fb_expect.specs.Locations.{IsLocation, number_at}
 use Rattle.fb_expect.specs.Reading.{most_bytes, rules_of}
@@ -221,7 +222,11 @@ pub record ComesTo {S : Type 0} (opens : Opening S) (x : Expect) (rules : List R
   pub parts : names_of x ≡ before ++ name ∷ following
   pub held : AreHeld opens x rules old new before all
 
--- A trace is refused, at the line in the text, with the trace's name.
+-- The line of this number is not what a trace has there, if the trace is known.
+abbrev pub IsWrongLine : Expect → (trace : Held) → (line : ℕ) → Type 0
+IsWrongLine x trace line = IfSome trace (λ text. judging.IsRefused (cut_of x) text line)
+
+-- A trace is refused for a line that is wrong: the line in the text, with the trace's name.
 pub record RefusesTrace {S : Type 0} (opens : Opening S) (x : Expect) (rules : List Rule) (old new : S) (text : Text) : Type 0 where
   pub name : Text
   pub between : S
@@ -229,6 +234,7 @@ pub record RefusesTrace {S : Type 0} (opens : Opening S) (x : Expect) (rules : L
   pub trace : Held
   pub opened : opens between name (Ok trace) new
   pub line : ℕ
+  pub is_wrong : IsWrongLine x trace line
   pub reported : text ≡ refused_trace name line
 
 -- A trace is not opened, or can't be read to its end.
@@ -251,14 +257,14 @@ IsRefusedAt name line (Write n) = ⊥
 IsRefusedAt name line (Line message) = ⊥
 IsRefusedAt name line BadOption = ⊥
 
-abbrev pub IsUnheld : {S : Type 0} → Opening S → (old new : S) → (name : Text) → Failure → Type 0
-IsUnheld opens old new name (RefusedTrace text) = (trace : Held) × opens old name (Ok trace) new × ((line : ℕ) × (string_bytes text ≡ refused_trace name line))
-IsUnheld opens old new name File = IsNoTrace opens old new name
-IsUnheld opens old new name Memory = Unit {0}
-IsUnheld opens old new name (Refused refusal) = ⊥
-IsUnheld opens old new name (Write n) = ⊥
-IsUnheld opens old new name (Line message) = ⊥
-IsUnheld opens old new name BadOption = ⊥
+abbrev pub IsUnheld : {S : Type 0} → Opening S → Expect → (old new : S) → (name : Text) → Failure → Type 0
+IsUnheld opens x old new name (RefusedTrace text) = (trace : Held) × opens old name (Ok trace) new × ((line : ℕ) × IsWrongLine x trace line × (string_bytes text ≡ refused_trace name line))
+IsUnheld opens x old new name File = IsNoTrace opens old new name
+IsUnheld opens x old new name Memory = Unit {0}
+IsUnheld opens x old new name (Refused refusal) = ⊥
+IsUnheld opens x old new name (Write n) = ⊥
+IsUnheld opens x old new name (Line message) = ⊥
+IsUnheld opens x old new name BadOption = ⊥
 
 -- one of the traces is not, and those before it are
 abbrev pub AreUnheld : {S : Type 0} → Opening S → Expect → List Rule → (old new : S) → Failure → Type 0

@@ -1,5 +1,5 @@
 -- How failures are reported, and the status of each end (this project's own).
-use Rattle.std.specs.Prelude.{◌/◌, ◌%◌, ◌<◌, ℕ, List, [], ◌++◌, length, take, Option, Some, None, Result, Ok, Err, codes, decimal, string_bytes}
+use Rattle.std.specs.Prelude.{◌≡◌, ◌/◌, ◌%◌, ◌<◌, ℕ, List, [], ◌++◌, length, take, Option, Some, None, Result, Ok, Err, codes, decimal, string_bytes}
 use Rattle.std.specs.Io.KnownBytes.{Appends}
 use Rattle.fb_read.specs.Errors.{number_of as read_number}
 use Rattle.fb_read.specs.declared.error.ReadError.{ReadError}
@@ -70,12 +70,13 @@ failure_of_part part_fault.Memory = Memory
 failure_of_part part_fault.First = File
 failure_of_part part_fault.Second = File
 
-abbrev pub failure_of_wave : WaveError → Failure
-failure_of_wave (wave.Refused line) = Refused (Trace line)
-failure_of_wave wave.Memory = Memory
-failure_of_wave wave.Read = File
-failure_of_wave (wave.Write n) = Write n
-failure_of_wave wave.Names = Memory
+-- why a trace of what was read has no dump; names are at fault only in what no text gives
+abbrev pub IsWaveFailure : WaveError → Failure → Type 0
+IsWaveFailure (wave.Refused line) failure = failure ≡ Refused (Trace line)
+IsWaveFailure wave.Memory failure = failure ≡ Memory
+IsWaveFailure wave.Read failure = failure ≡ File
+IsWaveFailure (wave.Write n) failure = failure ≡ Write n
+IsWaveFailure wave.Names failure = ⊥
 
 abbrev pub failure_of_inspection : InspectError → Failure
 failure_of_inspection (inspect.Refused line) = Refused (Trace line)

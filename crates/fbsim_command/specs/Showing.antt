@@ -5,6 +5,7 @@ use Rattle.fb_types.specs.Headline.{Inputs, system_of}
 use Rattle.fb_sim.specs.Given.{Given}
 use Rattle.fb_sim.specs.Serial.{Declares}
 use Rattle.fb_wave.specs.CutOff.{BlamesShown, FailsShown, IsShown}
+use Rattle.fb_wave.specs.Fronts.{WritesBefore}
 use Rattle.fb_wave.specs.Waves.{WritesFront}
 use Rattle.fb_wave.specs.declared.error.WaveError.TheVariants as wave
 use Rattle.fb_wave.specs.declared.truncation.Cut.{Cut}
@@ -50,10 +51,12 @@ abbrev pub DumpsPart : Cut → Given → (old new : Held) → (written : ℕ) �
 DumpsPart may given old new written = (i : Inputs) × Declares given i × FailsShown may (system_of i) old new (wave.Write written)
 
 -- The inputs are accepted, the writer got the first bytes of the dump of lines of their system, and the line is the first that
--- no trace of it has after the lines before it. No trace is refused because it is cut off, where it may be.
+-- no trace of it has after the lines before it. These bytes begin the dump of each trace that has the lines before it. No trace is
+-- refused because it is cut off, where it may be.
 abbrev pub RefusesTrace : Cut → Given → (trace : Held) → (old new : Held) → (line : ℕ) → Type 0
 RefusesTrace may given trace old new line =
     (i : Inputs) × Declares given i × WritesFront (system_of i) old new × BlamesShown may (system_of i) trace (wave.Refused line)
+    × WritesBefore (system_of i) trace old new (wave.Refused line)
 
 -- the inputs are refused, as a check refuses them, or the trace is, in this line
 abbrev pub IsRefusedFor : Cut → Given → (trace : Held) → (old new : Held) → RefusalLine → Type 0

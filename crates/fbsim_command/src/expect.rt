@@ -66,7 +66,7 @@ fn hold<S: Streams>(
     source: &mut S,
 ) -> Result<Vec<Judged>, Failure>
     ensures held { IfOk result (λ js. IsHeld S.opens expect.now rules.now source.old source.new name.now js.items) }
-    ensures unheld { IfErr result (IsUnheld S.opens source.old source.new name.now) }
+    ensures unheld { IfErr result (IsUnheld S.opens expect.now source.old source.new name.now) }
     ensures noted { NotesTrace expect.now (option_map string_bytes note.old) → NotesTrace expect.now (option_map string_bytes note.new) }
 {
     let mut trace = match source.open(alloc, name) {
@@ -153,7 +153,7 @@ fn put_one<S: Streams>(
     source: &mut S,
 ) -> Result<bool, Failure>
     ensures put { IfOk result (PutsOne S.opens expect.now rules.now at.entry.0 at.entry.1 source.old source.new text.old.items text.new.items) }
-    ensures unheld { IfErr result (IsUnheld S.opens source.old source.new at.entry.1.now) }
+    ensures unheld { IfErr result (IsUnheld S.opens expect.now source.old source.new at.entry.1.now) }
     ensures noted { NotesTrace expect.now (option_map string_bytes note.old) → NotesTrace expect.now (option_map string_bytes note.new) }
 {
     let (_, trace) = at;

@@ -1,8 +1,9 @@
 //! Why a call of the program does not do what is asked, and how that is reported.
 
 ghost use Rattle.std.specs.Prelude.{◌≡◌};
-ghost use Rattle.fbsim_command.specs.Failures.{failure_of, failure_of_check, failure_of_inspection, failure_of_read, failure_of_input, failure_of_refusal, failure_of_rules, failure_of_source, failure_of_part, failure_of_wave};
+ghost use Rattle.fbsim_command.specs.Failures.{failure_of, failure_of_check, failure_of_inspection, failure_of_read, failure_of_input, failure_of_refusal, failure_of_rules, failure_of_source, failure_of_part, IsWaveFailure};
 ghost use Rattle.fbsim_command.specs.declared.failure.Failure.TheVariants.{Memory};
+ghost use Rattle.fb_wave.specs.declared.error.WaveError.TheVariants as wave;
 
 use crate::sources::SourceFault;
 use fb_check::CheckError;
@@ -22,7 +23,7 @@ pub enum RefusalLine {
     Numbered(u8),
     /// A syntax fault in this line, counted from 1.
     Syntax(u32),
-    /// The trace is none, which shows first at this line, counted from 1.
+    /// The file is no trace; the first line that shows it, counted from 1.
     Trace(u64),
 }
 
@@ -30,14 +31,14 @@ pub enum RefusalLine {
 #[derive(Drop)]
 pub enum Failure {
     Refused(RefusalLine),
-    /// A trace is none, which shows first at the line that this text names with the trace's file.
+    /// A file is no trace; the text names it and the first line that shows it.
     RefusedTrace(String),
     /// A file could not be read.
     File,
     /// The output failed when it had taken this number of bytes.
     Write(u128),
     Memory,
-    /// The words name no call, for what this text says.
+    /// The words are no command; the text says why.
     Line(String),
     /// A number of the call is out of its range.
     BadOption,
@@ -126,21 +127,6 @@ impl From<PartFault> for Failure {
     }
 }
 
-impl From<WaveError> for Failure {
-    ghost from_gives = { λ error failure. failure ≡ failure_of_wave error };
-
-    fn from(error: WaveError) -> Failure {
-        match error {
-            WaveError::Refused(line) => Failure::Refused(RefusalLine::Trace(line)),
-            WaveError::Memory => Failure::Memory,
-            WaveError::Read => Failure::File,
-            WaveError::Write(written) => Failure::Write(written),
-            // Only a declaration that no text gives has two ports that are written alike.
-            WaveError::Names => Failure::Memory,
-        }
-    }
-}
-
 impl From<InspectError> for Failure {
     ghost from_gives = { λ error failure. failure ≡ failure_of_inspection error };
 
@@ -176,6 +162,20 @@ impl From<SourceFault> for Failure {
             SourceFault::File | SourceFault::Folder => Failure::File,
             SourceFault::Memory => Failure::Memory,
         }
+    }
+}
+
+/// The failure for which a trace of what was read has no dump, or no whole one. Whatever was read has names.
+pub(crate) fn failure_of_wave(error: WaveError) -> Failure
+    requires { error ≡ wave.Names → ⊥ }
+    ensures { IsWaveFailure error result }
+{
+    match error {
+        WaveError::Refused(line) => Failure::Refused(RefusalLine::Trace(line)),
+        WaveError::Memory => Failure::Memory,
+        WaveError::Read => Failure::File,
+        WaveError::Write(written) => Failure::Write(written),
+        WaveError::Names => unreachable!(),
     }
 }
 

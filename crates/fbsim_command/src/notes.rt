@@ -315,7 +315,7 @@ pub(crate) fn note_of_number(
     }
 }
 
-/// Where a failure applies, for those of which that is known, where it is asked for.
+/// The location of a failure, if it is known and asked for.
 pub fn note_of(
     alloc: Global,
     types: &[&str],

@@ -4,7 +4,7 @@ ghost use Rattle.std.specs.Prelude.{map, option_map, string_bytes};
 ghost use Rattle.fbsim_command.specs.Notes.{Notes};
 ghost use Rattle.fbsim_command.specs.Showing.{DumpsAs, IsTraceFileNote, NotesAs, Shows, cut_of};
 
-use crate::failure::Failure;
+use crate::failure::{Failure, failure_of_wave};
 use crate::line_notes::{note_of_trace_line, note_of_wave};
 use crate::notes::{note_of_file, note_of_name, note_of_trace_end};
 use crate::own_lines::end_with;
@@ -50,7 +50,7 @@ fn dump<R: BufRead, W: Write>(
     discard(system);
     match written {
         Ok(()) => (Ok(Done::Shown), note),
-        Err(error) => (Err(Failure::from(error)), note),
+        Err(error) => (Err(failure_of_wave(error)), note),
     }
 }
 

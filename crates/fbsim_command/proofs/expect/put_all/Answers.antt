@@ -24,7 +24,7 @@ returns-in_err-ok-clause-unheld g c =
     (unheld-at g.S.Streams.opens x c.args.rules.now _ c.args.source.now c.loop-index.source c.put_one.new.source _
     (comes-to g.S.Streams.opens x c.args.rules.now i none c.args.source.now c.loop-index.source c.args.text.now.items c.loop-index.text.items c.loop-index.is_well
     (subst (λ (vs : List (Bor Text)). i < length vs) same c.loop-index-test.true) c.loop-index.invariant.0)
-    (subst (λ (vs : List (Bor Text)). IsUnheld g.S.Streams.opens c.loop-index.source c.put_one.new.source (get_or vs i none).now c.in_err-ok.field-0.0) same c.in_err-ok.ensures.unheld))
+    (subst (λ (vs : List (Bor Text)). IsUnheld g.S.Streams.opens x c.loop-index.source c.put_one.new.source (get_or vs i none).now c.in_err-ok.field-0.0) same c.in_err-ok.ensures.unheld))
 
 pub returns-clause-put : goal.returns-clause-put
 returns-clause-put g c =

@@ -4,11 +4,11 @@ use Rattle.fbsim_command.proofs.expect.put_one.Goals as goal
 
 pub returns-in_err-judged-clause-unheld : goal.returns-in_err-judged-clause-unheld
 returns-in_err-judged-clause-unheld g c =
-    passed-on c.from_residual.result _ (IsUnheld g.S.Streams.opens c.args.source.now c.hold.new.source c.args.at.1.now) c.from_residual.ensures.1 c.in_err-judged.ensures.unheld
+    passed-on c.from_residual.result _ (IsUnheld g.S.Streams.opens c.args.expect.now c.args.source.now c.hold.new.source c.args.at.1.now) c.from_residual.ensures.1 c.in_err-judged.ensures.unheld
 
 pub returns-in_err-put_part-clause-unheld : goal.returns-in_err-put_part-clause-unheld
 returns-in_err-put_part-clause-unheld g c =
-    passed-on c.from_residual-in_err-put_part.result Memory (IsUnheld g.S.Streams.opens c.args.source.now c.hold.new.source c.args.at.1.now) c.from_residual-in_err-put_part.ensures.1 tt
+    passed-on c.from_residual-in_err-put_part.result Memory (IsUnheld g.S.Streams.opens c.args.expect.now c.args.source.now c.hold.new.source c.args.at.1.now) c.from_residual-in_err-put_part.ensures.1 tt
 
 pub returns-clause-put : goal.returns-clause-put
 returns-clause-put g c =

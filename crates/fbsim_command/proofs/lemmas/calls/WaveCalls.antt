@@ -1,5 +1,5 @@
 -- How a call for waveforms ends where there are none, or no whole ones.
-use Rattle.fbsim_command.proofs.lemmas.Common.{◌≡◌, ◌⊎◌, ℕ, List, Option, Some, None, Ok, Err, inl, inr, refl, ap, subst, Inputs, system_of, ReadError, Given, Declares, IsRefusal, IsRightly, RunError, Cut, Task, failure_of, failure_of_source, numbered_input, Failure, End, Held, Notes, NotesOf, EndsIn, Reading, AreRead, IsUnread, Opening, SourceFault, Part}
+use Rattle.fbsim_command.proofs.lemmas.Common.{◌≡◌, ◌⊎◌, ℕ, List, Option, Some, None, Ok, Err, inl, inr, refl, sym, ap, subst, Inputs, system_of, ReadError, Given, Declares, IsRefusal, IsRightly, RunError, Cut, Task, failure_of, failure_of_source, numbered_input, Failure, Refused, File, Write, Memory, End, Held, Notes, NotesOf, EndsIn, Reading, AreRead, IsUnread, Opening, SourceFault, Part}
 use Rattle.fb_read.specs.declared.error.ReadError.TheVariants as read
 use Rattle.fb_check.specs.Refusals as check
 use Rattle.fb_inputs.specs.Refusals as input
@@ -7,17 +7,21 @@ use Rattle.fb_sim.specs.declared.outcome.Refusal as sim
 use Rattle.fb_sim.specs.declared.outcome.Refusal.TheVariants as of
 use Rattle.fb_sim.specs.declared.outcome.RunError.TheVariants as run
 use Rattle.fb_wave.specs.CutOff.{BlamesShown, FailsCut, FailsShown}
+use Rattle.fb_wave.specs.Fronts.{WritesBefore}
+use Rattle.fb_wave.specs.Refusals.{Blames}
 use Rattle.fb_wave.specs.Waves.{WritesFront}
 use Rattle.fb_wave.specs.declared.error.WaveError.{WaveError}
 use Rattle.fb_wave.specs.declared.error.WaveError.TheVariants as wave
 use Rattle.fb_wave.specs.declared.truncation.Cut.TheVariants as cut
 use Rattle.clap.specs.Words.{Text}
 use Rattle.fbsim_line.specs.declared.line.Wave.{Wave}
-use Rattle.fbsim_command.specs.Failures.{failure_of_wave}
+use Rattle.fbsim_command.specs.Failures.{IsWaveFailure}
 use Rattle.fbsim_command.specs.Notes.{IsFileNote, NotesRest}
 use Rattle.fbsim_command.specs.Showing.{Dumps, DumpsAs, IsTraceFileNote, NotesAs, Shows, cut_of, files_of}
 use Rattle.fbsim_command.proofs.lemmas.notes.NotedLines.{noted_so}
 use Rattle.fbsim_command.specs.declared.join.FileLines.{FileLines}
+use Rattle.fbsim_command.specs.declared.failure.RefusalLine.TheVariants.{Trace}
+use Rattle.fbsim_command.proofs.lemmas.names.ReadNames.{read-names}
 
 -- nothing is written where the inputs are refused
 pub dumps_none : (may : Cut) (given : Given) (trace old : Held) (error : RunError) → IsRefusal given error → Dumps may given trace old old (Err (failure_of error))
@@ -52,16 +56,28 @@ front_of cut.Refused i old new e front other fails = front fails
 front_of cut.Allowed i old new e front other (inl fails) = front fails
 front_of cut.Allowed i old new e front other (inr fails) = absurd (other fails)
 
+-- names are not at fault in what was read
+pub no_names : (may : Cut) (given : Given) (i : Inputs) (trace : Held) → Declares given i → (e : WaveError) → BlamesShown may (system_of i) trace e → e ≡ wave.Names → ⊥
+no_names cut.Refused given i trace is e blames same = subst (Blames (system_of i) trace) same blames (read-names given i is)
+no_names cut.Allowed given i trace is e blames same = subst (Blames (system_of i) trace) same blames.0 (read-names given i is)
+
 -- a beginning is written where the trace is refused, or where reading it, writing or memory fails
 pub dumps_front :
-    (may : Cut) (given : Given) (trace old new : Held) (i : Inputs) → Declares given i → (e : WaveError) → FailsShown may (system_of i) old new e
-    → BlamesShown may (system_of i) trace e → Dumps may given trace old new (Err (failure_of_wave e))
-dumps_front may given trace old new i is (wave.Refused line) fails blames =
-    inr (line, refl, (i, is, front_of may i old new (wave.Refused line) (λ f. f) (λ f. f) fails, blames))
-dumps_front may given trace old new i is wave.Memory fails blames = inr (i, is, front_of may i old new wave.Memory (λ f. f) (λ f. f) fails)
-dumps_front may given trace old new i is wave.Read fails blames = (i, is, front_of may i old new wave.Read (λ f. f) (λ f. f) fails)
-dumps_front may given trace old new i is (wave.Write n) fails blames = (i, is, fails)
-dumps_front may given trace old new i is wave.Names fails blames = inr (i, is, front_of may i old new wave.Names (λ f. f) (λ f. f) fails)
+    (may : Cut) (given : Given) (trace old new : Held) (i : Inputs) → Declares given i → (e : WaveError) (f : Failure) → IsWaveFailure e f → FailsShown may (system_of i) old new e
+    → BlamesShown may (system_of i) trace e → WritesBefore (system_of i) trace old new e → Dumps may given trace old new (Err f)
+dumps_front may given trace old new i is e f reported fails blames before = by e reported fails blames before
+  where
+    to : (g : Failure) → f ≡ g → Dumps may given trace old new (Err g) → Dumps may given trace old new (Err f)
+    to g same it = subst (λ (h : Failure). Dumps may given trace old new (Err h)) (sym same) it
+
+    by : (e : WaveError) → IsWaveFailure e f → FailsShown may (system_of i) old new e → BlamesShown may (system_of i) trace e → WritesBefore (system_of i) trace old new e
+        → Dumps may given trace old new (Err f)
+    by (wave.Refused line) reported fails blames before =
+        to (Refused (Trace line)) reported (inr (line, refl, (i, is, front_of may i old new (wave.Refused line) (λ f. f) (λ f. f) fails, blames, before)))
+    by wave.Memory reported fails blames before = to Memory reported (inr (i, is, front_of may i old new wave.Memory (λ f. f) (λ f. f) fails))
+    by wave.Read reported fails blames before = to File reported (i, is, front_of may i old new wave.Read (λ f. f) (λ f. f) fails)
+    by (wave.Write n) reported fails blames before = to (Write n) reported (i, is, fails)
+    by wave.Names reported fails blames before = absurd reported
 
 -- ---- What was read
 

@@ -8,7 +8,7 @@ use Rattle.fb_wave.specs.declared.error.WaveError.{WaveError}
 use Rattle.fb_wave.specs.declared.error.WaveError.TheVariants as wave
 use Rattle.fb_inspect.specs.refused.LineFaults.{Applies}
 use Rattle.fb_inspect.specs.declared.refused.line_fault.LineFault.{LineFault}
-use Rattle.fbsim_command.specs.Failures.{failure_of_wave}
+use Rattle.fbsim_command.specs.Failures.{IsWaveFailure}
 use Rattle.fbsim_command.specs.LineNotes.{NotesLine, SaysFault}
 
 -- a note of a check, of a line, or of a trace that can't be read to its end
@@ -35,7 +35,7 @@ refused_line bytes why sys x line written (Some n) asked is said = (asked, (line
 -- what is said of a refused line
 pub line_noted :
     {U S : Type 0} (bytes : S → Text) (why : Bool) (given : Given) (trace : Held) (i : Inputs) (x : CurrentLine) (written : Result U WaveError) (e : WaveError) (failure : Failure) (note : Option S)
-    → Declares given i → written ≡ Err e → IfErr written (IsRefusedLine (system_of i) trace x) → failure ≡ failure_of_wave e
+    → Declares given i → written ≡ Err e → IfErr written (IsRefusedLine (system_of i) trace x) → IsWaveFailure e failure
     → IfSome note (λ n. IsTrue why × ((line : ℕ) × (written ≡ Err (wave.Refused line)) × SaysFault (system_of i) x line (bytes n)))
     → NotesLine why given trace (Err failure) (option_map bytes note)
 line_noted bytes why given trace i x written e failure None declares is refused reported noted = tt
@@ -46,7 +46,7 @@ line_noted {U = U} bytes why given trace i x written e failure (Some n) declares
       noted.0,
       (
         line,
-        ap (λ (f : Failure). Err f) (reported ∙ ap failure_of_wave same),
+        ap (λ (f : Failure). Err f) (subst (λ (x : WaveError). IsWaveFailure x failure) same reported),
         (i, declares, (x, subst (λ (r : Result U WaveError). IfErr r (IsRefusedLine (system_of i) trace x)) noted.1.1 refused, noted.1.2)),
       ),
     )

@@ -2,14 +2,17 @@
 use Rattle.fbsim_command.proofs.lemmas.Common.{◌≡◌, ℕ, suc, ◌+◌, ◌<◌, Bool, true, false, Bor, List, [], ◌∷◌, ◌++◌, length, get_or, map, take, drop, Option, Some, None, option_map, codes, Result, Ok, Err, refl, sym, ap, ◌∙◌, subst, append_assoc, append-nil, inl, inr, arith, ◌&&◌, IfErr, IfSome, OnOk, if◌then◌else◌, nat_lt, Appends, drop_more, length-map, map-append, take-append-drop, take_more, IsErrAnd, Given, AreUnheld, Holds, IsUnheld, WritesPart, failure_of_source, End, Held, Opening, Expect, Failure, Refused, RefusedTrace, File, Write, Memory, Line, BadOption, SourceFault}
 use Rattle.fb_types.proofs.Common.{◌*◌, is_ok, length-take-le, list_all-append}
 use Rattle.clap.specs.Words.{Text}
-use Rattle.fb_expect.specs.Judging.{Judges}
+use Rattle.fb_expect.specs.Judging as judging
+use Rattle.fb_expect.specs.Judging.{IsRefusal, Judges}
+use Rattle.fb_expect.specs.declared.fault.TraceError.{TraceError}
+use Rattle.fb_expect.specs.declared.fault.TraceError.TheVariants as trace_error
 use Rattle.fb_expect.specs.Reports.{are_well, points}
 use Rattle.fb_expect.specs.Suites.{suite, suites_tail}
 use Rattle.fb_expect.specs.declared.judging.Cut.{Cut}
 use Rattle.fb_expect.specs.declared.judging.Judged.{Judged}
 use Rattle.fb_expect.specs.declared.rule.Rule.{Rule}
 use Rattle.fbsim_command.specs.Notes.{IsNoteOfName, Notes, rest_note}
-use Rattle.fbsim_command.specs.Expecting.{AreHeld, AreRules, ComesTo, IsHeld, IsRefusedAt, NotesTrace, Puts, PutsOne, Reports, all_well, cut_of, head_of, part_of, points_of, tail_of}
+use Rattle.fbsim_command.specs.Expecting.{AreHeld, AreRules, ComesTo, IsHeld, IsRefusedAt, IsWrongLine, NotesTrace, Puts, PutsOne, Reports, all_well, cut_of, head_of, part_of, points_of, tail_of}
 use Rattle.fbsim_command.specs.Failures.{IsPartWritten}
 use Rattle.fbsim_command.specs.declared.sources.SourceFault.TheVariants as source
 use Rattle.fbsim_command.specs.declared.statuses.Done.TheVariants.{Met, Unmet}
@@ -25,10 +28,11 @@ passed-on (Ok b) f P bad p = absurd bad
 passed-on (Err g) f P same p = subst P (sym same) p
 
 -- it is not opened
-pub unopened : {S : Type 0} (opens : Opening S) (old new : S) (name : Text) (fault : SourceFault) → opens old name (Err fault) new → IsUnheld opens old new name (failure_of_source fault)
-unopened opens old new name source.File is = inl (source.File, refl, is)
-unopened opens old new name source.Folder is = inl (source.Folder, refl, is)
-unopened opens old new name source.Memory is = tt
+pub unopened :
+    {S : Type 0} (opens : Opening S) (x : Expect) (old new : S) (name : Text) (fault : SourceFault) → opens old name (Err fault) new → IsUnheld opens x old new name (failure_of_source fault)
+unopened opens x old new name source.File is = inl (source.File, refl, is)
+unopened opens x old new name source.Folder is = inl (source.Folder, refl, is)
+unopened opens x old new name source.Memory is = tt
 
 -- the note to a trace that is not opened
 pub open-noted :
@@ -46,15 +50,23 @@ rest-noted bytes x name (Some n) asked said = (asked, (name, inr said))
 
 -- it is refused
 pub refused-at :
-    {S : Type 0} (opens : Opening S) (old new : S) (name : Text) (line : ℕ) (trace : Held) (f : Failure) → opens old name (Ok trace) new → IsRefusedAt name line f
-    → IsUnheld opens old new name f
-refused-at opens old new name line trace (RefusedTrace text) is reported = (trace, is, (line, reported))
-refused-at opens old new name line trace Memory is reported = tt
-refused-at opens old new name line trace (Refused refusal) is reported = absurd reported
-refused-at opens old new name line trace File is reported = absurd reported
-refused-at opens old new name line trace (Write n) is reported = absurd reported
-refused-at opens old new name line trace (Line message) is reported = absurd reported
-refused-at opens old new name line trace BadOption is reported = absurd reported
+    {A : Type 0} {S : Type 0} (opens : Opening S) (x : Expect) (cut : Cut) (old new : S) (name : Text) (line : ℕ) (trace : Held) (r : Result A TraceError) (f : Failure) → opens old name (Ok trace) new
+    → cut ≡ cut_of x → r ≡ Err (trace_error.Refused line) → IfErr r (IsRefusal cut trace) → IsRefusedAt name line f → IsUnheld opens x old new name f
+refused-at {A = A} opens x cut old new name line trace r f is same refused wrong reported = by f reported
+  where
+    is_wrong : IsWrongLine x trace line
+    is_wrong =
+        subst (λ (k : Cut). IfSome trace (λ text. judging.IsRefused k text line)) same
+        (subst (λ (s : Result A TraceError). IfErr s (IsRefusal cut trace)) refused wrong)
+
+    by : (g : Failure) → IsRefusedAt name line g → IsUnheld opens x old new name g
+    by (RefusedTrace text) reported = (trace, is, (line, is_wrong, reported))
+    by Memory reported = tt
+    by (Refused refusal) reported = absurd reported
+    by File reported = absurd reported
+    by (Write n) reported = absurd reported
+    by (Line message) reported = absurd reported
+    by BadOption reported = absurd reported
 
 -- it is held
 pub held-one :
@@ -203,9 +215,9 @@ comes-to opens x rules i d old mid before text well lt puts =
 
 pub unheld-at :
     {S : Type 0} (opens : Opening S) (x : Expect) (rules : List Rule) (name : Text) (old mid new : S) (f : Failure) → ComesTo opens x rules old mid name
-    → IsUnheld opens mid new name f → AreUnheld opens x rules old new f
+    → IsUnheld opens x mid new name f → AreUnheld opens x rules old new f
 unheld-at opens x rules name old mid new (RefusedTrace text) comes is =
-    record { name = name; between = mid; comes = comes; trace = is.0; opened = is.1; line = is.2.0; reported = is.2.1 }
+    record { name = name; between = mid; comes = comes; trace = is.0; opened = is.1; line = is.2.0; is_wrong = is.2.1; reported = is.2.2 }
 unheld-at opens x rules name old mid new File comes is = record { name = name; between = mid; comes = comes; lacks = is }
 unheld-at opens x rules name old mid new Memory comes is = tt
 unheld-at opens x rules name old mid new (Refused refusal) comes is = absurd is

@@ -1,10 +1,11 @@
 use Rattle.fbsim_command.proofs.lemmas.Common.{Bool, Ok, Err, option_map, string_bytes, sym, subst, IfErr, IfSome, OnOk, system_of, Cut, Failure}
+use Rattle.fb_wave.specs.Fronts.{WritesBefore}
 use Rattle.fb_wave.specs.CutOff.{BlamesShown, FailsShown, IsShown}
 use Rattle.fbsim_command.specs.Showing.{Dumps, DumpsAs, NotesAs, cut_of}
 use Rattle.fbsim_command.specs.StateDumping.{DumpsStates}
 use Rattle.fbsim_command.specs.declared.statuses.Done.TheVariants.{Shown}
 use Rattle.fbsim_command.proofs.lemmas.notes.NotedLines.{line_noted, none_noted}
-use Rattle.fbsim_command.proofs.lemmas.calls.WaveCalls.{dumps_front, dumps_none}
+use Rattle.fbsim_command.proofs.lemmas.calls.WaveCalls.{dumps_front, dumps_none, no_names}
 use Rattle.fbsim_command.proofs.wave.dump.Goals as goal
 
 pub returns-then-wave-clause-dumped : goal.returns-then-wave-clause-dumped
@@ -53,6 +54,12 @@ returns-in-Ok-written-clause-noted g c =
     (none_noted string_bytes w.why c.args.inputs.now trace c.in-Ok.system c.write_wave_with-written.new.current c.write_wave_with-written.result (Ok Shown)
     c.in-Ok-written.field-0 c.note_of_trace_line-note.result c.in-Ok-written.is c.note_of_trace_line-note.ensures)
 
+pub failure_of_wave-requires : goal.failure_of_wave-requires
+failure_of_wave-requires g c =
+    let trace = g.R.Read.remaining c.args.trace.now in
+    no_names c.cut_of-cut.result c.args.inputs.now c.in-Ok.system trace c.in-Ok.ensures.system c.in-Err-written.error
+    (subst (λ r. IfErr r (BlamesShown c.cut_of-cut.result (system_of c.in-Ok.system) trace)) c.in-Err-written.is c.write_wave_with-written.ensures.refused)
+
 pub returns-clause-dumped : goal.returns-clause-dumped
 returns-clause-dumped g c =
     let w = c.args.wave.now in
@@ -61,17 +68,17 @@ returns-clause-dumped g c =
     let new = g.W.Write.contents c.write_wave_with-written.new.out in
     let trace = g.R.Read.remaining c.args.trace.now in
     let e = c.in-Err-written.error in
-    subst (λ (b : Bool). DumpsAs b w.steps (cut_of w) c.args.inputs.now trace old new (Err c.from-in-Err-written.result)) (sym c.if-wave.false)
-    (subst (λ (f : Failure). Dumps (cut_of w) c.args.inputs.now trace old new (Err f)) (sym c.from-in-Err-written.ensures)
-    (dumps_front (cut_of w) c.args.inputs.now trace old new c.in-Ok.system c.in-Ok.ensures.system e
+    subst (λ (b : Bool). DumpsAs b w.steps (cut_of w) c.args.inputs.now trace old new (Err c.failure_of_wave.result)) (sym c.if-wave.false)
+    (dumps_front (cut_of w) c.args.inputs.now trace old new c.in-Ok.system c.in-Ok.ensures.system e c.failure_of_wave.result c.failure_of_wave.ensures
     (subst (λ (m : Cut). FailsShown m sys old new e) c.cut_of-cut.ensures (subst (λ r. IfErr r (FailsShown c.cut_of-cut.result sys old new)) c.in-Err-written.is c.write_wave_with-written.ensures.part))
-    (subst (λ (m : Cut). BlamesShown m sys trace e) c.cut_of-cut.ensures (subst (λ r. IfErr r (BlamesShown c.cut_of-cut.result sys trace)) c.in-Err-written.is c.write_wave_with-written.ensures.refused))))
+    (subst (λ (m : Cut). BlamesShown m sys trace e) c.cut_of-cut.ensures (subst (λ r. IfErr r (BlamesShown c.cut_of-cut.result sys trace)) c.in-Err-written.is c.write_wave_with-written.ensures.refused))
+    (subst (λ r. IfErr r (WritesBefore sys trace old new)) c.in-Err-written.is c.write_wave_with-written.ensures.before))
 
 pub returns-clause-noted : goal.returns-clause-noted
 returns-clause-noted g c =
     let w = c.args.wave.now in
     let trace = g.R.Read.remaining c.args.trace.now in
-    subst (λ (b : Bool). NotesAs b w.why c.args.inputs.now trace (Err c.from-in-Err-written.result) (option_map string_bytes c.note_of_trace_line-note.result)) (sym c.if-wave.false)
+    subst (λ (b : Bool). NotesAs b w.why c.args.inputs.now trace (Err c.failure_of_wave.result) (option_map string_bytes c.note_of_trace_line-note.result)) (sym c.if-wave.false)
     (line_noted string_bytes w.why c.args.inputs.now trace c.in-Ok.system c.write_wave_with-written.new.current c.write_wave_with-written.result
-    c.in-Err-written.error c.from-in-Err-written.result c.note_of_trace_line-note.result c.in-Ok.ensures.system c.in-Err-written.is c.write_wave_with-written.ensures.current
-    c.from-in-Err-written.ensures c.note_of_trace_line-note.ensures)
+    c.in-Err-written.error c.failure_of_wave.result c.note_of_trace_line-note.result c.in-Ok.ensures.system c.in-Err-written.is c.write_wave_with-written.ensures.current
+    c.failure_of_wave.ensures c.note_of_trace_line-note.ensures)
