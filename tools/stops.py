@@ -3,8 +3,8 @@
 
 The second simulator of tools/interpreter.py runs the random systems of tools/drawn_types.py, with more conditions and loops in their
 algorithms and with line ends, tabs and comments among their tokens. It notes the place of each stop as docs/FORMATS.md says ("Program"):
-the block, the state, the transition or the action, the statement, the operation that has no value, and how the steps of the tick were
-used. What the program writes to standard error must be the same to the byte.
+the block, the state, the transition or the action, the statement, the operation that has no value or that is assigned, the values, and
+how the steps of the tick were used. What the program writes to standard error must be the same to the byte.
 
 ./gate makes these runs each time it has run the program. FIRST and LAST choose other seeds than those of the gate."""
 
@@ -58,11 +58,16 @@ def fault_in(tree, values):
 
 class Body(interpreter.Body):
     """Runs statements. `around` has the statement that runs and those around it, each as its list and its number there; `begun` has the
-    one that begins. `operation` is the one that has no value."""
+    one that begins. `operation` is the one that has no value, `unfit` the name and the value that its type does not hold."""
 
     def __init__(self, block):
         super().__init__(block)
-        self.around, self.begun, self.operation = [], None, None
+        self.around, self.begun, self.operation, self.unfit = [], None, None, None
+
+    def assign(self, name, value):
+        self.unfit = name, value
+        super().assign(name, value)
+        self.unfit = None
 
     def run(self, body):
         for number, it in enumerate(body):
@@ -148,26 +153,93 @@ class System(interpreter.System):
         token = self.reader.headings[id(chart.algorithms[algorithm])] if algorithm else places[id(actions)][self.action] + 1
         return words, token, None
 
-    def written(self, operation):
-        """Returns the offset of the operator of an operation, and the operation as it is shown."""
-        spans, (first, operator, end) = self.reader.spans, self.reader.places[id(operation)]
-        text = self.text[spans[first][0] : spans[end - 1][1]]
+    def token(self, at):
+        begin, end = self.reader.spans[at]
+        return self.text[begin:end]
+
+    def written(self, first, end):
+        """Returns tokens as they are shown."""
+        text = self.text[self.reader.spans[first][0] : self.reader.spans[end - 1][1]]
         front = re.sub(r"\s+", " ", text[:MOST_WRITTEN]).rstrip()
-        return spans[operator][0], front + " .." * (len(text) > MOST_WRITTEN)
+        return front + " .." * (len(text) > MOST_WRITTEN)
+
+    def closing(self, first):
+        """Returns the token that closes the parenthesis at a token."""
+        depth = 0
+        while True:
+            depth += {"(": 1, ")": -1}.get(self.token(first), 0)
+            if not depth:
+                return first
+            first += 1
+
+    def parts(self, operation):
+        """Returns the operands of an operation with the tokens of each, the first and the one past the last."""
+        first, operator, end = self.reader.places[id(operation)]
+        if operator > first:
+            ranges = [(first, operator), (operator + 1, end)]
+        elif operation[0].endswith("()"):
+            ranges, begin = [], operator + 2
+            while begin < end:
+                at = begin
+                while self.token(at) not in (",", ")"):
+                    at = (self.closing(at) if self.token(at) == "(" else at) + 1
+                ranges.append((begin, at))
+                begin = at + 1
+        else:
+            ranges = [(operator + 1, end)]
+        return [*zip(operation[1:], ranges, strict=True)]
+
+    def operands(self, operation):
+        """Returns what is said of the operands: of a division the first one."""
+        said, last = [], None
+        for tree, (first, end) in self.parts(operation)[: 1 if self.ended == "divide" else None]:
+            if self.token(first) == "(" and self.closing(first) == end - 1:
+                first, end = first + 1, end - 1
+            text = self.text[self.reader.spans[first][0] : self.reader.spans[end - 1][1]]
+            if text != last and not re.fullmatch("[0-9_-]*", text):
+                value = interpreter.value_of(tree, self.block.values)
+                said.append(f"{self.written(first, end)} is {str(value).upper()}")
+                last = text
+        return f" ({', '.join(said)})" * bool(said)
+
+    def assigned(self, token, tree):
+        """Returns what is assigned as it is shown, and its operands. The statement begins at this token."""
+        if isinstance(tree, tuple):
+            first, _, end = self.reader.places[id(tree)]
+            return f": {self.written(first, end)}", self.operands(tree)
+        first = token + 2
+        while self.token(first) == "(":
+            first += 1
+        return f": {self.written(first, first + 1)}", ""
+
+    def values(self, token, operation):
+        """Returns what is said before the reason, where an operation is at fault or a value is assigned, and what is said after it."""
+        if operation:
+            first, _, end = self.reader.places[id(operation)]
+            beyond = ": the result is not within -2^127 to 2^127-1" if self.ended == "range" else ""
+            return f": {self.written(first, end)}", beyond + self.operands(operation)
+        if self.ended != "range":
+            return "", ""
+        name, value = self.body.unfit
+        low, past = interpreter.ends_of(self.body.kinds[name])
+        body, number = self.body.blamed(self.ended)
+        word, *rest = body[number]
+        written, operands = self.assigned(token, rest[1]) if word == "assign" else ("", "")
+        return written, f": {value} is not within {low} to {past - 1}{operands}"
 
     def note(self, steps):
         """Returns what is said of the stop."""
         block, (words, token, operation) = self.block, self.site()
         name = next((name for name, it in self.types.items() if it is block.type), None)
         words = f"stop: {block.path}" + (f" (type {name})" if name else "") + words
-        at = self.reader.spans[token][0] if token is not None else None
-        if operation:
-            at, written = self.written(operation)
-            words += f": {written}"
+        before, after = self.values(token, operation)
+        shown_at = self.reader.places[id(operation)][1] if operation else token
+        at = self.reader.spans[shown_at][0] if shown_at is not None else None
+        words += before
         if at is not None:
             line, column = self.text.count("\n", 0, at) + 1, at - self.text.rfind("\n", 0, at)
             words = f"-:{line}:{column}: {words}"
-        return f"{words}: {self.ended}\n" + (self.spent(steps) if self.ended == "steps" else "")
+        return f"{words}: {self.ended}{after}\n" + (self.spent(steps) if self.ended == "steps" else "")
 
     def spent(self, steps):
         """Returns the lines that say how the steps of the tick were used."""

@@ -36,7 +36,12 @@ Ends p how e q = (e ≡ how) × (q ≡ p)
 -- a reason, blamed on a statement
 abbrev pub placed : {A : Type 0} → ℕ → Result A Reason → Result A Fault
 placed n (Ok a) = Ok a
-placed n (Err r) = Err (record { reason = r; number = n })
+placed n (Err r) = Err (record { reason = r; number = n; value = None })
+
+-- a value that a variable's type does not hold, blamed on a statement
+abbrev pub fitted : ℕ → Value → Result Value Reason → Result Value Fault
+fitted n x (Ok w) = Ok w
+fitted n x (Err r) = Err (record { reason = r; number = n; value = Some x })
 
 -- Where no step is left, the innermost loop is to blame, or the statement itself if it is in none.
 abbrev pub blamed : Option ℕ → ℕ → ℕ
@@ -44,7 +49,7 @@ blamed None n = n
 blamed (Some around) n = around
 
 abbrev pub StepAnd : ℕ → ℕ → Values → Running → End → Point → Type 0
-StepAnd n zero vars rest e q = Ends (record { vars = vars; left = 0 }) (Stopped (record { reason = reason.Steps; number = n })) e q
+StepAnd n zero vars rest e q = Ends (record { vars = vars; left = 0 }) (Stopped (record { reason = reason.Steps; number = n; value = None })) e q
 StepAnd n (suc left) vars rest e q = rest (record { vars = vars; left = left }) e q
 
 abbrev pub Step : ℕ → Running → Running
@@ -70,7 +75,7 @@ Either false a b p e q = b p e q
 -- ---- Assignment
 
 abbrev pub Assigns : Types → ℕ → Name → Value → Running
-Assigns types n v x = With (placed n (bodies.assigned (types v) x)) (λ w p e q. Ends (record p { vars = with_value v w p.vars }) Went e q)
+Assigns types n v x = With (fitted n x (bodies.assigned (types v) x)) (λ w p e q. Ends (record p { vars = with_value v w p.vars }) Went e q)
 
 -- ---- Loops
 

@@ -2,6 +2,7 @@
 use Rattle.std.specs.Prelude.{◌≡◌, ℕ, ◌+◌, ◌-◌, List, drop, slice_get, Option, Some, None}
 use Rattle.fb_types.specs.Headline.{Inputs}
 use Rattle.fb_types.specs.declared.library.Library.{Library}
+use Rattle.fb_types.specs.declared.value.Value.{Value}
 use Rattle.fb_stop.specs.declared.operation.Operation.{Operation}
 use Rattle.fb_read.specs.Blank.{Text}
 use Rattle.fb_read.specs.Located.{AreLocated}
@@ -49,9 +50,14 @@ abbrev pub operation_placed : Option Placed → Option Operation
 operation_placed None = None
 operation_placed (Some p) = Some p.operation
 
+-- A statement whose value does not fit has no operation without a value.
+abbrev pub operation_unless : Option Value → Option Placed → Option Operation
+operation_unless None p = operation_placed p
+operation_unless (Some v) p = None
+
 abbrev pub operation_inside : Option Inside → Option Operation
 operation_inside None = None
-operation_inside (Some i) = operation_placed i.operation
+operation_inside (Some i) = operation_unless i.value i.operation
 
 abbrev pub operation_in_site : Site → Option Operation
 operation_in_site (site.Transition s j operation) = operation
@@ -62,10 +68,35 @@ abbrev pub operation_at : StopSite → Option Operation
 operation_at BeforeEvent = None
 operation_at (InReaction x) = operation_in_site x
 
--- The bytes are those of the operation of the stop.
-pub record IsStopShown (text : Text) (i : Inputs) (stop : FoundStop) (x : Shown) : Type 0 where
+-- what is assigned, if its value does not fit
+abbrev pub assigned_if : Option Value → Option Placed → Option Operation
+assigned_if None p = None
+assigned_if (Some v) p = operation_placed p
+
+abbrev pub assigned_inside : Option Inside → Option Operation
+assigned_inside None = None
+assigned_inside (Some i) = assigned_if i.value i.operation
+
+abbrev pub assigned_in_site : Site → Option Operation
+assigned_in_site (site.Transition s j operation) = None
+assigned_in_site (site.Action s j inside) = assigned_inside inside
+
+abbrev pub assigned_at : StopSite → Option Operation
+assigned_at BeforeEvent = None
+assigned_at (InReaction x) = assigned_in_site x
+
+-- The bytes are those of an operation of the stop.
+pub record IsOperationShown (text : Text) (i : Inputs) (stop : FoundStop) (o : Option Operation) (x : Shown) : Type 0 where
   pub position : Position
   pub position_is : IsStopPosition i stop position
   pub operation : Operation
-  pub operation_is : operation_at stop.site ≡ Some operation
+  pub operation_is : o ≡ Some operation
   pub shown : IsShownIn text i.library position operation x
+
+-- The bytes are those of the operation of the stop that has no value.
+abbrev pub IsStopShown : Text → Inputs → FoundStop → Shown → Type 0
+IsStopShown text i stop x = IsOperationShown text i stop (operation_at stop.site) x
+
+-- The bytes are those of what is assigned.
+abbrev pub IsAssignedShown : Text → Inputs → FoundStop → Shown → Type 0
+IsAssignedShown text i stop x = IsOperationShown text i stop (assigned_at stop.site) x

@@ -53,13 +53,13 @@ abbrev pub slot_in : List Slot → Variable → Slot
 slot_in slots v = record { name = v.name; ty = v.ty; value = values_of slots v.name }
 
 -- The statements run from these variables, once the action has its step, and the reason stops them at this one. If an
--- operation is said, it is the one of this statement that has no value for the reason, by what the variables hold there. If
--- none is said, each expression of the statement has a value there, or none for another reason.
+-- operation is said, it is the one of this statement that has no value for the reason, by what the variables hold there, or
+-- that of an assignment. If none is said, each expression of the statement has a value there, or none for another reason.
 pub record StopsInStatements (types : Types) (body : Body) (vars : Values) (left : ℕ) (r : Reason) (x : Inside) : Type 0 where
   pub rest : ℕ
   pub counted : left ≡ suc rest
   pub end : Point
-  pub runs : RunsAll types None 0 (body_of body) (record { vars = vars; left = rest }) (Stopped (record { reason = r; number = x.statement })) end
+  pub runs : RunsAll types None 0 (body_of body) (record { vars = vars; left = rest }) (Stopped (record { reason = r; number = x.statement; value = x.value })) end
   pub operation : IfSome x.operation (IsInList end.vars r body.statements 0 x.statement)
   pub otherwise : IfNone x.operation (IsListOtherwise end.vars r body.statements 0 x.statement)
 

@@ -1,5 +1,5 @@
 -- Where in a body an operation is: the statement, the expression of it, and the operation in that (this project's own).
-use Rattle.std.specs.Prelude.{◌≡◌, ℕ, zero, suc, List, take, slice_get, Option, Some}
+use Rattle.std.specs.Prelude.{◌≡◌, ◌⊎◌, ℕ, zero, suc, List, take, slice_get, Option, Some}
 use Rattle.fb_types.specs.Names.{Name}
 use Rattle.fb_types.specs.Values.{Values}
 use Rattle.fb_types.specs.declared.text.Branch.{Branch, out-Branch}
@@ -9,8 +9,9 @@ use Rattle.fb_types.specs.declared.text.Stmt as read
 use Rattle.fb_types.specs.declared.value.Reason.{Reason}
 use Rattle.fb_st.specs.Flows.{all_of, branches_of, choices_of}
 use Rattle.fb_stop.specs.Numbers.{IsReached, next, after_all, after_branches, after_choices}
-use Rattle.fb_stop.specs.Operations.{FaultIn, IsOtherwise}
+use Rattle.fb_stop.specs.Operations.{FaultIn, IsOtherwise, IsUnfit}
 use Rattle.fb_stop.specs.Tokens.{past}
+use Rattle.fb_stop.specs.declared.operation.Operation.{Operation}
 use Rattle.fb_stop.specs.declared.statement.Anchor.{Anchor}
 use Rattle.fb_stop.specs.declared.statement.Anchor.TheVariants.{Beginning, Elsif, Until}
 use Rattle.fb_stop.specs.declared.statement.Placed.{Placed}
@@ -34,12 +35,17 @@ pub data IsExpression : read.Stmt → Anchor → ℕ → Expr → Type 0 where
   while : (c : Expr) (body : List read.Stmt) → IsExpression (read.While c body) Beginning 1 c
   until : (body : List read.Stmt) (c : Expr) → IsExpression (read.Repeat body c) Until 1 c
 
+-- The operation has no value for the reason; or the reason is that the value of an assignment does not fit its variable,
+-- and the operation is the outermost one of what is assigned.
+abbrev pub IsOfOwn : Values → Reason → read.Stmt → Expr → ℕ → Operation → Type 0
+IsOfOwn vars r s e n x = FaultIn vars r e n x ⊎ ((v : Name) × (s ≡ read.Assign v e) × IsUnfit vars r e n x)
+
 -- The operation is in an expression of the statement itself.
 pub record HasOwn (vars : Values) (r : Reason) (s : read.Stmt) (x : Placed) : Type 0 where
   pub expression : Expr
   pub first : ℕ
   pub is : IsExpression s x.anchor first expression
-  pub fault : FaultIn vars r expression first x.operation
+  pub fault : IsOfOwn vars r s expression first x.operation
 
 -- The fault is in a condition of IF, or in a bound of FOR.
 pub record IsOfChoices (vars : Values) (r : Reason) (cs : List Choice) (x : Placed) : Type 0 where

@@ -71,13 +71,13 @@ fn algorithm_named<'a>(algorithms: &'a [Algorithm], name: &Name) -> Option<&'a A
     None
 }
 
-/// The statement to blame, if the reason is this one.
-fn statement_of(fault: Fault, reason: Reason) -> Option<usize>
-    ensures found { IfSome result (λ n. fault ≡ record { reason = reason; number = n }) }
+/// A fault, if it has this reason.
+fn fault_of(fault: Fault, reason: Reason) -> Option<Fault>
+    ensures found { IfSome result (λ f. fault ≡ record { reason = reason; number = f.number; value = f.value }) }
     ensures none { IfNone result (fault.reason ≢ reason) }
 {
     if fault.reason == reason {
-        Some(fault.number)
+        Some(fault)
     } else {
         None
     }
@@ -97,11 +97,12 @@ fn inside_body(body: &Body, frame: &mut Frame, left: u64, reason: Reason) -> Opt
     match run_body(body, frame, &mut meter)? {
         Ok(_) => None,
         Err(fault) => {
-            let statement = statement_of(fault, reason)?;
-            let operation = operation_of(body, statement, frame, reason);
+            let fault = fault_of(fault, reason)?;
+            let operation = operation_of(body, fault.number, frame, reason);
             Some(Inside {
-                statement,
+                statement: fault.number,
                 operation,
+                value: fault.value,
             })
         }
     }

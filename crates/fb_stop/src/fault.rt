@@ -1,6 +1,6 @@
 //! A reason, and the statement that gives it.
 
-ghost use Rattle.std.specs.Prelude.{◌≡◌, suc, true, false, IfErr, OnOk};
+ghost use Rattle.std.specs.Prelude.{◌≡◌, suc, true, false, IfErr, None, OnOk, Some};
 ghost use Rattle.fb_types.specs.Names.{with_value};
 ghost use Rattle.fb_types.specs.Syntax.{expr_of};
 ghost use Rattle.fb_types.specs.Values.{fits, truth_of, value_of};
@@ -16,19 +16,33 @@ pub struct Fault {
     pub reason: Reason,
     /// The number of the statement. Statements are counted from 0 as they begin in the text, those inside others too.
     pub number: usize,
+    /// The value that the statement gives its variable, if the variable's type does not hold it.
+    pub value: Option<Value>,
 }
 
 /// Begins a step. With none left the run stops, and this statement is to blame.
 pub(crate) fn begin(meter: &mut Meter, blamed: usize) -> Result<(), Fault>
     ensures ok { OnOk result (meter.old.left ≡ suc meter.new.left) }
-    ensures err { IfErr result (λ f. (f ≡ record { reason = Reason.Steps; number = blamed }) × (meter.old.left ≡ 0) × (meter.new.left ≡ 0)) }
+    ensures err { IfErr result (λ f. (f ≡ record { reason = Reason.Steps; number = blamed; value = None }) × (meter.old.left ≡ 0) × (meter.new.left ≡ 0)) }
 {
     match meter.step() {
         Ok(()) => Ok(()),
         Err(reason) => Err(Fault {
             reason,
             number: blamed,
+            value: None,
         }),
+    }
+}
+
+/// A reason for which an expression of the statement of this number has no value.
+fn unvalued(reason: Reason, number: usize) -> Fault
+    ensures { result ≡ record { reason = reason; number = number; value = None } }
+{
+    Fault {
+        reason,
+        number,
+        value: None,
     }
 }
 
@@ -38,7 +52,7 @@ pub(crate) fn eval(expr: &Expr, frame: &Frame, number: usize) -> Result<Value, F
 {
     match value_in(expr, frame) {
         Ok(value) => Ok(value),
-        Err(reason) => Err(Fault { reason, number }),
+        Err(reason) => Err(unvalued(reason, number)),
     }
 }
 
@@ -48,7 +62,7 @@ pub(crate) fn holds(condition: &Expr, frame: &Frame, number: usize) -> Result<bo
 {
     match holds_in(condition, frame) {
         Ok(truth) => Ok(truth),
-        Err(reason) => Err(Fault { reason, number }),
+        Err(reason) => Err(unvalued(reason, number)),
     }
 }
 
@@ -61,11 +75,15 @@ pub(crate) fn assign(
 ) -> Result<(), Fault>
     requires { is_declared (declared_in frame.old) variable.now ≡ true }
     ensures ok { OnOk result ((fits (types_in (declared_in frame.old) variable.now) value ≡ true) × (values_of frame.new ≡ with_value variable.now value (values_of frame.old))) }
-    ensures err { IfErr result (λ f. (f ≡ record { reason = Reason.Range; number = number }) × (fits (types_in (declared_in frame.old) variable.now) value ≡ false) × (frame.new ≡ frame.old)) }
+    ensures err { IfErr result (λ f. (f ≡ record { reason = Reason.Range; number = number; value = Some value }) × (fits (types_in (declared_in frame.old) variable.now) value ≡ false) × (frame.new ≡ frame.old)) }
     ensures declared { declared_in frame.new ≡ declared_in frame.old }
 {
     match frame.assign(variable, value) {
         Ok(()) => Ok(()),
-        Err(reason) => Err(Fault { reason, number }),
+        Err(reason) => Err(Fault {
+            reason,
+            number,
+            value: Some(value),
+        }),
     }
 }

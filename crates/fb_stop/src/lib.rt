@@ -7,18 +7,20 @@
 //!
 //! Guarantees to callers: `find::find_stop` returns the stop of the simulation (`IsStop`), or none if it reaches its
 //! horizon. `place::position_of` returns the position of a stop in the declaration. `body::run_body` runs a body as
-//! `fb_st::exec` does, and a reason comes with the statement that gives it; after it the frame has what the variables
-//! hold there. Within the crate `reaction::locate` returns where the reaction of one block stops (`ReactionStops`), and
-//! `spent::steps_spent` adds up the steps of a tick by blocks (`AreSpent`). The words of `words` are only tested.
+//! `fb_st::exec` does, and a reason comes with the statement that gives it, and with the value that does not fit its
+//! variable; after it the frame has what the variables hold there. Within the crate `reaction::locate` returns where the
+//! reaction of one block stops (`ReactionStops`), and `spent::steps_spent` adds up the steps of a tick by blocks
+//! (`AreSpent`). The words of `values` and `words` are only tested; the values in them are those of the stop.
 //!
 //! Read in this order: `fault`, a reason and its statement, and `number`, how statements are counted; `part`, what
 //! statements do that hold no statements, `running`, the runs of statements, and `body`. Then `site`, a place in a
 //! chart, and `before` and `reaction`, which find it; `found`, a stop; `copies` and `replay`, the copies that react to
 //! the events of a run (`fb_sim_machine`'s `Machine`); `find`; `spent`, the steps of a tick. Last `operation` and
-//! `statement`, the operation that has no value; `place`, `shown` and `words`, how a stop is shown. All of this runs only
-//! after a stop.
+//! `statement`, the operation that has no value; `place`, `shown`, `assigned`, `values` and `words`, how a stop is shown.
+//! All of this runs only after a stop.
 #![tactic(auto)]
 
+mod assigned;
 mod before;
 pub mod body;
 mod copies;
@@ -36,13 +38,14 @@ pub mod shown;
 pub mod site;
 mod spent;
 pub mod statement;
+mod values;
 pub mod words;
 
 pub use body::run_body;
 pub use fault::Fault;
 pub use find::find_stop;
 pub use found::{EventSite, FoundStop, StopSite};
-pub use operation::{Operation, operation_in};
+pub use operation::{Operands, Operation, operation_in};
 pub use place::position_of;
 pub use shown::{Shown, shown_of};
 pub use site::{Inside, ReactionStop, Site};

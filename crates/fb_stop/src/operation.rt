@@ -1,13 +1,14 @@
 //! The operation at which an expression has no value, as tokens.
 
-ghost use Rattle.std.specs.Prelude.{◌≡◌, ◌<◌, IfNone, IfSome, length, map, true, false};
+ghost use Rattle.std.specs.Prelude.{◌≡◌, ◌<◌, IfNone, IfSome, None, length, map, true, false};
 ghost use Rattle.fb_st.specs.Frames.{values_of};
 ghost use Rattle.fb_stop.specs.Tokens as spec;
-ghost use Rattle.fb_stop.specs.Operations.{AllHaveValues, FaultIn, HasNoValue, HasValue, IsCallOtherwise, IsFirstWithout, IsOfCall, IsOtherwise, IsWithout};
+ghost use Rattle.fb_stop.specs.Operations as operations;
+ghost use Rattle.fb_stop.specs.Operations.{AllHaveValues, FaultIn, HasNoValue, HasValue, IsCallOtherwise, IsFirstWithout, IsOfCall, IsOtherwise, IsOutermost, IsWithout};
 
 use crate::number::next;
 use fb_st::{Frame, eval};
-use fb_types::{Expr, Reason};
+use fb_types::{Expr, Reason, Value};
 
 /// An operation with its operands, or a call with its arguments. Tokens are counted from one of the statement or the
 /// guard.
@@ -19,6 +20,52 @@ pub struct Operation {
     pub operator: usize,
     /// The token after the last one.
     pub end: usize,
+    /// The values of its operands.
+    pub operands: Operands,
+}
+
+/// The values of the operands of an operation from left to right, or of the first three arguments of a call. `None` for
+/// what is not there.
+#[derive(Clone, Copy)]
+pub struct Operands {
+    pub first: Option<Value>,
+    pub second: Option<Value>,
+    pub third: Option<Value>,
+}
+
+impl Operands {
+    /// The value of one operand.
+    fn one(first: Option<Value>) -> Operands
+        ensures { result ≡ record { first = first; second = None; third = None } }
+    {
+        Operands {
+            first,
+            second: None,
+            third: None,
+        }
+    }
+
+    /// The values of two operands.
+    fn two(first: Option<Value>, second: Option<Value>) -> Operands
+        ensures { result ≡ record { first = first; second = second; third = None } }
+    {
+        Operands {
+            first,
+            second,
+            third: None,
+        }
+    }
+
+    /// The values of the first arguments.
+    fn of_call(arguments: &[Expr], frame: &Frame) -> Operands
+        ensures { result ≡ operations.of_call (values_of frame.now) arguments.now }
+    {
+        Operands {
+            first: nth_value(arguments, 0, frame),
+            second: nth_value(arguments, 1, frame),
+            third: nth_value(arguments, 2, frame),
+        }
+    }
 }
 
 /// The token after an expression that begins at this one.
@@ -60,6 +107,26 @@ fn past_each(arguments: &[Expr], first: usize) -> usize
         token = next(past(argument, token));
     }
     token
+}
+
+/// The value of an expression, if it has one.
+fn value_in(expr: &Expr, frame: &Frame) -> Option<Value>
+    ensures { result ≡ operations.value_in (values_of frame.now) expr.now }
+{
+    match eval(expr, frame) {
+        Ok(value) => Some(value),
+        Err(_) => None,
+    }
+}
+
+/// The value of the expression at an index, if there is one, and it has one.
+fn nth_value(expressions: &[Expr], index: usize, frame: &Frame) -> Option<Value>
+    ensures { result ≡ operations.nth_value (values_of frame.now) expressions.now index }
+{
+    match expressions.get(index) {
+        Some(expr) => value_in(expr, frame),
+        None => None,
+    }
 }
 
 /// Whether an expression has a value.
@@ -119,6 +186,7 @@ fn operation_in_call(
             first,
             operator: first,
             end,
+            operands: Operands::of_call(arguments, frame),
         }),
     }
 }
@@ -145,6 +213,7 @@ pub fn operation_in(expr: &Expr, frame: &Frame, first: usize, reason: Reason) ->
                 first,
                 operator: first,
                 end,
+                operands: Operands::one(value_in(operand.get(), frame)),
             })
         }
         Expr::Binary(_, left, right) => {
@@ -155,14 +224,51 @@ pub fn operation_in(expr: &Expr, frame: &Frame, first: usize, reason: Reason) ->
             if !has_value(right.get(), frame) {
                 return operation_in(right.get(), frame, next(operator), reason);
             }
+            let (before, after) = (value_in(left.get(), frame), value_in(right.get(), frame));
             Some(Operation {
                 first,
                 operator,
                 end,
+                operands: Operands::two(before, after),
             })
         }
         Expr::Call(_, arguments) => {
             operation_in_call(arguments.as_slice(), frame, first, end, reason)
         }
+    }
+}
+
+/// An expression with the values of its operands: an operation or a call, or a literal or a variable, which has none. Of
+/// an expression in parentheses it is the one inside. The expression begins at this token.
+pub(crate) fn outermost(expr: &Expr, frame: &Frame, first: usize) -> Operation
+    ensures { IsOutermost (values_of frame.now) expr.now first result }
+{
+    let end = past(expr, first);
+    match expr {
+        Expr::Whole(_) | Expr::Truth(_) | Expr::Variable(_) => Operation {
+            first,
+            operator: first,
+            end,
+            operands: Operands::one(None),
+        },
+        Expr::Group(inner) => outermost(inner.get(), frame, next(first)),
+        Expr::Unary(_, operand) => Operation {
+            first,
+            operator: first,
+            end,
+            operands: Operands::one(value_in(operand.get(), frame)),
+        },
+        Expr::Binary(_, left, right) => Operation {
+            first,
+            operator: past(left.get(), first),
+            end,
+            operands: Operands::two(value_in(left.get(), frame), value_in(right.get(), frame)),
+        },
+        Expr::Call(_, arguments) => Operation {
+            first,
+            operator: first,
+            end,
+            operands: Operands::of_call(arguments.as_slice(), frame),
+        },
     }
 }

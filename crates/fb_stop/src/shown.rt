@@ -5,12 +5,12 @@ ghost use Rattle.fb_read.specs.Located.{AreLocated};
 ghost use Rattle.fb_read.specs.Refusals.{IsNext};
 ghost use Rattle.fb_read.specs.Tokens.{after_mark};
 ghost use Rattle.fb_stop.specs.Shown as spec;
-ghost use Rattle.fb_stop.specs.Shown.{IsShownAmong, IsStopShown, IsTokenAt};
+ghost use Rattle.fb_stop.specs.Shown.{IsAssignedShown, IsOperationShown, IsShownAmong, IsStopShown, IsTokenAt};
 
-use crate::Operation;
 use crate::found::{FoundStop, StopSite};
 use crate::place::position_of;
-use crate::site::Site;
+use crate::site::{Inside, Site};
+use crate::{Operation, Placed};
 use fb_read::read::span_before;
 use fb_read::token::{Located, Span};
 use fb_read_positions::{discard, span_of, tokens_of};
@@ -88,7 +88,14 @@ fn shown_from(
     }))
 }
 
-/// The operation of a stop. Its tokens are counted from the token at the position of the stop.
+/// The operation of a place in a statement.
+fn operation_placed(placed: Option<Placed>) -> Option<Operation>
+    ensures { result ≡ spec.operation_placed placed }
+{
+    Some(placed?.operation)
+}
+
+/// The operation of a stop that has no value. Its tokens are counted from the token at the position of the stop.
 fn operation_at(site: StopSite) -> Option<Operation>
     ensures { result ≡ spec.operation_at site }
 {
@@ -97,26 +104,60 @@ fn operation_at(site: StopSite) -> Option<Operation>
     };
     match site {
         Site::Transition { operation, .. } => operation,
-        Site::Action { inside, .. } => Some(inside?.operation?.operation),
+        Site::Action { inside, .. } => {
+            let Inside {
+                operation,
+                value,
+                ..
+            } = inside?;
+            match value {
+                None => operation_placed(operation),
+                Some(_) => None,
+            }
+        }
     }
 }
 
-/// The operation at which a simulation stops, in the text that declares the system. `None` if there is none.
-///
-/// # Errors
-/// When memory runs out.
-pub fn shown_of(
+/// The same of the operation that is assigned, if its value does not fit the variable.
+fn assigned_at(site: StopSite) -> Option<Operation>
+    ensures { result ≡ spec.assigned_at site }
+{
+    let StopSite::InReaction(Site::Action { inside, .. }) = site else {
+        return None;
+    };
+    let Inside {
+        operation,
+        value,
+        ..
+    } = inside?;
+    match value {
+        None => None,
+        Some(_) => operation_placed(operation),
+    }
+}
+
+/// The operation of a stop: that without a value, or that which is assigned.
+pub(crate) fn any_operation(site: StopSite) -> Option<Operation> {
+    match operation_at(site) {
+        Some(operation) => Some(operation),
+        None => assigned_at(site),
+    }
+}
+
+/// An operation of a stop, if there is one, in the text that declares the system.
+fn shown_with(
     alloc: Global,
     text: &[u8],
     system: &System,
     stop: &FoundStop,
+    operation: Option<Operation>,
 ) -> Result<Option<Shown>, AllocError>
-    ensures { IfOk result (λ o. IfSome o (IsStopShown text.now system.now stop.now)) }
+    ensures { IfOk result (λ o. IfSome o (IsOperationShown text.now system.now stop.now operation)) }
 {
     let Some(position) = position_of(system, stop) else {
         return Ok(None);
     };
-    let Some(operation) = operation_at(stop.site) else {
+    let Some(operation) = operation else {
         return Ok(None);
     };
     let Some(span) = span_of(alloc, text, system.library(), position)? else {
@@ -129,4 +170,32 @@ pub fn shown_of(
     };
     discard(tokens);
     found
+}
+
+/// The operation at which a simulation stops, in the text that declares the system. `None` if no operation is without a
+/// value.
+///
+/// # Errors
+/// When memory runs out.
+pub fn shown_of(
+    alloc: Global,
+    text: &[u8],
+    system: &System,
+    stop: &FoundStop,
+) -> Result<Option<Shown>, AllocError>
+    ensures { IfOk result (λ o. IfSome o (IsStopShown text.now system.now stop.now)) }
+{
+    shown_with(alloc, text, system, stop, operation_at(stop.site))
+}
+
+/// The operation that is assigned, if its value does not fit the variable, in the text that declares the system.
+pub(crate) fn assigned_of(
+    alloc: Global,
+    text: &[u8],
+    system: &System,
+    stop: &FoundStop,
+) -> Result<Option<Shown>, AllocError>
+    ensures { IfOk result (λ o. IfSome o (IsAssignedShown text.now system.now stop.now)) }
+{
+    shown_with(alloc, text, system, stop, assigned_at(stop.site))
 }

@@ -1,7 +1,7 @@
 //! Where the reaction of a basic block stops.
 
 use crate::{Operation, Placed};
-use fb_types::Reason;
+use fb_types::{Reason, Value};
 
 /// The statement of an algorithm at which a reason comes.
 #[derive(Clone, Copy)]
@@ -9,8 +9,11 @@ pub struct Inside {
     /// The number of the statement. Statements are counted from 0 as they begin in the text, those inside others too. If
     /// no step is left, this is the innermost loop around the statement, or the statement if it is in none.
     pub statement: usize,
-    /// The operation that has no value. `None` if the count of steps ran out, or the value does not fit the variable.
+    /// The operation that has no value, or the outermost one of an assignment whose value does not fit the variable.
+    /// `None` if the count of steps ran out, or the value of a FOR does not fit its variable.
     pub operation: Option<Placed>,
+    /// The value that does not fit the variable to which the statement assigns it. `None` for other reasons.
+    pub value: Option<Value>,
 }
 
 /// What gives the reason for which a reaction stops.

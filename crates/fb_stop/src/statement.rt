@@ -1,13 +1,13 @@
 //! The operation in a statement of a body at which a reason comes.
 
-ghost use Rattle.std.specs.Prelude.{◌≡◌, IfNone, IfSome};
+ghost use Rattle.std.specs.Prelude.{◌≡◌, ◌⊎◌, IfNone, IfSome};
 ghost use Rattle.fb_st.specs.Frames.{values_of};
-ghost use Rattle.fb_stop.specs.Operations.{FaultIn, IsOtherwise};
+ghost use Rattle.fb_stop.specs.Operations.{FaultIn, IsOtherwise, IsUnfit};
 ghost use Rattle.fb_stop.specs.Statements as spec;
 ghost use Rattle.fb_stop.specs.Statements.{AreBoundsOtherwise, AreBranchesOtherwise, AreChoicesOtherwise, AreOtherwise, HasOwn, IsInBranches, IsInChoices, IsInList, IsInStatement, IsListOtherwise, IsOfChoices, IsOfFor, IsOwnOtherwise, IsStatementOtherwise};
 
 use crate::number::{after, after_all, next};
-use crate::operation::{Operation, operation_in, past};
+use crate::operation::{Operation, operation_in, outermost, past};
 use fb_st::Frame;
 use fb_types::{Body, Branch, Choice, Expr, Reason, Stmt};
 
@@ -45,6 +45,26 @@ fn found_in(
     match operation_in(expr, frame, first, reason) {
         Some(operation) => Some(Placed { anchor, operation }),
         None => None,
+    }
+}
+
+/// The operation in what is assigned. If that has a value, the reason is that it does not fit the variable, and this is
+/// the outermost operation.
+fn in_assigned(expr: &Expr, frame: &Frame, reason: Reason) -> Option<Placed>
+    ensures anchor { IfSome result (λ x. x.anchor ≡ Anchor.Beginning) }
+    ensures fault { IfSome result (λ x. FaultIn (values_of frame.now) reason expr.now 2 x.operation ⊎ IsUnfit (values_of frame.now) reason expr.now 2 x.operation) }
+    ensures none { IfNone result (IsOtherwise (values_of frame.now) reason expr.now) }
+{
+    let anchor = Anchor::Beginning;
+    if let Some(found) = found_in(expr, anchor, 2, frame, reason) {
+        return Some(found);
+    }
+    match reason {
+        Reason::Range => {
+            let operation = outermost(expr, frame, 2);
+            Some(Placed { anchor, operation })
+        }
+        Reason::Divide | Reason::Steps => None,
     }
 }
 
@@ -107,7 +127,7 @@ fn in_own(statement: &Stmt, frame: &Frame, reason: Reason) -> Option<Placed>
 {
     match statement {
         Stmt::Empty | Stmt::Exit | Stmt::Return => None,
-        Stmt::Assign(_, expr) => found_in(expr, Anchor::Beginning, 2, frame, reason),
+        Stmt::Assign(_, expr) => in_assigned(expr, frame, reason),
         Stmt::If(choices, _) => in_conditions(choices.as_slice(), frame, reason),
         Stmt::Case(selector, _, _) => found_in(selector, Anchor::Beginning, 1, frame, reason),
         Stmt::For(_, start, end, step, _) => in_bounds(start, end, step, frame, reason),
@@ -228,7 +248,7 @@ fn in_branches(
 }
 
 /// The operation in the statement of a number of a body that has no value for this reason, where the variables hold what
-/// the frame has. `None` if each expression of that statement has a value there, or none for another reason.
+/// the frame has; or that of an assignment whose value does not fit. `None` if each expression of that statement has a value there, or none for another reason.
 pub fn operation_of(body: &Body, number: usize, frame: &Frame, reason: Reason) -> Option<Placed>
     ensures found { IfSome result (IsInList (values_of frame.now) reason body.now.statements 0 number) }
     ensures none { IfNone result (IsListOtherwise (values_of frame.now) reason body.now.statements 0 number) }

@@ -1,35 +1,24 @@
 //! The words of a stop.
 
 ghost use Rattle.std.specs.Prelude.{◌≡◌, length};
-ghost use Rattle.fb_types.specs.OfSystem.{instance_count};
+ghost use Rattle.fb_types.specs.OfSystem.{IsInstance, instance_count};
 
 use crate::found::{FoundStop, StopSite, instance_of};
 use crate::place::{has_instance, transition_index};
-use crate::shown::Shown;
+use crate::shown::{Shown, assigned_of};
 use crate::site::Site;
 use crate::spent::{most, steps_spent};
+use crate::values::{push_operation, push_reason};
 use fb_check_names::TypeNumber;
-use fb_read_positions::words::{Text, shown as printable};
+use fb_read_positions::words::Text;
 use fb_system::System;
 use fb_types::{BasicType, BlockType, LATEST_TICK, MOST_STEPS, Name, Reason, State};
 use std::alloc::{AllocError, Global};
-
-/// The greatest number of bytes of an operation that are shown.
-const MOST_WRITTEN: usize = 100;
 
 /// Appends the name of an instance.
 fn push_path(text: &mut Text, path: &[u8]) {
     for byte in path {
         text.letter(*byte);
-    }
-}
-
-/// What a reason is called, as in a trace.
-fn reason_word(reason: Reason) -> &'static str {
-    match reason {
-        Reason::Steps => "steps",
-        Reason::Divide => "divide",
-        Reason::Range => "range",
     }
 }
 
@@ -90,36 +79,21 @@ fn push_block(text: &mut Text, block: &BlockType, site: StopSite) {
     }
 }
 
-/// The bytes of an operation in a text.
-fn written<'a>(text: &'a [u8], shown: Option<Shown>) -> &'a [u8] {
-    match shown {
-        Some(Shown { start, end, .. }) if start <= end && end <= text.len() => &text[start..end],
-        _ => &[],
-    }
-}
-
-/// Appends an operation as it is written, on one line: what is between two tokens is one blank. A long one is cut off.
-fn push_written(text: &mut Text, bytes: &[u8]) {
-    let mut is_apart = false;
-    for (index, byte) in bytes.iter().enumerate() {
-        if index == MOST_WRITTEN {
-            text.words(" ..");
-            return;
-        }
-        if byte.is_ascii_whitespace() {
-            is_apart = true;
-        } else {
-            if is_apart {
-                text.words(" ");
-            }
-            is_apart = false;
-            text.letter(printable(*byte));
-        }
+/// The basic block at which a stop is, if the declaration has it.
+fn basic_at(system: &System, instance: u32) -> Option<&BasicType>
+    requires { IsInstance system.now instance }
+{
+    let TypeNumber::Declared(index) = system.kind(instance) else {
+        return None;
+    };
+    match system.library().blocks.get(index)? {
+        BlockType::Basic(block) => Some(block),
+        BlockType::Composite(_) => None,
     }
 }
 
 /// The words of a stop: the block with its type, its state, the transition or the action, the operation as it is
-/// written in the text, and the reason.
+/// written in the text, the reason, and the values that give it.
 ///
 /// # Errors
 /// When memory runs out.
@@ -133,9 +107,11 @@ pub fn words_of(
     let mut text = Text::new(alloc);
     text.words("stop");
     let instance = instance_of(stop.at);
+    let mut basic = None;
     if has_instance(system, instance) {
         text.words(": ");
         push_path(&mut text, system.path(instance));
+        basic = basic_at(system, instance);
         if let TypeNumber::Declared(index) = system.kind(instance) {
             if let Some(block) = system.library().blocks.get(index) {
                 push_block(&mut text, block, stop.site);
@@ -146,12 +122,12 @@ pub fn words_of(
         text.words(", before its event");
     }
     text.words(": ");
-    let operation = written(declaration, shown);
-    if !operation.is_empty() {
-        push_written(&mut text, operation);
-        text.words(": ");
-    }
-    text.words(reason_word(stop.reason));
+    let shown = match shown {
+        Some(shown) => Some(shown),
+        None => assigned_of(alloc, declaration, system, stop)?,
+    };
+    push_operation(&mut text, declaration, shown);
+    push_reason(&mut text, basic, stop, declaration, shown);
     text.into_string()
 }
 

@@ -446,6 +446,6 @@ pub static OF_STOPS: [Explanation; 3] = [
         meaning: "A number did not fit in an algorithm or a guard, and the run stopped.",
         example: "`N := N + 1;` where `N` is a USINT that holds 255.",
         other: "`D := A - B;` where `D` is a UINT and `B` is greater than `A`.",
-        look: "The last line `>` of the trace: the block of that line stopped. Compare the assigned values with the ranges of their variables. Between assignments numbers have 128 bits.",
+        look: "The line of `run --why`: the statement, the value that did not fit, the limits of its variable, and the operands. The block is that of the last line `>` of the trace. Between assignments numbers have 128 bits.",
     },
 ];

@@ -2,3 +2,4 @@ pub mod Operating
 pub mod OperationPlaces
 pub mod FirstWithoutValue
 pub mod Insides
+pub mod OutermostOperations

@@ -9,8 +9,8 @@ use Rattle.fb_stop.proofs.before.inside_body.Goals as goal
 one_less : (n : ℕ) → n ≢ 0 → n ≡ suc (n - 1)
 one_less n h = omega arith
 
-pub returns-in_ok-statement-in-Err-clause-found : goal.returns-in_ok-statement-in-Err-clause-found
-returns-in_ok-statement-in-Err-clause-found c =
+pub returns-in_ok-fault-in-Err-clause-found : goal.returns-in_ok-fault-in-Err-clause-found
+returns-in_ok-fault-in-Err-clause-found c =
     let types = types_in (declared_in c.args.frame.now) in
     let body = c.args.body.now in
     let start : Point = record { vars = values_of c.args.frame.now; left = c.args.left - 1 } in
@@ -19,7 +19,7 @@ returns-in_ok-statement-in-Err-clause-found c =
       rest = c.args.left - 1;
       counted = one_less c.args.left c.if-left-eq0.false;
       end = end;
-      runs = subst (λ (e : End). RunsAll types None 0 (body_of body) start e end) (ap end_of c.in-Err.is ∙ ap Stopped c.in_ok-statement-in-Err.ensures.found) c.in_ok-run_body.ensures.run;
+      runs = subst (λ (e : End). RunsAll types None 0 (body_of body) start e end) (ap end_of c.in-Err.is ∙ ap Stopped c.in_ok-fault-in-Err.ensures.found) c.in_ok-run_body.ensures.run;
       operation = c.operation_of-operation.ensures.found;
       otherwise = c.operation_of-operation.ensures.none;
     }
@@ -34,8 +34,8 @@ pub returns-in-Ok-clause-none : goal.returns-in-Ok-clause-none
 returns-in-Ok-clause-none c =
     goes_otherwise (types_in (declared_in c.args.frame.now)) c.args.body.now (values_of c.args.frame.now) c.args.left c.args.reason _ c.in-Ok.field-0 _ c.in-Ok.is c.in_ok-run_body.ensures.defined
 
-pub returns-in_err-statement-in-Err-clause-none : goal.returns-in_err-statement-in-Err-clause-none
-returns-in_err-statement-in-Err-clause-none c =
-    rw c.from_residual-in_err-statement-in-Err.ensures
+pub returns-in_err-fault-in-Err-clause-none : goal.returns-in_err-fault-in-Err-clause-none
+returns-in_err-fault-in-Err-clause-none c =
+    rw c.from_residual-in_err-fault-in-Err.ensures
     (stops_otherwise (types_in (declared_in c.args.frame.now)) c.args.body.now (values_of c.args.frame.now) c.args.left c.args.reason _ c.in-Err.fault _ c.in-Err.is c.in_ok-run_body.ensures.defined
-    c.in_err-statement-in-Err.ensures.none)
+    c.in_err-fault-in-Err.ensures.none)

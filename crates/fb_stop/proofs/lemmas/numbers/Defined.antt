@@ -5,7 +5,7 @@ use Rattle.fb_types.specs.declared.value.Reason.{Reason}
 use Rattle.fb_types.specs.Bodies as bodies
 use Rattle.fb_types.specs.declared.value.Value.TheVariants as value
 use Rattle.fb_stop.specs.Numbers.{next, after, after_all, after_choices, after_branches}
-use Rattle.fb_stop.specs.Blamed.{End, Went, Left, Returned, Stopped, plain, Running, Ends, StepAnd, Step, With, After, Then, Either, Assigns, AfterTurn, TurnThen, Turns, Loop, Advances, Counts, Runs, RunsAll, RunsChoice, RunsBranch, placed, blamed, holds_in, until}
+use Rattle.fb_stop.specs.Blamed.{End, Went, Left, Returned, Stopped, plain, Running, Ends, StepAnd, Step, With, After, Then, Either, Assigns, AfterTurn, TurnThen, Turns, Loop, Advances, Counts, Runs, RunsAll, RunsChoice, RunsBranch, placed, fitted, blamed, holds_in, until}
 
 -- what the one runs to with its statements, the other runs to without them
 abbrev pub Plain : Running → bodies.Running → Type 0
@@ -22,6 +22,10 @@ pub in_with : {A : Type 0} (n : ℕ) (a : Result A Reason) (R : A → Running) (
 in_with n (Ok x) R S h p e q run = h x p e q run
 in_with n (Err r) R S h p e q run = (ap plain run.0, run.1)
 
+in_fitted : (n : ℕ) (x : Value) (a : Result Value Reason) (R : Value → Running) (S : Value → bodies.Running) → ((w : Value) → Plain (R w) (S w)) → Plain (With (fitted n x a) R) (bodies.With a S)
+in_fitted n x (Ok w) R S h p e q run = h w p e q run
+in_fitted n x (Err r) R S h p e q run = (ap plain run.0, run.1)
+
 pub in_after : (f : End) (R : Running) (S : bodies.Running) → Plain R S → Plain (After f R) (bodies.After (plain f) S)
 in_after Went R S h p e q run = h p e q run
 in_after Left R S h p e q run = (ap plain run.0, run.1)
@@ -37,7 +41,7 @@ in_either false R R' S S' h h' p e q run = h' p e q run
 
 pub in_assigns : (T : Types) (n : ℕ) (v : Name) (x : Value) → Plain (Assigns T n v x) (bodies.Assigns T v x)
 in_assigns T n v x =
-    in_with n (bodies.assigned (T v) x) (λ w p e q. Ends (record p { vars = with_value v w p.vars }) Went e q) (λ w p e q. bodies.Ends (record p { vars = with_value v w p.vars }) bodies.Went e q)
+    in_fitted n x (bodies.assigned (T v) x) (λ w p e q. Ends (record p { vars = with_value v w p.vars }) Went e q) (λ w p e q. bodies.Ends (record p { vars = with_value v w p.vars }) bodies.Went e q)
     (λ w p e q run. (ap plain run.0, run.1))
 
 -- ---- Loops

@@ -160,7 +160,7 @@ pub assigns : (T : Types) (k : ℕ) (n : Name) (v : Value) (vars after : Values)
 assigns T k n v vars after left fit is = rw fit (refl, ap (λ (vs : Values). record { vars = vs; left = left }) is)
 
 pub assigns_not : (T : Types) (k : ℕ) (n : Name) (v : Value) (vars : Values) (left : ℕ) → fits (T n) v ≡ false
-    → Assigns T k n v (record { vars = vars; left = left }) (Stopped (record { reason = reason.Range; number = k })) (record { vars = vars; left = left })
+    → Assigns T k n v (record { vars = vars; left = left }) (Stopped (record { reason = reason.Range; number = k; value = Some v })) (record { vars = vars; left = left })
 assigns_not T k n v vars left fit = rw fit (refl, refl)
 
 module _ (T : Types) (o : Option ℕ) (k : ℕ) (n : Name) (a b c : Expr) (body : Stmts) where
@@ -186,10 +186,10 @@ module _ (T : Types) (o : Option ℕ) (k : ℕ) (n : Name) (a b c : Expr) (body 
 
   pub for_not_begun : (vars : Values) (left : ℕ) (first last by : Value)
       → placed k (value_of a vars) ≡ Ok first → placed k (value_of b vars) ≡ Ok last → placed k (value_of c vars) ≡ Ok by → fits (T n) first ≡ false
-      → Runs T o k (For n a b c body) (record { vars = vars; left = suc left }) (Stopped (record { reason = reason.Range; number = k })) (record { vars = vars; left = left })
+      → Runs T o k (For n a b c body) (record { vars = vars; left = suc left }) (Stopped (record { reason = reason.Range; number = k; value = Some first })) (record { vars = vars; left = left })
   for_not_begun vars left first last by ha hb hc fit =
       let begun = assigns_not T k n first vars left fit in
-      rw (ha, hb, hc) (Stopped (record { reason = reason.Range; number = k }), record { vars = vars; left = left }, begun, (refl, refl))
+      rw (ha, hb, hc) (Stopped (record { reason = reason.Range; number = k; value = Some first }), record { vars = vars; left = left }, begun, (refl, refl))
 
 -- ---- What a call says of its end
 

@@ -9,6 +9,7 @@ use Rattle.fb_stop.specs.Numbers.{next}
 use Rattle.fb_stop.specs.Operations.{FaultIn, HasValue, IsFirstWithout, IsOfCall, IsWithout}
 use Rattle.fb_stop.specs.Operations as spec
 use Rattle.fb_stop.specs.Tokens.{past, past_each}
+use Rattle.fb_stop.specs.declared.operation.Operands.{Operands}
 use Rattle.fb_stop.specs.declared.operation.Operation.{Operation}
 
 -- one argument more is passed
@@ -36,12 +37,13 @@ module _ (vars : Values) (r : Reason) where
       (spec.in_operand u e n y (subst (λ (z : read.Expr). FaultIn vars r z (next n) y) same (subst (λ (j : ℕ). FaultIn vars r f j y) counted k))))
       h
 
-  pub unary_here : (u : UnaryOperator) (x e f : read.Expr) (n end : ℕ) → x ≡ read.Unary u e → f ≡ e → end ≡ past x n → IsWithout vars r x → HasValue vars f
-      → FaultIn vars r x n (record { first = n; operator = n; end = end })
-  unary_here u x e f n end is same ends without has =
-      subst (λ (j : ℕ). FaultIn vars r x n (record { first = n; operator = n; end = j })) (sym ends)
-      (subst (λ (z : read.Expr). FaultIn vars r z n (record { first = n; operator = n; end = past z n })) (sym is)
-      (spec.at_unary u e n (subst (IsWithout vars r) is without) (subst (HasValue vars) same has)))
+  pub unary_here : (u : UnaryOperator) (x e f : read.Expr) (n end : ℕ) (o : Operands) → x ≡ read.Unary u e → f ≡ e → end ≡ past x n → o ≡ spec.of_one vars e → IsWithout vars r x → HasValue vars f
+      → FaultIn vars r x n (record { first = n; operator = n; end = end; operands = o })
+  unary_here u x e f n end o is same ends operands without has =
+      subst (λ (j : ℕ). FaultIn vars r x n (record { first = n; operator = n; end = j; operands = o })) (sym ends)
+      (subst (λ (w : Operands). FaultIn vars r x n (record { first = n; operator = n; end = past x n; operands = w })) (sym operands)
+      (subst (λ (z : read.Expr). FaultIn vars r z n (record { first = n; operator = n; end = past z n; operands = spec.of_one vars e })) (sym is)
+      (spec.at_unary u e n (subst (IsWithout vars r) is without) (subst (HasValue vars) same has))))
 
   pub of_left : (b : BinaryOperator) (x e f g : read.Expr) (n : ℕ) (o : Option Operation) → x ≡ read.Binary b e f → g ≡ e → IfSome o (FaultIn vars r g n) → IfSome o (FaultIn vars r x n)
   of_left b x e f g n o is same h =
@@ -59,14 +61,16 @@ module _ (vars : Values) (r : Reason) where
       (subst (λ (w : read.Expr). FaultIn vars r w (next (past e n)) y) same_right (subst (λ (j : ℕ). FaultIn vars r g j y) from z))))
       h
 
-  pub binary_here : (b : BinaryOperator) (x e f d g : read.Expr) (n k end : ℕ) → x ≡ read.Binary b e f → d ≡ e → g ≡ f → k ≡ past d n → end ≡ past x n → IsWithout vars r x → HasValue vars d → HasValue vars g
-      → FaultIn vars r x n (record { first = n; operator = k; end = end })
-  binary_here b x e f d g n k end is same_left same_right operator ends without has_left has_right =
+  pub binary_here : (b : BinaryOperator) (x e f d g : read.Expr) (n k end : ℕ) (o : Operands) → x ≡ read.Binary b e f → d ≡ e → g ≡ f → k ≡ past d n → end ≡ past x n → o ≡ spec.of_two vars e f
+      → IsWithout vars r x → HasValue vars d → HasValue vars g
+      → FaultIn vars r x n (record { first = n; operator = k; end = end; operands = o })
+  binary_here b x e f d g n k end o is same_left same_right operator ends operands without has_left has_right =
       let at : k ≡ past e n = operator ∙ ap (λ (z : read.Expr). past z n) same_left in
-      subst (λ (j : ℕ). FaultIn vars r x n (record { first = n; operator = k; end = j })) (sym ends)
-      (subst (λ (z : read.Expr). FaultIn vars r z n (record { first = n; operator = k; end = past z n })) (sym is)
-      (subst (λ (j : ℕ). FaultIn vars r (read.Binary b e f) n (record { first = n; operator = j; end = past (read.Binary b e f) n })) (sym at)
-      (spec.at_binary b e f n (subst (IsWithout vars r) is without) (subst (HasValue vars) same_left has_left) (subst (HasValue vars) same_right has_right))))
+      subst (λ (j : ℕ). FaultIn vars r x n (record { first = n; operator = k; end = j; operands = o })) (sym ends)
+      (subst (λ (w : Operands). FaultIn vars r x n (record { first = n; operator = k; end = past x n; operands = w })) (sym operands)
+      (subst (λ (z : read.Expr). FaultIn vars r z n (record { first = n; operator = k; end = past z n; operands = spec.of_two vars e f })) (sym is)
+      (subst (λ (j : ℕ). FaultIn vars r (read.Binary b e f) n (record { first = n; operator = j; end = past (read.Binary b e f) n; operands = spec.of_two vars e f })) (sym at)
+      (spec.at_binary b e f n (subst (IsWithout vars r) is without) (subst (HasValue vars) same_left has_left) (subst (HasValue vars) same_right has_right)))))
 
   pub of_argument : (args : List read.Expr) (n end index k : ℕ) (e : read.Expr) (o : Option Operation) → (h : IsFirstWithout vars args index) → h.argument ≡ e
       → k ≡ past_each (map past (take index args)) (next (next n)) → IfSome o (FaultIn vars r e k) → IfSome o (IsOfCall vars r args n end)

@@ -1,5 +1,5 @@
 -- Where the operation of a statement is, put together on the way to it.
-use Rattle.fb_types.proofs.Common.{◌≡◌, ◌∙◌, ◌∷◌, ◌++◌, ◌+◌, ◌<◌, ◌≤◌, [], ℕ, zero, suc, arith, List, Option, Some, None, take, length, get_or, refl, sym, ap, subst, slice_get, IfSome, take_more, Values, stmt_of}
+use Rattle.fb_types.proofs.Common.{◌≡◌, ◌∙◌, ◌∷◌, ◌++◌, ◌+◌, ◌<◌, ◌≤◌, [], ℕ, zero, suc, arith, List, Option, Some, None, take, length, get_or, refl, sym, ap, subst, slice_get, IfSome, ◌⊎◌, inl, inr, Name, take_more, Values, stmt_of}
 use Rattle.fb_types.specs.declared.text.Branch.{Branch, out-Branch}
 use Rattle.fb_types.specs.declared.text.Choice.{Choice, out-Choice}
 use Rattle.fb_types.specs.declared.text.Expr.{Expr}
@@ -9,8 +9,9 @@ use Rattle.fb_st.specs.Flows.{all_of, branch_of, branches_of, choice_of, choices
 use Rattle.fb_stop.specs.Numbers.{next, after, after_all, after_branches, after_choices}
 use Rattle.fb_stop.specs.Statements.{HasOwn, IsExpression, IsInBranches, IsInChoices, IsInList, IsInStatement, IsInside, IsNumbered, IsOfChoices}
 use Rattle.fb_stop.specs.Statements as spec
-use Rattle.fb_stop.specs.Operations.{FaultIn}
+use Rattle.fb_stop.specs.Operations.{FaultIn, IsUnfit}
 use Rattle.fb_stop.specs.declared.statement.Anchor.{Anchor}
+use Rattle.fb_stop.specs.declared.statement.Anchor.TheVariants.{Beginning}
 use Rattle.fb_stop.specs.declared.statement.Placed.{Placed}
 
 pub if_some_map : {A : Type 0} (P Q : A → Type 0) (o : Option A) → ((a : A) → P a → Q a) → IfSome o P → IfSome o Q
@@ -150,7 +151,18 @@ module _ (vars : Values) (r : Reason) where
     expression = e;
     first = n;
     is = subst (λ (w : read.Stmt). IsExpression w x.anchor n e) (sym is) (subst (λ (b : Anchor). IsExpression u b n e) (sym anchor) at);
-    fault = fault;
+    fault = inl fault;
+  }
+
+  -- .. and of an assignment, whose value may not fit
+  pub own_of_assigned : (s : read.Stmt) (v : Name) (e : Expr) (o : Option Placed) → s ≡ read.Assign v e → IfSome o (λ x. x.anchor ≡ Beginning)
+      → IfSome o (λ x. FaultIn vars r e 2 x.operation ⊎ IsUnfit vars r e 2 x.operation) → IfSome o (HasOwn vars r s)
+  own_of_assigned s v e None is anchor fault = tt
+  own_of_assigned s v e (Some x) is anchor fault = record {
+    expression = e;
+    first = 2;
+    is = subst (λ (w : read.Stmt). IsExpression w x.anchor 2 e) (sym is) (subst (λ (b : Anchor). IsExpression (read.Assign v e) b 2 e) (sym anchor) (spec.assigned v e));
+    fault = elim fault [ inl f ↦ inl f | inr u ↦ inr (v, is, u) ];
   }
 
   pub own_of_if : (s : read.Stmt) (cs cs' : List Choice) (others : List read.Stmt) (o : Option Placed) → s ≡ read.If cs others → cs' ≡ cs → IfSome o (IsOfChoices vars r cs') → IfSome o (HasOwn vars r s)
@@ -163,7 +175,7 @@ module _ (vars : Values) (r : Reason) where
         first = 1;
         is = subst (λ (w : read.Stmt). IsExpression w x.anchor 1 (out-Choice y.choice).condition) (sym is)
             (subst (λ (b : Anchor). IsExpression (read.If cs others) b 1 (out-Choice y.choice).condition) (sym y.anchor) (spec.condition cs others y.index y.choice y.at));
-        fault = y.fault;
+        fault = inl y.fault;
       })
       h
 

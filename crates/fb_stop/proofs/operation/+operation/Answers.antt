@@ -2,11 +2,13 @@ use Rattle.fb_types.proofs.Common.{◌≡◌, ◌∙◌, ℕ, List, Some, map, t
 use Rattle.fb_types.specs.declared.text.Expr as read
 use Rattle.fb_st.specs.Frames.{values_of}
 use Rattle.fb_stop.specs.Numbers.{next}
+use Rattle.fb_stop.specs.declared.operation.Operands.{Operands}
 use Rattle.fb_stop.specs.Operations.{FaultIn, HasNoValue, HasValue, IsWithout}
 use Rattle.fb_stop.specs.Operations as spec
 use Rattle.fb_stop.specs.Tokens.{past, past_each}
 use Rattle.fb_stop.proofs.lemmas.operations.Operating.{binary_here, of_argument, of_group, of_left, of_operand, of_right, unary_here}
 use Rattle.fb_stop.proofs.lemmas.operations.FirstWithoutValue as otherwise
+use Rattle.fb_stop.proofs.lemmas.operations.OutermostOperations.{one_is, two_is}
 use Rattle.fb_stop.proofs.operation.+operation.Goals as goal
 
 pub operation_in-returns-in-Group-clause-found : goal.operation_in-returns-in-Group-clause-found
@@ -20,8 +22,8 @@ operation_in-returns-then-not-has_value-clause-found t c =
 
 pub operation_in-returns-else-not-has_value-clause-found : goal.operation_in-returns-else-not-has_value-clause-found
 operation_in-returns-else-not-has_value-clause-found t c =
-    unary_here (values_of c.args.frame.now) c.args.reason c.in-Unary.field-0 c.args.expr.now c.in-Unary.operand c.get-in-Unary.result.now c.args.first c.past-end.result
-    c.in-Unary.is c.get-in-Unary.ensures c.past-end.ensures (c.fails.ensures.without c.if-not-fails.false) (c.has_value.ensures.has c.if-not-has_value.false)
+    unary_here (values_of c.args.frame.now) c.args.reason c.in-Unary.field-0 c.args.expr.now c.in-Unary.operand c.get-in-Unary.result.now c.args.first c.past-end.result c.one.result
+    c.in-Unary.is c.get-in-Unary.ensures c.past-end.ensures (c.one.ensures ∙ one_is (values_of c.args.frame.now) c.in-Unary.operand c.get-in-Unary-2.result.now c.value_in.result c.value_in.ensures c.get-in-Unary-2.ensures) (c.fails.ensures.without c.if-not-fails.false) (c.has_value.ensures.has c.if-not-has_value.false)
 
 pub operation_in-returns-then-not-has_value-2-clause-found : goal.operation_in-returns-then-not-has_value-2-clause-found
 operation_in-returns-then-not-has_value-2-clause-found t c =
@@ -41,8 +43,9 @@ operation_in-returns-else-not-has_value-3-clause-found t c =
     let vars : Values = values_of c.args.frame.now in
     let left : HasValue vars c.in-Binary.left = subst (HasValue vars) c.get-in-Binary-2.ensures (c.has_value-in-Binary.ensures.has c.if-not-has_value-2.false) in
     let right : HasValue vars c.in-Binary.right = subst (HasValue vars) c.get-in-Binary-3.ensures (c.has_value-in-Binary-2.ensures.has c.if-not-has_value-3.false) in
-    binary_here vars c.args.reason c.in-Binary.field-0 c.args.expr.now c.in-Binary.left c.in-Binary.right c.in-Binary.left c.in-Binary.right c.args.first c.past-operator.result c.past-end.result
+    binary_here vars c.args.reason c.in-Binary.field-0 c.args.expr.now c.in-Binary.left c.in-Binary.right c.in-Binary.left c.in-Binary.right c.args.first c.past-operator.result c.past-end.result c.two.result
     c.in-Binary.is refl refl (c.past-operator.ensures ∙ ap (λ (z : read.Expr). past z c.args.first) c.get-in-Binary.ensures) c.past-end.ensures
+    (c.two.ensures ∙ two_is vars c.in-Binary.left c.in-Binary.right c.get-in-Binary-4.result.now c.get-in-Binary-5.result.now c.value_in-before.result c.value_in-after.result c.value_in-before.ensures c.value_in-after.ensures c.get-in-Binary-4.ensures c.get-in-Binary-5.ensures)
     (c.fails.ensures.without c.if-not-fails.false) left right
 
 same_some : (x e : read.Expr) (xs : List read.Expr) (i : ℕ) → slice_get xs i ≡ Some x → slice_get xs i ≡ Some e → x ≡ e
@@ -62,8 +65,9 @@ operation_in_call-returns-in-Some-clause-found t c =
 pub operation_in_call-returns-in-None-clause-found : goal.operation_in_call-returns-in-None-clause-found
 operation_in_call-returns-in-None-clause-found t c f without ends =
     let args : List read.Expr = c.args.arguments.now in
-    subst (λ (k : ℕ). FaultIn (values_of c.args.frame.now) c.args.reason (read.Call f args) c.args.first (record { first = c.args.first; operator = c.args.first; end = k })) (sym ends)
-    (spec.at_call f args c.args.first without c.in-None.ensures.none)
+    subst (λ (k : ℕ). FaultIn (values_of c.args.frame.now) c.args.reason (read.Call f args) c.args.first (record { first = c.args.first; operator = c.args.first; end = k; operands = c.of_call.result })) (sym ends)
+    (subst (λ (w : Operands). FaultIn (values_of c.args.frame.now) c.args.reason (read.Call f args) c.args.first (record { first = c.args.first; operator = c.args.first; end = past (read.Call f args) c.args.first; operands = w })) (sym c.of_call.ensures)
+    (spec.at_call f args c.args.first without c.in-None.ensures.none))
 
 -- ---- Where no operation is answered
 

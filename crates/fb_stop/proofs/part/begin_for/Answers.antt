@@ -1,4 +1,4 @@
-use Rattle.fb_types.proofs.Common.{List, suc, subst, sym, ◌∙◌, refl, err_from_is_err_and, Name, For, expr_of, step_of, Types, whole}
+use Rattle.fb_types.proofs.Common.{List, Some, suc, subst, sym, ◌∙◌, refl, err_from_is_err_and, Name, For, expr_of, step_of, Types, whole}
 use Rattle.fb_types.specs.declared.value.Reason.TheVariants as reason
 use Rattle.fb_st.specs.declared.frame.Slot.{Slot}
 use Rattle.fb_st.specs.Frames.{declared_in, types_in, values_of}
@@ -28,7 +28,7 @@ returns-in_err-assign-clause-failed c =
     let x = err_from_is_err_and c.from_residual-in_err-assign.result c.from_residual-in_err-assign.ensures.1 in
     rw (x.1, x.2, e.0) (λ around body left.
     subst (λ (s : List Slot). Runs T around c.args.number (For n (expr_of c.args.start.now) (expr_of c.args.end.now) (step_of c.args.step.now) body)
-    (record { vars = values_of c.args.frame.now; left = suc left }) (Stopped (record { reason = reason.Range; number = c.args.number })) (record { vars = values_of s; left = left })) (sym e.2)
+    (record { vars = values_of c.args.frame.now; left = suc left }) (Stopped (record { reason = reason.Range; number = c.args.number; value = Some c.in_ok-first.first })) (record { vars = values_of s; left = left })) (sym e.2)
     (for_not_begun T around c.args.number n (expr_of c.args.start.now) (expr_of c.args.end.now) (step_of c.args.step.now) body
     (values_of c.args.frame.now) left c.in_ok-first.first c.in_ok-last.last c.in_ok-by.by
     (sym c.eval.ensures ∙ c.in_ok-first.was) (sym c.eval-2.ensures ∙ c.in_ok-last.was) (sym c.step_value.ensures ∙ c.in_ok-by.was) e.1))

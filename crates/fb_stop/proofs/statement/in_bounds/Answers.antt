@@ -1,4 +1,4 @@
-use Rattle.fb_types.proofs.Common.{◌≡◌, ◌∙◌, ℕ, Option, None, Some, IfSome, sym, ap, subst}
+use Rattle.fb_types.proofs.Common.{◌≡◌, ◌∙◌, ℕ, Option, None, Some, IfSome, inl, sym, ap, subst}
 use Rattle.fb_types.specs.declared.text.Expr.{Expr}
 use Rattle.fb_types.specs.declared.text.Stmt as read
 use Rattle.fb_st.specs.Frames.{values_of}
@@ -24,7 +24,7 @@ returns-in-Some-clause-found c v body =
       expression = c.args.start.now;
       first = 3;
       is = subst (λ (a : Anchor). IsExpression s a 3 c.args.start.now) (sym c.in-Some.ensures.anchor) (spec.start v c.args.start.now c.args.end.now c.args.step.now body);
-      fault = c.in-Some.ensures.fault;
+      fault = inl c.in-Some.ensures.fault;
     }
 
 pub returns-in-Some-found_in-clause-found : goal.returns-in-Some-found_in-clause-found
@@ -36,7 +36,7 @@ returns-in-Some-found_in-clause-found c v body =
       first = c.next-second.result;
       is = subst (λ (a : Anchor). IsExpression s a c.next-second.result c.args.end.now) (sym c.in-Some-found_in.ensures.anchor)
           (subst (λ (n : ℕ). IsExpression s Beginning n c.args.end.now) (sym second) (spec.end v c.args.start.now c.args.end.now c.args.step.now body));
-      fault = c.in-Some-found_in.ensures.fault;
+      fault = inl c.in-Some-found_in.ensures.fault;
     }
 
 pub returns-in-Some-step-clause-found : goal.returns-in-Some-step-clause-found
@@ -54,7 +54,7 @@ returns-in-Some-step-clause-found c =
     let is : IsExpression (read.For v a b (Some x) body) p.anchor c.next-third.result x =
     subst (λ (y : Anchor). IsExpression (read.For v a b (Some x) body) y c.next-third.result x) (sym anchor)
     (subst (λ (n : ℕ). IsExpression (read.For v a b (Some x) body) Beginning n x) (sym third) (spec.step v a b x body)) in
-    let own : HasOwn vars r (read.For v a b (Some x) body) p = record { expression = x; first = c.next-third.result; is = is; fault = fault } in
+    let own : HasOwn vars r (read.For v a b (Some x) body) p = record { expression = x; first = c.next-third.result; is = is; fault = inl fault } in
     subst (λ (y : Option Expr). HasOwn vars r (read.For v a b y body) p) (sym c.in-Some-step.is) own)
     c.found_in-in-Some-step.ensures.anchor c.found_in-in-Some-step.ensures.fault
 

@@ -8,13 +8,13 @@ use Rattle.fb_stop.specs.Statements as spec
 use Rattle.fb_stop.specs.declared.statement.Anchor.TheVariants.{Beginning, Until}
 use Rattle.fb_stop.proofs.lemmas.numbers.Missing.{layer_assign, layer_case, layer_for, layer_if, layer_repeat, layer_while, own_otherwise}
 use Rattle.fb_stop.proofs.lemmas.operations.FirstWithoutValue.{if_none_map}
-use Rattle.fb_stop.proofs.lemmas.operations.OperationPlaces.{own_of, own_of_if}
+use Rattle.fb_stop.proofs.lemmas.operations.OperationPlaces.{own_of, own_of_assigned, own_of_if}
 use Rattle.fb_stop.proofs.statement.in_own.Goals as goal
 
 pub returns-in-Assign-clause-found : goal.returns-in-Assign-clause-found
 returns-in-Assign-clause-found c =
-    own_of (values_of c.args.frame.now) c.args.reason c.args.statement.now (read.Assign c.in-Assign.field-0 c.in-Assign.expr) Beginning 2 c.in-Assign.expr c.found_in.result c.in-Assign.is
-    (spec.assigned c.in-Assign.field-0 c.in-Assign.expr) c.found_in.ensures.anchor c.found_in.ensures.fault
+    own_of_assigned (values_of c.args.frame.now) c.args.reason c.args.statement.now c.in-Assign.field-0 c.in-Assign.expr c.in_assigned.result c.in-Assign.is
+    c.in_assigned.ensures.anchor c.in_assigned.ensures.fault
 
 pub returns-in-If-clause-found : goal.returns-in-If-clause-found
 returns-in-If-clause-found c =
@@ -22,8 +22,8 @@ returns-in-If-clause-found c =
 
 pub returns-in-Case-clause-found : goal.returns-in-Case-clause-found
 returns-in-Case-clause-found c =
-    own_of (values_of c.args.frame.now) c.args.reason c.args.statement.now (read.Case c.in-Case.selector c.in-Case.field-1 c.in-Case.field-2) Beginning 1 c.in-Case.selector c.found_in-in-Case.result c.in-Case.is
-    (spec.selector c.in-Case.selector c.in-Case.field-1 c.in-Case.field-2) c.found_in-in-Case.ensures.anchor c.found_in-in-Case.ensures.fault
+    own_of (values_of c.args.frame.now) c.args.reason c.args.statement.now (read.Case c.in-Case.selector c.in-Case.field-1 c.in-Case.field-2) Beginning 1 c.in-Case.selector c.found_in.result c.in-Case.is
+    (spec.selector c.in-Case.selector c.in-Case.field-1 c.in-Case.field-2) c.found_in.ensures.anchor c.found_in.ensures.fault
 
 pub returns-in-While-clause-found : goal.returns-in-While-clause-found
 returns-in-While-clause-found c =
@@ -39,8 +39,8 @@ returns-in-Repeat-clause-found c =
 
 pub returns-in-Assign-clause-none : goal.returns-in-Assign-clause-none
 returns-in-Assign-clause-none c =
-    if_none_map c.found_in.result
-    (own_otherwise (values_of c.args.frame.now) c.args.reason c.args.statement.now (Stmt-F.Assign c.in-Assign.field-0 c.in-Assign.expr) (ap out-Stmt c.in-Assign.is ∙ layer_assign c.in-Assign.field-0 c.in-Assign.expr)) c.found_in.ensures.none
+    if_none_map c.in_assigned.result
+    (own_otherwise (values_of c.args.frame.now) c.args.reason c.args.statement.now (Stmt-F.Assign c.in-Assign.field-0 c.in-Assign.expr) (ap out-Stmt c.in-Assign.is ∙ layer_assign c.in-Assign.field-0 c.in-Assign.expr)) c.in_assigned.ensures.none
 
 pub returns-in-If-clause-none : goal.returns-in-If-clause-none
 returns-in-If-clause-none c =
@@ -50,8 +50,8 @@ returns-in-If-clause-none c =
 
 pub returns-in-Case-clause-none : goal.returns-in-Case-clause-none
 returns-in-Case-clause-none c =
-    if_none_map c.found_in-in-Case.result
-    (own_otherwise (values_of c.args.frame.now) c.args.reason c.args.statement.now (Stmt-F.Case c.in-Case.selector c.in-Case.field-1 c.in-Case.field-2) (ap out-Stmt c.in-Case.is ∙ layer_case c.in-Case.selector c.in-Case.field-1 c.in-Case.field-2)) c.found_in-in-Case.ensures.none
+    if_none_map c.found_in.result
+    (own_otherwise (values_of c.args.frame.now) c.args.reason c.args.statement.now (Stmt-F.Case c.in-Case.selector c.in-Case.field-1 c.in-Case.field-2) (ap out-Stmt c.in-Case.is ∙ layer_case c.in-Case.selector c.in-Case.field-1 c.in-Case.field-2)) c.found_in.ensures.none
 
 pub returns-in-For-clause-none : goal.returns-in-For-clause-none
 returns-in-For-clause-none c =

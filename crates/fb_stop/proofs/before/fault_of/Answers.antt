@@ -2,7 +2,7 @@ use Rattle.fb_types.proofs.Common.{◌∙◌, sym, ap}
 use Rattle.fb_types.specs.declared.value.Reason.{Reason}
 use denote.Enum.Bare.{same_false, same_true}
 use Rattle.fb_types.specs.contracts.value.Reason.{the_type}
-use Rattle.fb_stop.proofs.before.statement_of.Goals as goal
+use Rattle.fb_stop.proofs.before.fault_of.Goals as goal
 
 pub returns-then-eq-clause-found : goal.returns-then-eq-clause-found
 returns-then-eq-clause-found c =
