@@ -1,12 +1,11 @@
--- What a fault of a line of a trace is reported as (this project's own).
-use Rattle.fb_wave.specs.declared.error.WaveError.{WaveError}
-use Rattle.fb_wave.specs.declared.error.WaveError.TheVariants as wave
+-- What a fault of a walk is reported as (this project's own).
 use Rattle.fb_inspect.specs.declared.error.InspectError.{InspectError}
-use Rattle.fb_inspect.specs.declared.error.InspectError.TheVariants.{Refused, Names, Memory, Read, Write}
+use Rattle.fb_inspect.specs.declared.error.InspectError.TheVariants as error
+use Rattle.fb_inspect.specs.declared.walk.error.WalkError.{WalkError}
+use Rattle.fb_inspect.specs.declared.walk.error.WalkError.TheVariants.{Refused, Memory, Read, Write}
 
-abbrev pub fault_of_line : WaveError → InspectError
-fault_of_line (wave.Refused line) = Refused line
-fault_of_line wave.Names = Names
-fault_of_line wave.Memory = Memory
-fault_of_line wave.Read = Read
-fault_of_line (wave.Write n) = Write n
+abbrev pub error_of_walk : WalkError → InspectError
+error_of_walk (Refused line) = error.Refused line
+error_of_walk Memory = error.Memory
+error_of_walk Read = error.Read
+error_of_walk (Write n) = error.Write n

@@ -24,6 +24,7 @@ use Rattle.fb_inspect.specs.dump.StateDumps as state_dumps
 use Rattle.fb_inspect.specs.StateWaves as state_waves
 use Rattle.fb_inspect.specs.walk.Walking as walking
 use Rattle.fb_inspect.specs.dump.Waving as waving
+use Rattle.fb_inspect.specs.declared.error.InspectError.{InspectError}
 use Rattle.fb_inspect.specs.declared.dump.before.Before.{Before}
 use Rattle.fb_inspect.specs.declared.walk.blocks.Remembered.{Remembered}
 use Rattle.fb_inspect.specs.declared.refused.line_fault.LineFault.{LineFault}
@@ -66,6 +67,12 @@ IsLineAt i = moves.IsLineAt (system_of i)
 
 abbrev pub IsWrongAt : Inputs → (steps number : ℕ) → (text : List ℕ) → Type 0
 IsWrongAt i = refusals.IsWrongAt (system_of i)
+
+abbrev pub IsNamesFault : Inputs → InspectError → Type 0
+IsNamesFault i = refusals.IsNamesFault (system_of i)
+
+abbrev pub IsPathFault : Inputs → (only : List Name) → InspectError → Type 0
+IsPathFault i = refusals.IsPathFault (system_of i)
 
 -- ---- Why a line is none of the system
 

@@ -1,9 +1,10 @@
 -- Texts that a walk goes through, and the line at which another one is wrong: that is not what the reactions give.
-use Rattle.std.specs.Prelude.{◌≡◌, ◌<◌, ◌≤◌, ◌⊎◌, ℕ, ◌+◌, List, [], ◌∷◌, ◌++◌, map, length, All, false, Option, Some}
+use Rattle.std.specs.Prelude.{Contains, ◌≡◌, ◌<◌, ◌≤◌, ◌⊎◌, ℕ, ◌+◌, List, [], ◌∷◌, ◌++◌, map, length, All, false, Option, Some}
 use Rattle.std.specs.Io.BufRead.{take_through}
 use Rattle.std.specs.Io.KnownBytes.{Consumes}
 use Rattle.fb_types.specs.Blocks.{Basic, Emission}
 use Rattle.fb_types.specs.Charts.{Position}
+use Rattle.fb_types.specs.Names.{Name}
 use Rattle.fb_types.specs.Numbers.{line_of, path_at}
 use Rattle.fb_types.specs.Simulation.{Ending, AtStop}
 use Rattle.fb_types.specs.States.{Line}
@@ -24,28 +25,48 @@ use Rattle.fb_inspect.specs.walk.Charting.{sys_of}
 use Rattle.fb_inspect.specs.Inspections.{AreTakings, EndsSo, IsOwnLine, KeepSteps, KeepsLimit, NoneStops, RunsOut, all_lines, last_look, limited}
 use Rattle.fb_inspect.specs.walk.Lines.{IsNoEndFrom, IsPlain}
 use Rattle.fb_inspect.specs.walk.Looks.{IsTaking, Look, Seen, Taking, emission_line, emissions_by, most, opening_look, taking_lines}
+use Rattle.fb_inspect.specs.refused.LineFaults.{IsNoInstance}
 use Rattle.fb_inspect.specs.walk.Moves.{IsLineAt, StaysAlone}
 use Rattle.fb_inspect.specs.walk.Timing.{timer_reaction}
 use Rattle.fb_inspect.specs.walk.Walking.{MayEnd}
 use Rattle.fb_inspect.specs.declared.walk.charts.ChartTaking.{ChartTaking}
 use Rattle.fb_inspect.specs.declared.error.InspectError.{InspectError}
-use Rattle.fb_inspect.specs.declared.error.InspectError.TheVariants.{Refused, Names, Unknown, Memory, Read, Write}
+use Rattle.fb_inspect.specs.declared.error.InspectError.TheVariants as error
+use Rattle.fb_inspect.specs.declared.walk.error.WalkError.{WalkError}
+use Rattle.fb_inspect.specs.declared.walk.error.WalkError.TheVariants.{Refused, Memory, Read, Write}
 use Rattle.fb_inspect.specs.declared.walk.reading.Reading.{Reading}
 
 -- ---- Errors
 
 -- what is said of the number of the line, where the error is the refusal of a line
 abbrev pub OfRefusal : (ℕ → Type 0) → InspectError → Type 0
-OfRefusal P (Refused n) = P n
-OfRefusal P Names = Unit {0}
-OfRefusal P Unknown = Unit {0}
-OfRefusal P Memory = Unit {0}
-OfRefusal P Read = Unit {0}
-OfRefusal P (Write n) = Unit {0}
+OfRefusal P (error.Refused n) = P n
+OfRefusal P error.Names = Unit {0}
+OfRefusal P error.Unknown = Unit {0}
+OfRefusal P error.Memory = Unit {0}
+OfRefusal P error.Read = Unit {0}
+OfRefusal P (error.Write n) = Unit {0}
+
+-- the same of an error of a walk
+abbrev pub Refuses : (ℕ → Type 0) → WalkError → Type 0
+Refuses P (Refused n) = P n
+Refuses P Memory = Unit {0}
+Refuses P Read = Unit {0}
+Refuses P (Write n) = Unit {0}
 
 -- No line is refused.
-abbrev pub IsNoRefusal : InspectError → Type 0
-IsNoRefusal e = OfRefusal (λ n. ⊥) e
+abbrev pub IsNoRefusal : WalkError → Type 0
+IsNoRefusal e = Refuses (λ n. ⊥) e
+
+-- ---- Names and paths
+
+-- Names are at fault only where they do not distinguish the ports of the system.
+abbrev pub IsNamesFault : System → InspectError → Type 0
+IsNamesFault sys e = e ≡ error.Names → HasNames sys → ⊥
+
+-- A path is unknown only where it is one of these, and no instance of the system has it.
+abbrev pub IsPathFault : System → (only : List Name) → InspectError → Type 0
+IsPathFault sys only e = e ≡ error.Unknown → (path : Name) × Contains only path × IsNoInstance sys path
 
 -- ---- Texts
 

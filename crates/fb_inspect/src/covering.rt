@@ -5,7 +5,8 @@ ghost use Rattle.fb_wave.specs.OfSystem.{HasNames};
 ghost use Rattle.fb_inspect.specs.Covering.{Covers};
 ghost use Rattle.fb_inspect.specs.walk.Looks.{most};
 ghost use Rattle.fb_inspect.specs.Refusals.{OfRefusal};
-ghost use Rattle.fb_inspect.specs.OfSystem.{IsWrongAt};
+ghost use Rattle.fb_inspect.specs.OfSystem.{IsNamesFault, IsWrongAt};
+ghost use Rattle.fb_inspect.specs.declared.error.InspectError.TheVariants.{Unknown};
 
 use crate::error::InspectError;
 use crate::filter::EventFilter;
@@ -61,7 +62,7 @@ impl Covered {
 /// counted.
 ///
 /// # Errors
-/// As those of `inspect`. The marks are lost then.
+/// As those of `inspect`, but no path is unknown. The marks are lost then.
 pub fn cover<R: BufRead>(
     alloc: Global,
     system: &System,
@@ -73,6 +74,8 @@ pub fn cover<R: BufRead>(
     ensures covered { IfOk result (λ covered. IfSome (R.remaining input.old) (λ text. Covers terms.cut system.now terms.steps text marks covered.marks covered.extent)) }
     ensures refused { HasNames system.now → terms.steps ≤ most
         → IfErr result (OfRefusal (λ n. IfSome (R.remaining input.old) (IsWrongAt system.now terms.steps n))) }
+    ensures names { IfErr result (IsNamesFault system.now) }
+    ensures paths { IfErr result (λ e. e ≡ Unknown → ⊥) }
 {
     let only = none_shown(alloc)?;
     let inspection = Inspection {

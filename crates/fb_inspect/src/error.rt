@@ -1,10 +1,10 @@
 //! Why a trace is not inspected, or not as a whole.
 
 ghost use Rattle.std.specs.Prelude.{◌≡◌};
-ghost use Rattle.fb_inspect.specs.Faults.{fault_of_line};
-ghost use Rattle.fb_inspect.specs.declared.error.InspectError.TheVariants.{Memory, Write};
+ghost use Rattle.fb_inspect.specs.Faults.{error_of_walk};
+ghost use Rattle.fb_inspect.specs.declared.error.InspectError.TheVariants.{Memory};
 
-use fb_wave::{PageFault, WaveError};
+use crate::walk::error::WalkError;
 use std::alloc::AllocError;
 use thiserror::Error;
 
@@ -38,25 +38,16 @@ impl From<AllocError> for InspectError {
     }
 }
 
-/// Why a line of a trace is not read.
-impl From<WaveError> for InspectError {
-    ghost from_gives = { λ fault e. e ≡ fault_of_line fault };
+/// Why a walk through the trace did not come to its end.
+impl From<WalkError> for InspectError {
+    ghost from_gives = { λ fault e. e ≡ error_of_walk fault };
 
-    fn from(fault: WaveError) -> InspectError {
+    fn from(fault: WalkError) -> InspectError {
         match fault {
-            WaveError::Refused(line) => InspectError::Refused(line),
-            WaveError::Names => InspectError::Names,
-            WaveError::Memory => InspectError::Memory,
-            WaveError::Read => InspectError::Read,
-            WaveError::Write(written) => InspectError::Write(written),
+            WalkError::Refused(line) => InspectError::Refused(line),
+            WalkError::Memory => InspectError::Memory,
+            WalkError::Read => InspectError::Read,
+            WalkError::Write(written) => InspectError::Write(written),
         }
-    }
-}
-
-impl From<PageFault> for InspectError {
-    ghost from_gives = { λ fault e. e ≡ Write fault.written };
-
-    fn from(fault: PageFault) -> InspectError {
-        InspectError::Write(fault.written)
     }
 }

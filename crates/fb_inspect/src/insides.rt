@@ -14,9 +14,10 @@ ghost use Rattle.fb_inspect.specs.Selections as spec;
 ghost use Rattle.fb_inspect.specs.Selections.{Selection, selection_of};
 ghost use Rattle.fb_wave.specs.OfSystem.{HasNames};
 ghost use Rattle.fb_inspect.specs.walk.Looks.{most};
-ghost use Rattle.fb_inspect.specs.Refusals.{IsNoRefusal, OfRefusal};
+ghost use Rattle.fb_inspect.specs.Refusals.{IsNoRefusal, OfRefusal, Refuses};
 ghost use Rattle.fb_inspect.specs.walk.Walking.{AreUnused};
-ghost use Rattle.fb_inspect.specs.OfSystem.{BeginsWalk, IsNext, IsShownBy, IsWrongAt, ShowsFront, ShowsRead, AreShown};
+ghost use Rattle.fb_inspect.specs.OfSystem.{BeginsWalk, IsNamesFault, IsNext, IsPathFault, IsShownBy, IsWrongAt, ShowsFront, ShowsRead, AreShown};
+ghost use Rattle.fb_inspect.specs.declared.error.InspectError.TheVariants.{Unknown};
 ghost use Rattle.fb_inspect.specs.walk.OfWalk as of_walk;
 ghost use Rattle.fb_inspect.specs.walk.OfWalk.{BeginsText, IsCoveredBy, Starts};
 
@@ -27,7 +28,8 @@ use crate::refused::fault_names::instance_of;
 use crate::refused::finding::{Finding, RefusedLine};
 use crate::walk::ahead::Ahead;
 use crate::walk::blocks::opened_all;
-use crate::walk::reading::{Reading, judged};
+use crate::walk::error::WalkError;
+use crate::walk::reading::{Reading, judged, read_on};
 use crate::walk::steps::TickSteps;
 use crate::walk::trail::{Fixed, PassedLines, Trail};
 use crate::walk::{Extent, Terms, Walk};
@@ -36,7 +38,7 @@ use fb_system::System;
 use fb_types::{Form, MOST_STEPS, Name};
 use fb_wave::truncation::is_unended;
 use fb_wave::words::after_front;
-use fb_wave::{CurrentLine, Cut, Guess, Page, PortTable, SystemPorts, form_of, next_line};
+use fb_wave::{CurrentLine, Cut, Guess, Page, PortTable, SystemPorts, form_of};
 use std::alloc::{AllocError, Global};
 use std::io::{BufRead, Write};
 use std::mem;
@@ -123,7 +125,7 @@ pub(crate) fn first_reading<R: BufRead>(
     alloc: Global,
     table: &PortTable<'_>,
     input: &mut R,
-) -> Result<(Form, Reading), InspectError>
+) -> Result<(Form, Reading), WalkError>
     ensures read { IfOk result (λ r. Consumes (R.remaining input.old) (R.remaining input.new) r.1.line.items) }
     ensures first { IfOk result (λ r. IsFirstLine r.1.line.items (R.remaining input.old)) }
     ensures form { IfOk result (λ r. (word rest : List ℕ) (b : ℕ) → is_word word ≡ true → r.1.line.items ≡ word ++ 32 ∷ (b ∷ rest)
@@ -133,7 +135,7 @@ pub(crate) fn first_reading<R: BufRead>(
     ensures fault { IfErr result IsNoRefusal }
 {
     let mut line = Vec::new(alloc);
-    next_line(input, &mut line)?;
+    read_on(input, &mut line)?;
     let form = form_of(line.as_slice());
     let mut guess = Guess::new(alloc, table)?;
     let next = judged(alloc, table, &mut guess, form, 0, line.as_slice())?;
@@ -212,7 +214,7 @@ fn go_through<R: BufRead, W: Write>(
     refused: &mut RefusedLine,
     input: &mut R,
     out: &mut W,
-) -> Result<Extent, InspectError>
+) -> Result<Extent, WalkError>
     requires starts { (what : Selection) × Starts fixed.now what walk.old }
     requires limit { fixed.now.limit ≡ most }
     ensures whole { (what : Selection) (known : Option (List ℕ))
@@ -226,7 +228,7 @@ fn go_through<R: BufRead, W: Write>(
         → OnErr result (of_walk.ShowsRead fixed.now what terms.steps known (W.contents out.old) (W.contents out.new)) }
     ensures refused { (what : Selection) (rest text : List ℕ)
         → terms.steps ≤ most → of_walk.HasNames fixed.now → Starts fixed.now what walk.old → R.remaining input.old ≡ Some rest → BeginsText fixed.now walk.old.trail.reading.line.items false rest text
-        → IfErr result (OfRefusal (λ n. of_walk.IsWrongAt fixed.now terms.steps n text)) }
+        → IfErr result (Refuses (λ n. of_walk.IsWrongAt fixed.now terms.steps n text)) }
 {
     if is_severed(terms.cut, walk.trail.reading.line.as_slice()) {
         return walk.finish_cut(out).and(Ok(Extent::CutOff));
@@ -247,12 +249,12 @@ fn inspect_with<R: BufRead, W: Write>(
     refused: &mut RefusedLine,
     input: &mut R,
     out: &mut W,
-) -> Result<Covered, InspectError>
+) -> Result<Covered, WalkError>
     ensures whole { OnOk result (IfSome (R.remaining input.old) (λ text. IsShownBy inspection.entry.terms.cut table.now.system.now (selection_of inspection.entry) inspection.entry.terms.steps text (W.contents out.old) (W.contents out.new))) }
     ensures covered { IfOk result (λ covered. IfSome (R.remaining input.old) (λ text. Covers inspection.entry.terms.cut table.now.system.now inspection.entry.terms.steps text marks covered.marks covered.extent)) }
     ensures fault { OnErr result (ShowsRead table.now.system.now (selection_of inspection.entry) inspection.entry.terms.steps (R.remaining input.old) (W.contents out.old) (W.contents out.new)) }
     ensures refused { HasNames table.now.system.now → inspection.entry.terms.steps ≤ most
-        → IfErr result (OfRefusal (λ n. IfSome (R.remaining input.old) (IsWrongAt table.now.system.now inspection.entry.terms.steps n))) }
+        → IfErr result (Refuses (λ n. IfSome (R.remaining input.old) (IsWrongAt table.now.system.now inspection.entry.terms.steps n))) }
 {
     table.system.facts(); // for the prover: what holds of every accepted system
     let (form, reading) = first_reading(alloc, table, input)?;
@@ -294,12 +296,15 @@ pub(crate) fn inspect_and_mark<R: BufRead, W: Write>(
     ensures fault { OnErr result (ShowsRead system.now (selection_of inspection.entry) inspection.entry.terms.steps (R.remaining input.old) (W.contents out.old) (W.contents out.new)) }
     ensures refused { HasNames system.now → inspection.entry.terms.steps ≤ most
         → IfErr result (OfRefusal (λ n. IfSome (R.remaining input.old) (IsWrongAt system.now inspection.entry.terms.steps n))) }
+    ensures names { IfErr result (IsNamesFault system.now) }
+    ensures paths { IfErr result (λ e. e ≡ Unknown → ⊥) }
 {
     let ports = SystemPorts::of(alloc, system)?;
     let Some(table) = PortTable::of(alloc, &ports)? else {
         return Err(InspectError::Names);
     };
-    inspect_with(alloc, &table, inspection, marks, refused, input, out)
+    let covered = inspect_with(alloc, &table, inspection, marks, refused, input, out)?;
+    Ok(covered)
 }
 
 /// Reads a trace of the system, in either form, and writes it with what happens inside the blocks between its lines.
@@ -315,7 +320,8 @@ pub(crate) fn inspect_and_mark<R: BufRead, W: Write>(
 /// # Errors
 /// `Refused` with the number of the first line that shows that no run has the trace: it is no line of the system, or
 /// not what the blocks emit there. That line is lent then. Sampled values and the ticks of events are taken as they
-/// are.
+/// are. `Unknown` if no instance has one of the paths that must be shown, and `Names` if lines do not distinguish
+/// the ports of the system.
 ///
 /// What was written then is the beginning of what is shown of the first events of the trace, each taken as a whole. So
 /// it begins what is written of each trace that begins with their lines and does not stop in them for its steps
@@ -333,6 +339,8 @@ pub fn inspect<R: BufRead, W: Write>(
     ensures read { OnErr result (ShowsRead system.now (selection_of inspection.entry) inspection.entry.terms.steps (R.remaining input.old) (W.contents out.old) (W.contents out.new)) }
     ensures refused { HasNames system.now → inspection.entry.terms.steps ≤ most
         → IfErr result (OfRefusal (λ n. IfSome (R.remaining input.old) (IsWrongAt system.now inspection.entry.terms.steps n))) }
+    ensures names { IfErr result (IsNamesFault system.now) }
+    ensures paths { IfErr result (IsPathFault system.now inspection.entry.only.now) }
 {
     for path in inspection.only {
         if instance_of(system, path.as_bytes()).is_none() {

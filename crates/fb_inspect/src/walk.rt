@@ -20,8 +20,8 @@ ghost use Rattle.fb_inspect.specs.walk.Lines.{IsAlone, IsPlain};
 ghost use Rattle.fb_inspect.specs.walk.Looks.{Look, Taking, left_at, most};
 ghost use Rattle.fb_inspect.specs.Selections.{Selection, is_wanted};
 ghost use Rattle.fb_inspect.specs.walk.Walking as spec;
-ghost use Rattle.fb_inspect.specs.Refusals.{IsNoRefusal, OfRefusal};
-ghost use Rattle.fb_inspect.specs.declared.error.InspectError.TheVariants.{Refused};
+ghost use Rattle.fb_inspect.specs.Refusals.{IsNoRefusal, Refuses};
+ghost use Rattle.fb_inspect.specs.declared.walk.error.WalkError.TheVariants.{Refused};
 ghost use Rattle.fb_inspect.specs.walk.Standing.{IsStepsStop};
 ghost use Rattle.fb_inspect.specs.walk.Walking.{Finishes, FinishesCut, HasLimited, HasStepped, IsLookOf, MayEnd, SendsCutPart, SendsPart, unread};
 ghost use Rattle.fb_inspect.specs.declared.walk.blocks.Remembered.TheVariants as kept;
@@ -30,18 +30,19 @@ ghost use Rattle.fb_inspect.specs.walk.OfWalk.{AreAhead, AreApart, AreKept, Begi
 pub mod ahead;
 pub mod blocks;
 pub(crate) mod charts;
+pub mod error;
 mod event_blocks;
 pub mod notes;
 pub mod reading;
 pub mod steps;
 pub mod trail;
 
-use crate::error::InspectError;
 use crate::filter::Shown;
 use crate::refused::finding::Finding;
 use crate::walk::ahead::Ahead;
 use crate::walk::blocks::{Chart, Remembered, basic_type, chart_at, type_number};
 use crate::walk::charts::{ChartTaking, follow, note_stop};
+use crate::walk::error::WalkError;
 use crate::walk::event_blocks::{expire_block, react_block};
 use crate::walk::notes::put_cut;
 use crate::walk::reading::Next;
@@ -84,14 +85,14 @@ fn react_basic<R: BufRead>(
     meter: &mut Meter,
     line: &Line,
     input: &mut R,
-) -> Result<Option<Reason>, InspectError>
+) -> Result<Option<Reason>, WalkError>
     requires { CanReact fixed.now (kept.Basic chart.old) line.now trail.old.reading.line.items }
     ensures goes { (look : Look)
         → IsKeptAt fixed.now line.now (kept.Basic chart.old) look → IfOk result (λ stop.
         KeptGoes fixed.now look meter.old.left line.now stop (kept.Basic chart.new) meter.new.left trail.old trail.new (R.remaining input.old) (R.remaining input.new)) }
     ensures refused { (look : Look)
         → HasNames fixed.now → IsPlain fixed.now.form line.now.key → IsKeptAt fixed.now line.now (kept.Basic chart.old) look
-        → IfErr result (OfRefusal (FailsAt fixed.now meter.old.left look line.now trail.old.reading trail.new.reading (R.remaining input.old) (R.remaining input.new))) }
+        → IfErr result (Refuses (FailsAt fixed.now meter.old.left look line.now trail.old.reading trail.new.reading (R.remaining input.old) (R.remaining input.new))) }
     ensures next { OnOk result (IsNext fixed.now line.now.key.tick trail.new.reading) }
 {
     let Some(block) = basic_type(fixed.table.system, line.instance) else {
@@ -124,14 +125,14 @@ fn react_kept<R: BufRead>(
     meter: &mut Meter,
     line: &Line,
     input: &mut R,
-) -> Result<Option<Reason>, InspectError>
+) -> Result<Option<Reason>, WalkError>
     requires { CanReact fixed.now block.old line.now trail.old.reading.line.items }
     ensures goes { (look : Look)
         → IsKeptAt fixed.now line.now block.old look → IfOk result (λ stop.
         KeptGoes fixed.now look meter.old.left line.now stop block.new meter.new.left trail.old trail.new (R.remaining input.old) (R.remaining input.new)) }
     ensures refused { (look : Look)
         → HasNames fixed.now → IsPlain fixed.now.form line.now.key → IsKeptAt fixed.now line.now block.old look
-        → IfErr result (OfRefusal (FailsAt fixed.now meter.old.left look line.now trail.old.reading trail.new.reading (R.remaining input.old) (R.remaining input.new))) }
+        → IfErr result (Refuses (FailsAt fixed.now meter.old.left look line.now trail.old.reading trail.new.reading (R.remaining input.old) (R.remaining input.new))) }
     ensures next { OnOk result (IsNext fixed.now line.now.key.tick trail.new.reading) }
 {
     match block {
@@ -232,7 +233,7 @@ impl Walk {
         fixed: &Fixed<'_, '_>,
         line: &Line,
         input: &mut R,
-    ) -> Result<Option<Reason>, InspectError>
+    ) -> Result<Option<Reason>, WalkError>
         requires is { IsTextOf fixed.now line.now self.old.trail.reading.line.items }
         requires look { HasLook fixed.now self.old }
         ensures goes { (look : Look) → LooksAs fixed.now self.old look
@@ -240,7 +241,7 @@ impl Walk {
         ensures alone { OnOk result (IsAlone self.old.trail.reading.line.items (R.remaining input.old) → IsAlone self.new.trail.reading.line.items (R.remaining input.new)) }
         ensures refused { (look : Look)
             → HasNames fixed.now → IsPlain fixed.now.form line.now.key → LooksAs fixed.now self.old look
-            → IfErr result (OfRefusal (TakingFails fixed.now look line.now self.old.trail.reading self.new.trail.reading (R.remaining input.old) (R.remaining input.new))) }
+            → IfErr result (Refuses (TakingFails fixed.now look line.now self.old.trail.reading self.new.trail.reading (R.remaining input.old) (R.remaining input.new))) }
         ensures next { OnOk result (IsNext fixed.now line.now.key.tick self.new.trail.reading) }
     {
         fixed.table.system.facts(); // for the prover: what holds of every accepted system
@@ -314,7 +315,7 @@ impl Walk {
 
     /// The refusal of a trace that stops where a resource has used up its steps: of the first event after which a
     /// resource had used too many, or else of the next line, for what was found.
-    fn refusal_for_steps(&mut self, ahead: &mut Ahead, finding: Finding) -> InspectError
+    fn refusal_for_steps(&mut self, ahead: &mut Ahead, finding: Finding) -> WalkError
         ensures back { ahead.old.watched.is_excess ≡ true → result ≡ Refused ahead.old.watched.number }
         ensures none { ahead.old.watched.is_excess ≡ false → result ≡ Refused self.old.trail.reading.number }
     {
@@ -325,7 +326,7 @@ impl Walk {
     }
 
     /// The refusal of the last line, which ends the trace so.
-    fn refusal_of_end(&mut self, ahead: &mut Ahead, end: Outcome) -> InspectError
+    fn refusal_of_end(&mut self, ahead: &mut Ahead, end: Outcome) -> WalkError
         ensures back { ahead.old.watched.is_excess ≡ true → IsStepsStop end → result ≡ Refused ahead.old.watched.number }
         ensures none { ahead.old.watched.is_excess ≡ false → result ≡ Refused self.old.trail.reading.number }
         ensures other { (IsStepsStop end → ⊥) → result ≡ Refused self.old.trail.reading.number }
@@ -389,7 +390,7 @@ impl Walk {
         fixed: &Fixed<'_, '_>,
         line: &Line,
         ahead: &mut Ahead,
-    ) -> Result<Option<Reason>, InspectError>
+    ) -> Result<Option<Reason>, WalkError>
         requires is { IsTextOf fixed.now line.now self.old.trail.reading.line.items }
         requires look { HasLook fixed.now self.old }
         ensures goes { (look : Look) (remaining : Option (List ℕ)) → LooksAs fixed.now self.old look
@@ -399,7 +400,7 @@ impl Walk {
         ensures watched { ahead.new.watched ≡ ahead.old.watched }
         ensures refused { (look : Look)
             → HasNames fixed.now → IsPlain fixed.now.form line.now.key → LooksAs fixed.now self.old look
-            → IfErr result (OfRefusal (λ n. (rest : List ℕ) × TakingFails fixed.now look line.now self.old.trail.reading self.new.trail.reading (Some ahead.old.text.items) (Some rest) n)) }
+            → IfErr result (Refuses (λ n. (rest : List ℕ) × TakingFails fixed.now look line.now self.old.trail.reading self.new.trail.reading (Some ahead.old.text.items) (Some rest) n)) }
         ensures next { OnOk result (IsNext fixed.now line.now.key.tick self.new.trail.reading) }
     {
         let mut rest = ahead.text.as_slice();
@@ -417,7 +418,7 @@ impl Walk {
         steps: u64,
         line: &Line,
         ahead: &mut Ahead,
-    ) -> Result<Step, InspectError>
+    ) -> Result<Step, WalkError>
         requires is { IsTextOf fixed.now line.now self.old.trail.reading.line.items }
         requires look { HasLook fixed.now self.old }
         requires limit { fixed.now.limit ≡ most }
@@ -454,7 +455,7 @@ impl Walk {
         steps: u64,
         line: &Line,
         ahead: &mut Ahead,
-    ) -> Result<Step, InspectError>
+    ) -> Result<Step, WalkError>
         requires is { IsTextOf fixed.now line.now self.old.trail.reading.line.items }
         requires look { HasLook fixed.now self.old }
         ensures takes { (look : Look) (remaining : Option (List ℕ))
@@ -513,7 +514,7 @@ impl Walk {
         line: &Line,
         ahead: &mut Ahead,
         input: &mut R,
-    ) -> Result<Step, InspectError>
+    ) -> Result<Step, WalkError>
         requires is { IsTextOf fixed.now line.now self.old.trail.reading.line.items }
         requires look { HasLook fixed.now self.old }
         requires limit { fixed.now.limit ≡ most }
@@ -554,7 +555,7 @@ impl Walk {
         terms: Terms,
         ahead: &mut Ahead,
         input: &mut R,
-    ) -> Result<Step, InspectError>
+    ) -> Result<Step, WalkError>
         requires look { HasLook fixed.now self.old }
         requires next { (tick : ℕ) × IsNextLine fixed.now tick self.old.trail.reading }
         requires limit { fixed.now.limit ≡ most }
@@ -591,11 +592,11 @@ impl Walk {
         ahead: &Ahead,
         input: &mut R,
         out: &mut W,
-    ) -> Result<(), InspectError>
+    ) -> Result<(), WalkError>
         ensures finishes { OnOk result (Finishes self.old (unread ahead.now (R.remaining input.old)) (W.contents out.old) (W.contents out.new)) }
         ensures marks { self.new.trail.marks ≡ self.old.trail.marks }
         ensures fault { OnErr result (SendsPart self.old (W.contents out.old) (W.contents out.new)) }
-        ensures refused { IfErr result (OfRefusal (λ n. (n ≡ self.old.trail.reading.number + 1) × IfSome (unread ahead.now (R.remaining input.old)) (λ rest. 0 < length rest))) }
+        ensures refused { IfErr result (Refuses (λ n. (n ≡ self.old.trail.reading.number + 1) × IfSome (unread ahead.now (R.remaining input.old)) (λ rest. 0 < length rest))) }
     {
         let line = self.trail.reading.line.as_slice();
         put_line(&mut self.trail.page.text, line, true)?;
@@ -605,7 +606,7 @@ impl Walk {
     }
 
     /// Adds that the trace is cut off, and writes all that waits.
-    pub(crate) fn finish_cut<W: Write>(&mut self, out: &mut W) -> Result<(), InspectError>
+    pub(crate) fn finish_cut<W: Write>(&mut self, out: &mut W) -> Result<(), WalkError>
         ensures finishes { OnOk result (FinishesCut self.old (W.contents out.old) (W.contents out.new)) }
         ensures marks { self.new.trail.marks ≡ self.old.trail.marks }
         ensures fault { OnErr result (SendsCutPart self.old (W.contents out.old) (W.contents out.new)) }
@@ -624,7 +625,7 @@ impl Walk {
         ahead: &mut Ahead,
         input: &mut R,
         out: &mut W,
-    ) -> Result<Extent, InspectError>
+    ) -> Result<Extent, WalkError>
         requires starts { (what : Selection) × Starts fixed.now what self.old }
         requires limit { fixed.now.limit ≡ most }
         requires empty { ahead.old.text.items ≡ [] }
@@ -639,7 +640,7 @@ impl Walk {
             → OnErr result (ShowsRead fixed.now what terms.steps known (W.contents out.old) (W.contents out.new)) }
         ensures refused { (what : Selection) (rest text : List ℕ)
             → terms.steps ≤ most → HasNames fixed.now → Starts fixed.now what self.old → R.remaining input.old ≡ Some rest → BeginsText fixed.now self.old.trail.reading.line.items ahead.old.watched.is_excess rest text
-            → IfErr result (OfRefusal (λ n. IsWrongAt fixed.now terms.steps n text)) }
+            → IfErr result (Refuses (λ n. IsWrongAt fixed.now terms.steps n text)) }
     {
         for _ in 0..u64::MAX {
             match self.advance(fixed, terms, ahead, input)? {
@@ -650,6 +651,6 @@ impl Walk {
                 Step::CutOff => return self.finish_cut(out).and(Ok(Extent::CutOff)),
             }
         }
-        Err(InspectError::Read)
+        Err(WalkError::Read)
     }
 }

@@ -35,7 +35,7 @@ use Rattle.fb_inspect.specs.dump.Waving as waving
 use Rattle.fb_inspect.specs.declared.walk.ahead.Ahead.{Ahead}
 use Rattle.fb_inspect.specs.declared.walk.blocks.EventBlock.{EventBlock}
 use Rattle.fb_inspect.specs.declared.walk.blocks.Remembered.{Remembered}
-use Rattle.fb_inspect.specs.declared.error.InspectError.{InspectError}
+use Rattle.fb_inspect.specs.declared.walk.error.WalkError.{WalkError}
 use Rattle.fb_inspect.specs.declared.walk.reading.Reading.{Reading}
 use Rattle.fb_inspect.specs.declared.dump.state_wave.StateWave.{StateWave}
 use Rattle.fb_inspect.specs.declared.walk.trail.Fixed.{Fixed}
@@ -190,7 +190,7 @@ StandsWell f = standing.StandsWell (sys_of f) f.form
 abbrev pub Watches : Fixed → (steps : ℕ) → List Taking → (number : ℕ) → (text : List ℕ) → (is_excess : Bool) → Type 0
 Watches f = standing.Watches (sys_of f) f.form
 
-abbrev pub GoesAfter : Fixed → (steps : ℕ) → Walk → Ahead → (remaining : Option (List ℕ)) → (text : List ℕ) → Result Step InspectError → Type 0
+abbrev pub GoesAfter : Fixed → (steps : ℕ) → Walk → Ahead → (remaining : Option (List ℕ)) → (text : List ℕ) → Result Step WalkError → Type 0
 GoesAfter f = standing.GoesAfter (sys_of f) f.form
 
 abbrev pub IsWrongAt : Fixed → (steps number : ℕ) → (text : List ℕ) → Type 0

@@ -18,12 +18,12 @@ use Rattle.fb_wave.specs.Waves.{AreLinesOf}
 use Rattle.fb_inspect.specs.Inspections.{AreTakings, IsOwnLine, KeepSteps, NoneStops, all_lines, last_look}
 use Rattle.fb_inspect.specs.walk.Lines.{IsNext, IsPlain}
 use Rattle.fb_inspect.specs.walk.Looks.{IsTaking, Taking, most, opening_look}
-use Rattle.fb_inspect.specs.Refusals.{IsNoLastStop, IsWrongLine, OfRefusal, steps_stop}
+use Rattle.fb_inspect.specs.Refusals.{IsNoLastStop, IsWrongLine, Refuses, steps_stop}
 use Rattle.fb_inspect.specs.walk.Walking.{IsLookOf, IsOwnRow}
 use Rattle.fb_inspect.specs.declared.walk.ahead.Ahead.{Ahead}
 use Rattle.fb_inspect.specs.declared.walk.blocks.Remembered.{Remembered}
 use Rattle.fb_inspect.specs.declared.walk.steps.TickSteps.{TickSteps}
-use Rattle.fb_inspect.specs.declared.error.InspectError.{InspectError}
+use Rattle.fb_inspect.specs.declared.walk.error.WalkError.{WalkError}
 use Rattle.fb_inspect.specs.declared.walk.Step.{Step}
 use Rattle.fb_inspect.specs.declared.walk.Step.TheVariants.{Taken, Ended, CutOff}
 use Rattle.fb_inspect.specs.declared.walk.Walk.{Walk}
@@ -105,11 +105,11 @@ pub record TakesOne (sys : System) (form : Form) (takings : List Taking) (walk :
 
 -- What comes of the event of the next line: the walk stands at the line after one more taking, or the next line or one after it is wrong.
 abbrev pub StandsAfter :
-    (sys : System) (form : Form) (steps : ℕ) (takings : List Taking) (walk : Walk) (ahead last : List ℕ) (line : Line) (rest text : List ℕ) → Result Step InspectError → Type 0
+    (sys : System) (form : Form) (steps : ℕ) (takings : List Taking) (walk : Walk) (ahead last : List ℕ) (line : Line) (rest text : List ℕ) → Result Step WalkError → Type 0
 StandsAfter sys form steps takings walk ahead last line rest text (Ok Taken) = TakesOne sys form takings walk ahead last line rest text
 StandsAfter sys form steps takings walk ahead last line rest text (Ok (Ended end)) = Unit {0}
 StandsAfter sys form steps takings walk ahead last line rest text (Ok CutOff) = Unit {0}
-StandsAfter sys form steps takings walk ahead last line rest text (Err e) = OfRefusal (λ n. IsWrongLine sys steps n text) e
+StandsAfter sys form steps takings walk ahead last line rest text (Err e) = Refuses (λ n. IsWrongLine sys steps n text) e
 
 -- ---- Steps
 
@@ -153,8 +153,8 @@ IsLeft remaining P = (rest : List ℕ) × (remaining ≡ Some rest) × P rest
 
 -- What comes of a step.
 abbrev pub GoesAfter :
-    (sys : System) (form : Form) (steps : ℕ) (walk : Walk) (ahead : Ahead) (remaining : Option (List ℕ)) (text : List ℕ) → Result Step InspectError → Type 0
+    (sys : System) (form : Form) (steps : ℕ) (walk : Walk) (ahead : Ahead) (remaining : Option (List ℕ)) (text : List ℕ) → Result Step WalkError → Type 0
 GoesAfter sys form steps walk ahead remaining text (Ok Taken) = IsLeft remaining (λ rest. StandsWell sys form steps walk ahead rest text)
 GoesAfter sys form steps walk ahead remaining text (Ok (Ended end)) = Unit {0}
 GoesAfter sys form steps walk ahead remaining text (Ok CutOff) = Unit {0}
-GoesAfter sys form steps walk ahead remaining text (Err e) = OfRefusal (λ n. IsWrongLine sys steps n text) e
+GoesAfter sys form steps walk ahead remaining text (Err e) = Refuses (λ n. IsWrongLine sys steps n text) e

@@ -8,7 +8,7 @@ ghost use Rattle.fb_types.specs.OfSystem.{IsInstance, kind_at, path_at};
 ghost use Rattle.fb_system.specs.OfSystem.{BelongsTo};
 ghost use Rattle.fb_inspect.specs.Inspections.{most};
 ghost use Rattle.fb_inspect.specs.walk.Looks.{Look};
-ghost use Rattle.fb_inspect.specs.Refusals.{IsNoRefusal, OfRefusal};
+ghost use Rattle.fb_inspect.specs.Refusals.{IsNoRefusal, Refuses};
 ghost use Rattle.fb_inspect.specs.walk.Walking.{unread};
 ghost use Rattle.fb_inspect.specs.dump.Saved.{IsBefore};
 ghost use Rattle.fb_inspect.specs.dump.StateDumps.{Taken};
@@ -19,8 +19,8 @@ ghost use Rattle.fb_inspect.specs.walk.OfWalk.{GoesAfter, HasGoneOn, HasLook, Ha
 use crate::Terms;
 use crate::dump::before::Before;
 use crate::dump::port_dump::PortDump;
-use crate::error::InspectError;
 use crate::walk::ahead::Ahead;
+use crate::walk::error::WalkError;
 use crate::walk::reading::Next;
 use crate::walk::trail::Fixed;
 use crate::walk::{Step, Walk};
@@ -137,7 +137,7 @@ impl StateWave {
         terms: Terms,
         ahead: &mut Ahead,
         input: &mut R,
-    ) -> Result<Step, InspectError>
+    ) -> Result<Step, WalkError>
         requires look { HasLook fixed.now self.old.walk }
         requires next { (tick : ℕ) × IsNext fixed.now tick self.old.walk.trail.reading }
         requires limit { fixed.now.limit ≡ most }
@@ -173,10 +173,10 @@ impl StateWave {
         ahead: &Ahead,
         input: &mut R,
         out: &mut W,
-    ) -> Result<(), InspectError>
+    ) -> Result<(), WalkError>
         ensures finishes { OnOk result (Finishes system.now end self.old (unread ahead.now (R.remaining input.old)) (W.contents out.old) (W.contents out.new)) }
         ensures fault { OnErr result (SendsPart system.now end self.old (W.contents out.old) (W.contents out.new)) }
-        ensures refused { IfErr result (OfRefusal (λ n. (n ≡ self.old.walk.trail.reading.number + 1) × IfSome (unread ahead.now (R.remaining input.old)) (λ rest. 0 < length rest))) }
+        ensures refused { IfErr result (Refuses (λ n. (n ≡ self.old.walk.trail.reading.number + 1) × IfSome (unread ahead.now (R.remaining input.old)) (λ rest. 0 < length rest))) }
     {
         self.dump.end(system, end, &mut self.page.text)?;
         self.walk.trail.reading.finish(ahead, input)?;
@@ -185,7 +185,7 @@ impl StateWave {
     }
 
     /// Puts that the trace is cut off, and writes all that waits.
-    pub(crate) fn finish_cut<W: Write>(&mut self, out: &mut W) -> Result<(), InspectError>
+    pub(crate) fn finish_cut<W: Write>(&mut self, out: &mut W) -> Result<(), WalkError>
         ensures finishes { (sys : Flat) → OnOk result (FinishesCut sys self.old (W.contents out.old) (W.contents out.new)) }
         ensures fault { (sys : Flat) → OnErr result (SendsCutPart sys self.old (W.contents out.old) (W.contents out.new)) }
         ensures none { IfErr result IsNoRefusal }
@@ -203,7 +203,7 @@ impl StateWave {
         ahead: &mut Ahead,
         input: &mut R,
         out: &mut W,
-    ) -> Result<(), InspectError>
+    ) -> Result<(), WalkError>
         requires starts { WaveStarts fixed.now self.old }
         requires limit { fixed.now.limit ≡ most }
         requires empty { ahead.old.text.items ≡ [] }
@@ -213,7 +213,7 @@ impl StateWave {
             → OnErr result (WritesRead fixed.now terms.steps known (W.contents out.old) (W.contents out.new)) }
         ensures refused { (rest text : List ℕ)
             → terms.steps ≤ most → HasNames fixed.now → R.remaining input.old ≡ Some rest → StandsWell fixed.now terms.steps self.old.walk ahead.old rest text → text ≡ self.old.walk.trail.reading.line.items ++ rest
-            → IfErr result (OfRefusal (λ n. IsWrongAt fixed.now terms.steps n text)) }
+            → IfErr result (Refuses (λ n. IsWrongAt fixed.now terms.steps n text)) }
     {
         for _ in 0..u64::MAX {
             match self.advance(fixed, terms, ahead, input)? {
@@ -224,6 +224,6 @@ impl StateWave {
                 Step::CutOff => return self.finish_cut(out),
             }
         }
-        Err(InspectError::Read)
+        Err(WalkError::Read)
     }
 }

@@ -5,8 +5,9 @@ ghost use Rattle.std.specs.Io.KnownBytes.{Consumes};
 ghost use Rattle.fb_wave.specs.Copying.{IsFirstLine};
 ghost use Rattle.fb_wave.specs.OfSystem.{HasNames};
 ghost use Rattle.fb_inspect.specs.walk.Looks.{most};
-ghost use Rattle.fb_inspect.specs.Refusals.{OfRefusal};
-ghost use Rattle.fb_inspect.specs.OfSystem.{BeginsWave, IsShownWith, IsWrongAt, WritesFront, WritesRead};
+ghost use Rattle.fb_inspect.specs.Refusals.{OfRefusal, Refuses};
+ghost use Rattle.fb_inspect.specs.OfSystem.{BeginsWave, IsNamesFault, IsShownWith, IsWrongAt, WritesFront, WritesRead};
+ghost use Rattle.fb_inspect.specs.declared.error.InspectError.TheVariants.{Unknown};
 ghost use Rattle.fb_inspect.specs.walk.OfWalk as of_walk;
 ghost use Rattle.fb_inspect.specs.walk.OfWalk.{BeginsText, IsNext};
 
@@ -18,6 +19,7 @@ use crate::error::InspectError;
 use crate::filter::EventFilter;
 use crate::insides::{begun, first_reading, is_severed, lend};
 use crate::walk::ahead::Ahead;
+use crate::walk::error::WalkError;
 use crate::walk::reading::Reading;
 use crate::walk::trail::Fixed;
 use crate::{RefusedLine, Terms};
@@ -57,7 +59,7 @@ fn go_through<R: BufRead, W: Write>(
     refused: &mut RefusedLine,
     input: &mut R,
     out: &mut W,
-) -> Result<(), InspectError>
+) -> Result<(), WalkError>
     requires begins { BeginsWave fixed.now.table.now.system.now wave.old.walk.trail.reading wave.old }
     requires next { IsNext fixed.now 0 wave.old.walk.trail.reading }
     requires first { wave.old.walk.trail.reading.number ≡ 1 }
@@ -70,7 +72,7 @@ fn go_through<R: BufRead, W: Write>(
         → OnErr result (of_walk.WritesRead fixed.now terms.steps known (W.contents out.old) (W.contents out.new)) }
     ensures refused { (rest text : List ℕ)
         → terms.steps ≤ most → of_walk.HasNames fixed.now → R.remaining input.old ≡ Some rest → BeginsText fixed.now wave.old.walk.trail.reading.line.items false rest text
-        → IfErr result (OfRefusal (λ n. of_walk.IsWrongAt fixed.now terms.steps n text)) }
+        → IfErr result (Refuses (λ n. of_walk.IsWrongAt fixed.now terms.steps n text)) }
 {
     if is_severed(terms.cut, wave.walk.trail.reading.line.as_slice()) {
         return wave.finish_cut(out);
@@ -89,11 +91,11 @@ fn write_with<R: BufRead, W: Write>(
     refused: &mut RefusedLine,
     input: &mut R,
     out: &mut W,
-) -> Result<(), InspectError>
+) -> Result<(), WalkError>
     ensures whole { OnOk result (IfSome (R.remaining input.old) (λ text. IsShownWith terms.cut table.now.system.now terms.steps text (W.contents out.old) (W.contents out.new))) }
     ensures fault { OnErr result (WritesRead table.now.system.now terms.steps (R.remaining input.old) (W.contents out.old) (W.contents out.new)) }
     ensures refused { HasNames table.now.system.now → terms.steps ≤ most
-        → IfErr result (OfRefusal (λ n. IfSome (R.remaining input.old) (IsWrongAt table.now.system.now terms.steps n))) }
+        → IfErr result (Refuses (λ n. IfSome (R.remaining input.old) (IsWrongAt table.now.system.now terms.steps n))) }
 {
     let (form, reading) = first_reading(alloc, table, input)?;
     let mut wave = begin(alloc, table.system, reading)?;
@@ -119,9 +121,9 @@ fn write_with<R: BufRead, W: Write>(
 /// Before that, lines that may be only a part of what an event causes are shown at ports alone.
 ///
 /// # Errors
-/// As those of `crate::inspect`: the line is lent at which the trace is refused. What was written then is the beginning
-/// of the dump of each trace that begins with the events that were taken before. If the end of the trace was read, it is
-/// the beginning of the dump of the trace.
+/// As those of `crate::inspect`, but no path is unknown: the line is lent at which the trace is refused. What was written
+/// then is the beginning of the dump of each trace that begins with the events that were taken before. If the end of
+/// the trace was read, it is the beginning of the dump of the trace.
 pub fn write_states<R: BufRead, W: Write>(
     alloc: Global,
     system: &System,
@@ -135,10 +137,13 @@ pub fn write_states<R: BufRead, W: Write>(
     ensures read { OnErr result (WritesRead system.now terms.steps (R.remaining input.old) (W.contents out.old) (W.contents out.new)) }
     ensures refused { HasNames system.now → terms.steps ≤ most
         → IfErr result (OfRefusal (λ n. IfSome (R.remaining input.old) (IsWrongAt system.now terms.steps n))) }
+    ensures names { IfErr result (IsNamesFault system.now) }
+    ensures paths { IfErr result (λ e. e ≡ Unknown → ⊥) }
 {
     let ports = SystemPorts::of(alloc, system)?;
     let Some(table) = PortTable::of(alloc, &ports)? else {
         return Err(InspectError::Names);
     };
-    write_with(alloc, &table, terms, refused, input, out)
+    write_with(alloc, &table, terms, refused, input, out)?;
+    Ok(())
 }

@@ -7,12 +7,12 @@ ghost use Rattle.fb_inspect.specs.walk.Standing.{IsLeft};
 ghost use Rattle.fb_inspect.specs.walk.Walking.{IsOwnRow, IsReadOn, unread};
 ghost use Rattle.fb_inspect.specs.walk.OfWalk.{AreAhead, AreCutOff, AreGathered, HasNames, IsTextOf, MayBeAhead};
 
-use crate::error::InspectError;
 use crate::insides::is_severed;
-use crate::walk::reading::{Next, Reading, judged};
+use crate::walk::error::WalkError;
+use crate::walk::reading::{Next, Reading, judged, read_on};
 use crate::walk::trail::Fixed;
 use fb_types::Line;
-use fb_wave::{Cut, Guess, PortTable, next_line};
+use fb_wave::{Cut, Guess, PortTable};
 use std::alloc::{AllocError, Global};
 use std::io::BufRead;
 use std::mem;
@@ -158,7 +158,7 @@ impl Ahead {
         fixed: &Fixed<'_, '_>,
         first: &Line,
         input: &mut R,
-    ) -> Result<(), InspectError>
+    ) -> Result<(), WalkError>
         ensures gathered { OnOk result (AreGathered fixed.now first.now self.new.rows.items self.new.text.items self.new.last.items (R.remaining input.old) (R.remaining input.new)) }
         ensures watched { OnOk result (self.new.watched ≡ self.old.watched) }
         ensures other { HasNames fixed.now → OnOk result ((m : run.Line) → IsTextOf fixed.now m self.new.last.items → IsOwnRow m first.now → ⊥) }
@@ -167,7 +167,7 @@ impl Ahead {
         self.text.clear();
         self.rows.clear();
         for _ in 0..u64::MAX {
-            next_line(input, &mut self.last)?;
+            read_on(input, &mut self.last)?;
             let line = self.last.as_slice();
             let tick = first.key.tick;
             let next = judged(
@@ -184,7 +184,7 @@ impl Ahead {
             self.text.extend_from_slice(line)?;
             keep_row(&mut self.rows, row)?;
         }
-        Err(InspectError::Read)
+        Err(WalkError::Read)
     }
 
     /// Reads the lines after that of an event, if the walk has passed all lines that were read ahead. Answers whether
@@ -195,7 +195,7 @@ impl Ahead {
         cut: Cut,
         first: &Line,
         input: &mut R,
-    ) -> Result<bool, InspectError>
+    ) -> Result<bool, WalkError>
         ensures whole { IfOk result (λ is_cut. is_cut ≡ false → IsReadOn (unread self.old (R.remaining input.old)) (unread self.new (R.remaining input.new))) }
         ensures watched { OnOk result (self.new.watched ≡ self.old.watched) }
         ensures ahead { HasNames fixed.now → IfOk result (λ is_cut. is_cut ≡ false

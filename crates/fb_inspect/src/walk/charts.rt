@@ -16,12 +16,12 @@ ghost use Rattle.fb_inspect.specs.walk.Lines.{IsPlain};
 ghost use Rattle.fb_inspect.specs.Markings as marking;
 ghost use Rattle.fb_inspect.specs.walk.Moves.{HasNoted};
 ghost use Rattle.fb_inspect.specs.walk.Notes.{cleared_note, lost_if, ran_by_action, stop_note};
-ghost use Rattle.fb_inspect.specs.Refusals.{ChartFails, IsNoRefusal, OfRefusal};
+ghost use Rattle.fb_inspect.specs.Refusals.{ChartFails, IsNoRefusal, Refuses};
 ghost use Rattle.fb_inspect.specs.declared.walk.charts.Linked.TheVariants.{Went};
 ghost use Rattle.fb_inspect.specs.walk.OfWalk.{HasNames, IsNext};
 
-use crate::error::InspectError;
 use crate::walk::blocks::{Chart, keep_values};
+use crate::walk::error::WalkError;
 use crate::walk::notes::{put_cleared, put_lost, put_ran, put_stopped};
 use crate::walk::trail::{Fixed, Trail};
 use fb_ecc::{BasicState, act, action_count, clear};
@@ -123,7 +123,7 @@ fn acted(
     meter: &mut Meter,
     action: usize,
     emits: &mut Emits,
-) -> Result<Option<Reason>, InspectError>
+) -> Result<Option<Reason>, WalkError>
     requires sound { IsSound block.now }
     requires block { IsBlockOf block.now state.old }
     requires within { action < length (actions_of block.now (state_at block.now state.old.state)) }
@@ -138,7 +138,7 @@ fn acted(
     match act(state, block, action, meter, emits) {
         Ok(()) => Ok(None),
         Err(Halt::Stop(reason)) => Ok(Some(reason)),
-        Err(Halt::Memory) => Err(InspectError::Memory),
+        Err(Halt::Memory) => Err(WalkError::Memory),
     }
 }
 
@@ -151,7 +151,7 @@ fn perform<R: BufRead>(
     meter: &mut Meter,
     action: usize,
     input: &mut R,
-) -> Result<Option<Reason>, InspectError>
+) -> Result<Option<Reason>, WalkError>
     requires taking { IsChartTaking taking.now }
     requires chart { IsChartOf taking.now.block.now chart.old }
     requires within { action < length (actions_of taking.now.block.now (state_at taking.now.block.now chart.old.state.state)) }
@@ -161,7 +161,7 @@ fn perform<R: BufRead>(
         ChartGoes taking.now (Acting t (a ∷ [])) (place t chart.old meter.old.left) stop (place t chart.new meter.new.left) trail.old trail.new (R.remaining input.old) (R.remaining input.new)) }
     ensures refused { (a : Action) (others : List Action) → slice_get (actions_of taking.now.block.now (state_at taking.now.block.now chart.old.state.state)) action ≡ Some a
         → HasNames taking.now.fixed → IsPlain taking.now.fixed.form taking.now.line.now.key → let t = taking.now.block.now in
-        IfErr result (OfRefusal (λ n. ChartFails taking.now (Acting t (a ∷ others)) (place t chart.old meter.old.left) trail.old.reading trail.new.reading (R.remaining input.old) (R.remaining input.new) n)) }
+        IfErr result (Refuses (λ n. ChartFails taking.now (Acting t (a ∷ others)) (place t chart.old meter.old.left) trail.old.reading trail.new.reading (R.remaining input.old) (R.remaining input.new) n)) }
     ensures chart { OnOk result (IsChartOf taking.now.block.now chart.new) }
     ensures state { chart.new.state.state ≡ chart.old.state.state }
     ensures fewer { meter.new.left ≤ meter.old.left }
@@ -186,14 +186,14 @@ fn perform_all<R: BufRead>(
     chart: &mut Chart,
     meter: &mut Meter,
     input: &mut R,
-) -> Result<Option<Reason>, InspectError>
+) -> Result<Option<Reason>, WalkError>
     requires taking { IsChartTaking taking.now }
     requires chart { IsChartOf taking.now.block.now chart.old }
     requires next { IsNext taking.now.fixed taking.now.line.now.key.tick trail.old.reading }
     ensures shown { IfOk result (λ stop. let t = taking.now.block.now in
         ChartGoes taking.now (Acting t (actions_of t (state_at t chart.old.state.state))) (place t chart.old meter.old.left) stop (place t chart.new meter.new.left) trail.old trail.new (R.remaining input.old) (R.remaining input.new)) }
     ensures refused { HasNames taking.now.fixed → IsPlain taking.now.fixed.form taking.now.line.now.key → let t = taking.now.block.now in
-        IfErr result (OfRefusal (λ n. ChartFails taking.now (Acting t (actions_of t (state_at t chart.old.state.state))) (place t chart.old meter.old.left) trail.old.reading trail.new.reading (R.remaining input.old) (R.remaining input.new) n)) }
+        IfErr result (Refuses (λ n. ChartFails taking.now (Acting t (actions_of t (state_at t chart.old.state.state))) (place t chart.old meter.old.left) trail.old.reading trail.new.reading (R.remaining input.old) (R.remaining input.new) n)) }
     ensures chart { OnOk result (IsChartOf taking.now.block.now chart.new) }
     ensures fewer { meter.new.left ≤ meter.old.left }
     ensures next { OnOk result (IsNext taking.now.fixed taking.now.line.now.key.tick trail.new.reading) }
@@ -272,7 +272,7 @@ fn link<R: BufRead>(
     meter: &mut Meter,
     present: Option<usize>,
     input: &mut R,
-) -> Result<Linked, InspectError>
+) -> Result<Linked, WalkError>
     requires taking { IsChartTaking taking.now }
     requires chart { IsChartOf taking.now.block.now chart.old }
     requires present { IfSome present (λ event. event < length taking.now.block.now.ports.event_inputs) }
@@ -280,7 +280,7 @@ fn link<R: BufRead>(
     ensures linked { let event = option_map (event_at taking.now.block.now.ports.event_inputs) present in let t = taking.now.block.now in
         IfOk result (HasLinked taking.now event (place t chart.old meter.old.left) (place t chart.new meter.new.left) trail.old trail.new (R.remaining input.old) (R.remaining input.new)) }
     ensures refused { HasNames taking.now.fixed → IsPlain taking.now.fixed.form taking.now.line.now.key → let t = taking.now.block.now in
-        IfErr result (OfRefusal (λ n. ChartFails taking.now (ShowsChain t (option_map (event_at t.ports.event_inputs) present)) (place t chart.old meter.old.left) trail.old.reading trail.new.reading (R.remaining input.old) (R.remaining input.new) n)) }
+        IfErr result (Refuses (λ n. ChartFails taking.now (ShowsChain t (option_map (event_at t.ports.event_inputs) present)) (place t chart.old meter.old.left) trail.old.reading trail.new.reading (R.remaining input.old) (R.remaining input.new) n)) }
     ensures chart { OnOk result (IsChartOf taking.now.block.now chart.new) }
     ensures less { IfOk result (λ how. how ≡ Went → meter.new.left < meter.old.left) }
     ensures fewer { meter.new.left ≤ meter.old.left }
@@ -310,14 +310,14 @@ pub(crate) fn follow<R: BufRead>(
     chart: &mut Chart,
     meter: &mut Meter,
     input: &mut R,
-) -> Result<Option<Reason>, InspectError>
+) -> Result<Option<Reason>, WalkError>
     requires taking { IsChartTaking taking.now }
     requires chart { IsChartOf taking.now.block.now chart.old }
     requires next { IsNext taking.now.fixed taking.now.line.now.key.tick trail.old.reading }
     ensures shown { let t = taking.now.block.now in
         IfOk result (λ stop. ChartGoes taking.now (ShowsChain t (Some (event_at t.ports.event_inputs taking.now.line.now.event))) (place t chart.old meter.old.left) stop (place t chart.new meter.new.left) trail.old trail.new (R.remaining input.old) (R.remaining input.new)) }
     ensures refused { HasNames taking.now.fixed → IsPlain taking.now.fixed.form taking.now.line.now.key → let t = taking.now.block.now in
-        IfErr result (OfRefusal (λ n. ChartFails taking.now (ShowsChain t (Some (event_at t.ports.event_inputs taking.now.line.now.event))) (place t chart.old meter.old.left) trail.old.reading trail.new.reading (R.remaining input.old) (R.remaining input.new) n)) }
+        IfErr result (Refuses (λ n. ChartFails taking.now (ShowsChain t (Some (event_at t.ports.event_inputs taking.now.line.now.event))) (place t chart.old meter.old.left) trail.old.reading trail.new.reading (R.remaining input.old) (R.remaining input.new) n)) }
     ensures chart { OnOk result (IsChartOf taking.now.block.now chart.new) }
     ensures next { OnOk result (IsNext taking.now.fixed taking.now.line.now.key.tick trail.new.reading) }
 {

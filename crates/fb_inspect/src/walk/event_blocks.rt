@@ -8,13 +8,13 @@ ghost use Rattle.fb_inspect.specs.walk.Looks as spec;
 ghost use Rattle.fb_inspect.specs.walk.Looks.{Seen, emissions_by};
 ghost use Rattle.fb_inspect.specs.walk.Moves.{HasNoted};
 ghost use Rattle.fb_inspect.specs.walk.Notes.{memory_note};
-ghost use Rattle.fb_inspect.specs.Refusals.{IsNoRefusal, OfRefusal};
+ghost use Rattle.fb_inspect.specs.Refusals.{IsNoRefusal, Refuses};
 ghost use Rattle.fb_inspect.specs.walk.Timing.{HasExpired, HasReacted, IsBlockKept, IsNoExpiry, IsNotOnly, IsOnly, inputs_after};
 ghost use Rattle.fb_inspect.specs.walk.OfWalk.{EmitsFail, HasNames, IsBlockLine, IsNext, IsNotDue, IsTextOf, TakenGoes, TimerGoes, reaction_at};
 
-use crate::error::InspectError;
 use crate::refused::finding::Finding;
 use crate::walk::blocks::EventBlock;
+use crate::walk::error::WalkError;
 use crate::walk::notes::put_memory;
 use crate::walk::trail::{Fixed, Trail, is_emission};
 use fb_event::{EventMemory, expire, memory_of, react};
@@ -124,7 +124,7 @@ fn sample(alloc: Global, inputs: &mut Items<Value>, values: &[Value]) -> Result<
 }
 
 /// The reaction of an event block, which has sampled its inputs, to the event of a line.
-fn answer(block: &mut EventBlock, line: &Line, emits: &mut Emits) -> Result<(), InspectError>
+fn answer(block: &mut EventBlock, line: &Line, emits: &mut Emits) -> Result<(), WalkError>
     requires early { line.now.key.tick ≤ 10 ^ 12 }
     requires typed { FitInputs block.old.state.kind block.old.inputs }
     requires fresh { emits.old ≡ [] }
@@ -147,7 +147,7 @@ fn answer(block: &mut EventBlock, line: &Line, emits: &mut Emits) -> Result<(), 
             Ok(())
         }
         // A reaction of an event block never stops a resource.
-        Err(_) => Err(InspectError::Memory),
+        Err(_) => Err(WalkError::Memory),
     }
 }
 
@@ -158,14 +158,14 @@ pub(crate) fn react_block<R: BufRead>(
     block: &mut EventBlock,
     line: &Line,
     input: &mut R,
-) -> Result<(), InspectError>
+) -> Result<(), WalkError>
     requires line { IsBlockLine fixed.now block.old line.now }
     requires taken { line.now.taken ≡ true }
     requires next { IsNext fixed.now line.now.key.tick trail.old.reading }
     ensures takes { (s : Seen) → IsBlockKept block.old.state.kind block.old s → OnOk result (TakenGoes fixed.now block.old.state.kind line.now s block.new trail.old trail.new (R.remaining input.old) (R.remaining input.new)) }
     ensures refused { (s : Seen) → IsBlockKept block.old.state.kind block.old s
         → HasNames fixed.now → IsPlain fixed.now.form line.now.key
-        → IfErr result (OfRefusal (λ n. EmitsFail fixed.now line.now (emissions_by block.old.state.kind (reaction_at fixed.now block.old.state.kind s line.now)) trail.old.reading trail.new.reading (R.remaining input.old) (R.remaining input.new) n)) }
+        → IfErr result (Refuses (λ n. EmitsFail fixed.now line.now (emissions_by block.old.state.kind (reaction_at fixed.now block.old.state.kind s line.now)) trail.old.reading trail.new.reading (R.remaining input.old) (R.remaining input.new) n)) }
     ensures next { OnOk result (IsNext fixed.now line.now.key.tick trail.new.reading) }
     ensures charts { trail.new.marks.charts ≡ trail.old.marks.charts }
 {
@@ -195,7 +195,7 @@ fn is_only(line: &Line, emits: &mut Emits) -> bool
 
 /// The reaction of an event block to its timer, which goes off at the tick of a line. Answers whether the line is that
 /// of its only emission.
-fn expire_to(alloc: Global, block: &mut EventBlock, line: &Line) -> Result<bool, InspectError>
+fn expire_to(alloc: Global, block: &mut EventBlock, line: &Line) -> Result<bool, WalkError>
     requires early { line.now.key.tick ≤ 10 ^ 12 }
     ensures only { IfOk result (λ is_only. IsTrue is_only → HasExpired line.now block.old block.new) }
     ensures other { IfOk result (λ is_only. is_only ≡ false → IsNoExpiry line.now block.old) }
@@ -211,7 +211,7 @@ fn expire_to(alloc: Global, block: &mut EventBlock, line: &Line) -> Result<bool,
             block.due = due_after(None, ask);
             Ok(is_only(line, &mut emits))
         }
-        Err(_) => Err(InspectError::Memory),
+        Err(_) => Err(WalkError::Memory),
     }
 }
 
@@ -222,13 +222,13 @@ pub(crate) fn expire_block<R: BufRead>(
     block: &mut EventBlock,
     line: &Line,
     input: &mut R,
-) -> Result<(), InspectError>
+) -> Result<(), WalkError>
     requires line { IsBlockLine fixed.now block.old line.now }
     requires text { IsTextOf fixed.now line.now trail.old.reading.line.items }
     ensures takes { (s : Seen) → IsBlockKept block.old.state.kind block.old s → OnOk result (TimerGoes fixed.now block.old.state.kind line.now s block.new trail.old trail.new (R.remaining input.old) (R.remaining input.new)) }
     ensures refused { (s : Seen) → IsBlockKept block.old.state.kind block.old s
         → HasNames fixed.now → IsPlain fixed.now.form line.now.key
-        → IfErr result (OfRefusal (λ n. IsNotDue fixed.now block.old.state.kind s line.now trail.old.reading trail.new.reading n)) }
+        → IfErr result (Refuses (λ n. IsNotDue fixed.now block.old.state.kind s line.now trail.old.reading trail.new.reading n)) }
     ensures next { OnOk result (IsNext fixed.now line.now.key.tick trail.new.reading) }
     ensures charts { trail.new.marks.charts ≡ trail.old.marks.charts }
 {

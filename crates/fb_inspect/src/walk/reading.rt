@@ -1,16 +1,16 @@
 //! The lines of a trace, with a look at the next one.
 
-ghost use Rattle.std.specs.Prelude.{IfErr, IfOk, IfSome, OnOk, ◌≡◌, ◌<◌, ◌+◌, length};
+ghost use Rattle.std.specs.Prelude.{[], IsTrue, false, IfErr, IfOk, IfSome, OnOk, ◌≡◌, ◌<◌, ◌+◌, length};
 ghost use Rattle.std.specs.Io.KnownBytes.{Consumes, IsAtEnd};
 ghost use Rattle.fb_wave.specs.Copying.{IsFirstLine};
 ghost use Rattle.fb_inspect.specs.walk.Lines.{IsPlain};
 ghost use Rattle.fb_inspect.specs.OfSystem.{IsNext};
-ghost use Rattle.fb_inspect.specs.Refusals.{IsNoRefusal, OfRefusal};
+ghost use Rattle.fb_inspect.specs.Refusals.{IsNoRefusal, Refuses};
 ghost use Rattle.fb_inspect.specs.walk.Walking.{unread};
-ghost use Rattle.fb_inspect.specs.declared.error.InspectError.TheVariants.{Refused};
+ghost use Rattle.fb_inspect.specs.declared.walk.error.WalkError.TheVariants.{Refused};
 
-use crate::error::InspectError;
 use crate::walk::ahead::Ahead;
+use crate::walk::error::{WalkError, read_fault};
 use fb_trace::Outcome;
 use fb_types::{Form, Key, Line};
 use fb_wave::{Guess, PortTable, can_end, is_over, next_line, read_last, read_line};
@@ -52,6 +52,31 @@ impl Drop for Reading {
             tick: _,
             after_end: _,
         } = self;
+    }
+}
+
+/// Reads the next line into a buffer, with its line feed.
+pub(crate) fn read_on<R: BufRead>(input: &mut R, line: &mut Vec<u8>) -> Result<(), WalkError>
+    ensures read { OnOk result (Consumes (R.remaining input.old) (R.remaining input.new) line.new.items) }
+    ensures line { OnOk result (IsFirstLine line.new.items (R.remaining input.old)) }
+    ensures end { OnOk result (line.new.items ≡ [] → IsAtEnd (R.remaining input.old)) }
+    ensures fault { IfErr result IsNoRefusal }
+{
+    match next_line(input, line) {
+        Ok(()) => Ok(()),
+        Err(error) => Err(read_fault(error)),
+    }
+}
+
+/// Whether the text is at its end. Otherwise this reads a line.
+fn is_all_read<R: BufRead>(input: &mut R, line: &mut Vec<u8>) -> Result<bool, WalkError>
+    ensures over { IfOk result (λ over. IsTrue over → IsAtEnd (R.remaining input.old)) }
+    ensures more { IfOk result (λ over. over ≡ false → IfSome (R.remaining input.old) (λ rest. 0 < length rest)) }
+    ensures fault { IfErr result IsNoRefusal }
+{
+    match is_over(input, line) {
+        Ok(over) => Ok(over),
+        Err(error) => Err(read_fault(error)),
     }
 }
 
@@ -110,17 +135,17 @@ impl Reading {
         form: Form,
         tick: u64,
         input: &mut R,
-    ) -> Result<(), InspectError>
+    ) -> Result<(), WalkError>
         ensures next { OnOk result (IsNext table.now.system.now form tick self.new.line.items self.new.next) }
         ensures read { OnOk result (Consumes (R.remaining input.old) (R.remaining input.new) self.new.line.items) }
         ensures first { OnOk result (IsFirstLine self.new.line.items (R.remaining input.old)) }
         ensures number { OnOk result (self.new.number ≡ self.old.number + 1) }
         ensures fault { IfErr result IsNoRefusal }
     {
-        next_line(input, &mut self.line)?;
+        read_on(input, &mut self.line)?;
         // No reader has more lines than that.
         let Some(number) = self.number.checked_add(1) else {
-            return Err(InspectError::Read);
+            return Err(WalkError::Read);
         };
         self.number = number;
         self.tick = tick;
@@ -134,15 +159,15 @@ impl Reading {
         &mut self,
         ahead: &Ahead,
         input: &mut R,
-    ) -> Result<(), InspectError>
+    ) -> Result<(), WalkError>
         ensures over { OnOk result (IsAtEnd (unread ahead.now (R.remaining input.old))) }
-        ensures refused { IfErr result (OfRefusal (λ n. (n ≡ self.old.number + 1) × IfSome (unread ahead.now (R.remaining input.old)) (λ rest. 0 < length rest))) }
+        ensures refused { IfErr result (Refuses (λ n. (n ≡ self.old.number + 1) × IfSome (unread ahead.now (R.remaining input.old)) (λ rest. 0 < length rest))) }
     {
         self.after_end = true;
         if !ahead.text.is_empty() {
             return Err(self.refusal_after());
         }
-        if is_over(input, &mut self.line)? {
+        if is_all_read(input, &mut self.line)? {
             Ok(())
         } else {
             Err(self.refusal_after())
@@ -157,20 +182,20 @@ impl Reading {
     }
 
     /// The refusal of the next line.
-    pub fn refusal(&self) -> InspectError
+    pub fn refusal(&self) -> WalkError
         ensures { result ≡ Refused self.now.number }
     {
-        InspectError::Refused(self.number)
+        WalkError::Refused(self.number)
     }
 
     /// The refusal of the line after the next one.
-    pub fn refusal_after(&self) -> InspectError
-        ensures { OfRefusal (λ n. n ≡ self.now.number + 1) result }
+    pub fn refusal_after(&self) -> WalkError
+        ensures { Refuses (λ n. n ≡ self.now.number + 1) result }
     {
         // No reader has more lines than that.
         match self.number.checked_add(1) {
-            Some(number) => InspectError::Refused(number),
-            None => InspectError::Read,
+            Some(number) => WalkError::Refused(number),
+            None => WalkError::Read,
         }
     }
 }

@@ -4,13 +4,13 @@ ghost use Rattle.std.specs.Prelude.{◌≡◌, [], ◌∷◌, ◌++◌, ◌<◌,
 ghost use Rattle.fb_types.specs.Numbers.{emission_of};
 ghost use Rattle.fb_types.specs.declared.run.Line as run;
 ghost use Rattle.fb_system.specs.Lines.{IsEmission as IsEmissionOf};
-ghost use Rattle.fb_inspect.specs.Refusals.{IsNoRefusal, OfRefusal};
-ghost use Rattle.fb_inspect.specs.declared.error.InspectError.TheVariants.{Refused};
+ghost use Rattle.fb_inspect.specs.Refusals.{IsNoRefusal, Refuses};
+ghost use Rattle.fb_inspect.specs.declared.walk.error.WalkError.TheVariants.{Refused};
 ghost use Rattle.fb_inspect.specs.walk.Moves.{HavePassed, IsEmission, StaysAlone, shown_text};
 ghost use Rattle.fb_inspect.specs.walk.OfWalk.{EmitsFail, EmitsGo, GoesPast, IsNext, IsPlainLine, IsTextOf, ports_in};
 
-use crate::error::InspectError;
 use crate::refused::finding::Finding;
+use crate::walk::error::WalkError;
 use crate::walk::notes::are_same;
 use crate::walk::reading::{Next, Reading};
 use fb_coverage::Marks;
@@ -156,7 +156,7 @@ pub(crate) fn put_line(text: &mut Vec<u8>, line: &[u8], is_shown: bool) -> Resul
 
 impl Trail {
     /// The refusal of the next line, for what was found.
-    pub(crate) fn refusal(&mut self, finding: Finding) -> InspectError
+    pub(crate) fn refusal(&mut self, finding: Finding) -> WalkError
         ensures marks { self.new.marks ≡ self.old.marks }
         ensures reading { self.new.reading ≡ self.old.reading }
         ensures refused { result ≡ Refused self.old.reading.number }
@@ -167,15 +167,15 @@ impl Trail {
     }
 
     /// The refusal of the next line, where the block of a line makes this emission.
-    fn refusal_for(&mut self, alloc: Global, line: &Line, emission: &Emission) -> InspectError
+    fn refusal_for(&mut self, alloc: Global, line: &Line, emission: &Emission) -> WalkError
         ensures marks { self.new.marks ≡ self.old.marks }
         ensures reading { self.new.reading ≡ self.old.reading }
-        ensures refused { OfRefusal (λ n. n ≡ self.old.reading.number) result }
+        ensures refused { Refuses (λ n. n ≡ self.old.reading.number) result }
         ensures small { emission.now.event < 2 ^ 32 }
     {
         let event = event_of(emission);
         let Ok(values) = Values::from_slice(alloc, emission.values.as_slice()) else {
-            return InspectError::Memory;
+            return WalkError::Memory;
         };
         self.refusal(Finding::Emits {
             instance: line.instance,
@@ -197,7 +197,7 @@ impl Trail {
         fixed: &Fixed<'_, '_>,
         line: &Line,
         input: &mut R,
-    ) -> Result<(), InspectError>
+    ) -> Result<(), WalkError>
         requires { IsTextOf fixed.now line.now self.old.reading.line.items }
         ensures goes { OnOk result (GoesPast fixed.now line.now.key.tick line.now self.old self.new (R.remaining input.old) (R.remaining input.new)) }
         ensures next { OnOk result (IsNext fixed.now line.now.key.tick self.new.reading) }
@@ -220,7 +220,7 @@ impl Trail {
         line: &Line,
         emission: &Emission,
         input: &mut R,
-    ) -> Result<(), InspectError>
+    ) -> Result<(), WalkError>
         requires { IsNext fixed.now line.now.key.tick self.old.reading }
         ensures goes { OnOk result ((l : run.Line) × IsEmission l line.now emission.now
             × GoesPast fixed.now line.now.key.tick l self.old self.new (R.remaining input.old) (R.remaining input.new)) }
@@ -229,7 +229,7 @@ impl Trail {
         ensures alone { OnOk result (StaysAlone self.old.reading self.new.reading (R.remaining input.old) (R.remaining input.new)) }
         ensures refused { let its = ports_in fixed.now line.now in
             IsPlainLine fixed.now line.now → IsEmissionOf its emission.now
-            → IfErr result (OfRefusal (λ n. EmitsFail fixed.now line.now (emission_of its emission.now ∷ []) self.old.reading self.new.reading (R.remaining input.old) (R.remaining input.new) n)) }
+            → IfErr result (Refuses (λ n. EmitsFail fixed.now line.now (emission_of its emission.now ∷ []) self.old.reading self.new.reading (R.remaining input.old) (R.remaining input.new) n)) }
     {
         let next = mem::replace(&mut self.reading.next, Next::Bad);
         let Next::Event(next) = next else {
@@ -248,14 +248,14 @@ impl Trail {
         line: &Line,
         emits: &mut Emits,
         input: &mut R,
-    ) -> Result<(), InspectError>
+    ) -> Result<(), WalkError>
         requires { IsNext fixed.now line.now.key.tick self.old.reading }
         ensures goes { OnOk result (EmitsGo fixed.now line.now emits.old self.old self.new (R.remaining input.old) (R.remaining input.new)) }
         ensures next { OnOk result (IsNext fixed.now line.now.key.tick self.new.reading) }
         ensures charts { self.new.marks.charts ≡ self.old.marks.charts }
         ensures refused { let its = ports_in fixed.now line.now in
             IsPlainLine fixed.now line.now → All (IsEmissionOf its) emits.old
-            → IfErr result (OfRefusal (λ n. EmitsFail fixed.now line.now (map (emission_of its) emits.old) self.old.reading self.new.reading (R.remaining input.old) (R.remaining input.new) n)) }
+            → IfErr result (Refuses (λ n. EmitsFail fixed.now line.now (map (emission_of its) emits.old) self.old.reading self.new.reading (R.remaining input.old) (R.remaining input.new) n)) }
     {
         while let Some(emission) = emits.pop_first() {
             self.emit(fixed, line, &emission, input)?;

@@ -5,3 +5,9 @@ returns-clause-covered g c = c.inspect_and_mark.ensures.covered
 
 pub returns-clause-refused : goal.returns-clause-refused
 returns-clause-refused g c = c.inspect_and_mark.ensures.refused
+
+pub returns-clause-names : goal.returns-clause-names
+returns-clause-names g c = c.inspect_and_mark.ensures.names
+
+pub returns-clause-paths : goal.returns-clause-paths
+returns-clause-paths g c = c.inspect_and_mark.ensures.paths

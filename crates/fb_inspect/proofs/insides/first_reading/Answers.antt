@@ -3,10 +3,10 @@ use Rattle.fb_wave.proofs.lemmas.Forming.{ShowsForm}
 use Rattle.fb_inspect.proofs.insides.first_reading.Goals as goal
 
 pub returns-clause-read : goal.returns-clause-read
-returns-clause-read g c = c.in_ok-next_line.ensures.read
+returns-clause-read g c = c.in_ok-read_on.ensures.read
 
 pub returns-clause-first : goal.returns-clause-first
-returns-clause-first g c = c.in_ok-next_line.ensures.line
+returns-clause-first g c = c.in_ok-read_on.ensures.line
 
 pub returns-clause-form : goal.returns-clause-form
 returns-clause-form g c = subst (λ (u : List ℕ). ShowsForm c.form_of-form.result u) c.as_slice.ensures.value c.form_of-form.ensures.form

@@ -1,5 +1,5 @@
 -- The next line of a walk: an event, an end that may not come there, or none.
-use Rattle.fb_inspect.proofs.lemmas.Common.{◌≡◌, ℕ, Bool, true, false, List, [], ◌∷◌, ◌++◌, map, refl, sym, ap, subst, ◌∙◌, inl, inr, append-nil, take_through, All-nil, line_of, AtStop, System, last_line, lines_text, Form, Line, StopMark, Reason, Divide, Range, Steps, ending_of, Outcome, Stop, last_tick, IsEndOf, IsLineOf, IsTextOf, HasNames, all_lines, last_look, IsNext, Taking, opening_look, IsWrongLine, OfRefusal, StandsWell, Watches, MayEnd, Ahead, InspectError, Refused, Next, Walk}
+use Rattle.fb_inspect.proofs.lemmas.Common.{◌≡◌, ℕ, Bool, true, false, List, [], ◌∷◌, ◌++◌, map, refl, sym, ap, subst, ◌∙◌, inl, inr, append-nil, take_through, All-nil, line_of, AtStop, System, last_line, lines_text, Form, Line, StopMark, Reason, Divide, Range, Steps, ending_of, Outcome, Stop, last_tick, IsEndOf, IsLineOf, IsTextOf, HasNames, all_lines, last_look, IsNext, Taking, opening_look, IsWrongLine, Refuses, StandsWell, Watches, MayEnd, Ahead, WalkError, Refused, Next, Walk}
 use Rattle.fb_types.specs.States as model
 use Rattle.fb_trace.specs.declared.last.Outcome.TheVariants.{End}
 use Rattle.fb_inspect.specs.Refusals.{IsWrongAfter}
@@ -83,24 +83,24 @@ module _ (sys : System) (form : Form) (steps : ℕ) (w : Walk) (a : Ahead) (rest
 
 pub wrong_end :
     (sys : System) (form : Form) (steps : ℕ) (w : Walk) (a : Ahead) (rest text : List ℕ) → HasNames sys → (well : StandsWell sys form steps w a rest text) → (end : Outcome) → next.End end ≡ w.trail.reading.next
-    → (IsEndOf sys (ending_of end) → MayEnd sys steps (last_look (opening_look sys) well.takings) (ending_of end) → ⊥) → (error : InspectError)
+    → (IsEndOf sys (ending_of end) → MayEnd sys steps (last_look (opening_look sys) well.takings) (ending_of end) → ⊥) → (error : WalkError)
     → (a.watched.is_excess ≡ true → IsStepsStop end → error ≡ Refused a.watched.number) → (a.watched.is_excess ≡ false → error ≡ Refused w.trail.reading.number)
-    → ((IsStepsStop end → ⊥) → error ≡ Refused w.trail.reading.number) → OfRefusal (λ n. IsWrongLine sys steps n text) error
+    → ((IsStepsStop end → ⊥) → error ≡ Refused w.trail.reading.number) → Refuses (λ n. IsWrongLine sys steps n text) error
 wrong_end sys form steps w a rest text names well end is other error back none apart = by a.watched.is_excess refl well.watched end refl
   where
     not : IsEndOf sys (ending_of end) → MayEnd sys steps (last_look (opening_look sys) well.takings) (ending_of end) → ⊥
     not can = other can
 
-    plain : error ≡ Refused w.trail.reading.number → OfRefusal (λ n. IsWrongLine sys steps n text) error
+    plain : error ≡ Refused w.trail.reading.number → Refuses (λ n. IsWrongLine sys steps n text) error
     plain e = of_number (λ n. IsWrongLine sys steps n text) error w.trail.reading.number e (nothing sys form steps w a rest text names well end is not)
 
-    for_steps : (m : StopMark) → end ≡ Stop m → a.watched.is_excess ≡ true → Watches sys form steps well.takings a.watched.number a.watched.text.items true → (r : Reason) → m.reason ≡ r → OfRefusal (λ n. IsWrongLine sys steps n text) error
+    for_steps : (m : StopMark) → end ≡ Stop m → a.watched.is_excess ≡ true → Watches sys form steps well.takings a.watched.number a.watched.text.items true → (r : Reason) → m.reason ≡ r → Refuses (λ n. IsWrongLine sys steps n text) error
     for_steps m e set watched Steps reason =
         of_number (λ n. IsWrongLine sys steps n text) error a.watched.number (back set (subst IsStepsStop (sym e) reason)) (many sys form steps w a rest text names well end is not m e reason a.watched.number a.watched.text.items watched)
     for_steps m e set watched Divide reason = plain (apart (λ s. let h : m.reason ≡ Steps = subst IsStepsStop e s in let both : Steps ≡ Divide = sym h ∙ reason in cc))
     for_steps m e set watched Range reason = plain (apart (λ s. let h : m.reason ≡ Steps = subst IsStepsStop e s in let both : Steps ≡ Range = sym h ∙ reason in cc))
 
-    by : (x : Bool) → a.watched.is_excess ≡ x → Watches sys form steps well.takings a.watched.number a.watched.text.items x → (o : Outcome) → end ≡ o → OfRefusal (λ n. IsWrongLine sys steps n text) error
+    by : (x : Bool) → a.watched.is_excess ≡ x → Watches sys form steps well.takings a.watched.number a.watched.text.items x → (o : Outcome) → end ≡ o → Refuses (λ n. IsWrongLine sys steps n text) error
     by false set watched o e = plain (none set)
     by true set watched (End h) e = plain (apart (λ s. subst IsStepsStop e s))
     by true set watched (Stop m) e = for_steps m e set watched m.reason refl

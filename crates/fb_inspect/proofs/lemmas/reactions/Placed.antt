@@ -1,6 +1,6 @@
 -- Where a chart is after a part of a reaction, and what holds of the last call of a function.
 use Rattle.fb_inspect.proofs.lemmas.Common.{◌≡◌, ◌<◌, get_or, length, ℕ, List, [], Option, Some, None, Result, Ok, Err, refl, sym, ◌∙◌, ap, subst, IfOk, IfSome, OnErr, OnOk, option_map, slice_get, Inputs, Name, BasicType, state_at, PortTable, ChartMarks}
-use Rattle.fb_types.proofs.Common.{get_or_from_slice_get}
+use Rattle.fb_types.proofs.Common.{IsSome, get_or_from_slice_get}
 use Rattle.fb_types.proofs.lemmas.lists.ByIndex.{element_at}
 use Rattle.fb_st.specs.declared.frame.Slot.{Slot}
 use Rattle.fb_ecc.specs.Indexes.{index}
@@ -58,3 +58,7 @@ item_is xs i x within is =
 -- the table of a system
 pub of_table : (o : Option PortTable) (t : PortTable) (s : Inputs) → o ≡ Some t → IfSome o (λ t. t.system.now ≡ s) → t.system.now ≡ s
 of_table o t s is are = subst (λ (o : Option PortTable). IfSome o (λ t. t.system.now ≡ s)) is are
+
+pub no_table : (o : Option PortTable) → o ≡ None → IsSome o → ⊥
+no_table None none some = absurd cc
+no_table (Some t) none some = absurd cc

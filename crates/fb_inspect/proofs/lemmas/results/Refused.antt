@@ -1,16 +1,14 @@
 -- Lines that were read up to one that is refused.
-use Rattle.fb_inspect.proofs.lemmas.Common.{◌≡◌, ℕ, List, [], ◌∷◌, ◌++◌, map, Option, Some, None, Result, Ok, Err, refl, sym, ap, subst, ◌∙◌, append_assoc, append-nil, All, IfErr, take_through, Consumes, Consumes-trans, map-append, All-append, All-head, All-nil, All-tail, Emission, emission_of, line_of, path_at, ports_at, System, lines_text, Form, Line, IsFirstLine, IsAlone, emission_line, EmitsGo, Goes, IsLineAt, StaysAlone, EmitsFail, OfRefusal, InspectError, Refused, Reading, Trail}
+use Rattle.fb_inspect.proofs.lemmas.Common.{◌≡◌, ℕ, List, [], ◌∷◌, ◌++◌, map, Option, Some, None, Result, Ok, Err, refl, sym, ap, subst, ◌∙◌, append_assoc, append-nil, All, IfErr, take_through, Consumes, Consumes-trans, map-append, All-append, All-head, All-nil, All-tail, Emission, emission_of, line_of, path_at, ports_at, System, lines_text, Form, Line, IsFirstLine, IsAlone, emission_line, EmitsGo, Goes, IsLineAt, StaysAlone, EmitsFail, OfRefusal, Refuses, WalkError, Refused, Reading, Trail}
 use Rattle.fb_types.proofs.Common.{IsErrAnd}
 use Rattle.std.proofs.KnownBytes.{Consumes-nil}
 use Rattle.fb_types.specs.States as model
 use Rattle.fb_types.specs.declared.run.Emission as run
-use Rattle.fb_wave.specs.Faults.{IsReadFault}
 use Rattle.fb_wave.proofs.lemmas.Handing.{on_passed}
-use Rattle.fb_wave.specs.declared.error.WaveError.{WaveError}
-use Rattle.fb_wave.specs.declared.error.WaveError.TheVariants as wave
-use Rattle.fb_inspect.specs.Faults.{fault_of_line}
-use Rattle.fb_inspect.specs.Refusals.{HasRead, IsNoRefusal, IsOther}
-use Rattle.fb_inspect.specs.declared.error.InspectError.TheVariants.{Names, Unknown, Memory, Read, Write}
+use Rattle.fb_inspect.specs.Faults.{error_of_walk}
+use Rattle.fb_inspect.specs.Refusals.{HasRead, IsNamesFault, IsNoRefusal, IsOther}
+use Rattle.fb_inspect.specs.declared.error.InspectError.TheVariants as error
+use Rattle.fb_inspect.specs.declared.walk.error.WalkError.TheVariants.{Memory, Read, Write}
 use Rattle.fb_inspect.proofs.lemmas.lines.Emitted.{emissions_are}
 use Rattle.fb_inspect.proofs.lemmas.lines.Moving.{counted_then, lines-append, plus_none}
 
@@ -23,45 +21,57 @@ alone_first (Some x) (Some y) line took first old alone = first ∙ ap (take_thr
 -- ---- Errors
 
 -- an error that is none of a line says anything of one
-pub none_refused : (e : InspectError) (P : ℕ → Type 0) → IsNoRefusal e → OfRefusal P e
+pub none_refused : (e : WalkError) (P : ℕ → Type 0) → IsNoRefusal e → Refuses P e
 none_refused (Refused n) P none = absurd none
-none_refused Names P none = tt
-none_refused Unknown P none = tt
 none_refused Memory P none = tt
 none_refused Read P none = tt
 none_refused (Write n) P none = tt
 
-pub refused_then : (e : InspectError) (P Q : ℕ → Type 0) → OfRefusal P e → ((n : ℕ) → P n → Q n) → OfRefusal Q e
+pub refused_then : (e : WalkError) (P Q : ℕ → Type 0) → Refuses P e → ((n : ℕ) → P n → Q n) → Refuses Q e
 refused_then (Refused n) P Q h f = f n h
-refused_then Names P Q h f = tt
-refused_then Unknown P Q h f = tt
 refused_then Memory P Q h f = tt
 refused_then Read P Q h f = tt
 refused_then (Write n) P Q h f = tt
 
-pub err_refused : {A : Type 0} (r : Result A InspectError) (P Q : ℕ → Type 0) → IfErr r (OfRefusal P) → ((n : ℕ) → P n → Q n) → IfErr r (OfRefusal Q)
+pub err_refused : {A : Type 0} (r : Result A WalkError) (P Q : ℕ → Type 0) → IfErr r (Refuses P) → ((n : ℕ) → P n → Q n) → IfErr r (Refuses Q)
 err_refused (Ok x) P Q h f = tt
 err_refused (Err e) P Q h f = refused_then e P Q h f
 
-pub err_none : {A : Type 0} (r : Result A InspectError) (P : ℕ → Type 0) → IfErr r IsNoRefusal → IfErr r (OfRefusal P)
+pub err_none : {A : Type 0} (r : Result A WalkError) (P : ℕ → Type 0) → IfErr r IsNoRefusal → IfErr r (Refuses P)
 err_none (Ok x) P h = tt
 err_none (Err e) P h = none_refused e P h
 
 -- an error that was passed on
 pub err_passed :
-    {A : Type 0} (r : Result A InspectError) (e : InspectError) (P Q : ℕ → Type 0) → IsErrAnd r (λ g. g ≡ e) → OfRefusal P e → ((n : ℕ) → P n → Q n) → IfErr r (OfRefusal Q)
-err_passed r e P Q is h f = on_passed r e (OfRefusal Q) is (refused_then e P Q h f)
+    {A : Type 0} (r : Result A WalkError) (e : WalkError) (P Q : ℕ → Type 0) → IsErrAnd r (λ g. g ≡ e) → Refuses P e → ((n : ℕ) → P n → Q n) → IfErr r (Refuses Q)
+err_passed r e P Q is h f = on_passed r e (Refuses Q) is (refused_then e P Q h f)
 
-pub none_passed : {A : Type 0} (r : Result A InspectError) (e : InspectError) (Q : ℕ → Type 0) → IsErrAnd r (λ g. g ≡ e) → IsNoRefusal e → IfErr r (OfRefusal Q)
-none_passed r e Q is none = on_passed r e (OfRefusal Q) is (none_refused e Q none)
+pub none_passed : {A : Type 0} (r : Result A WalkError) (e : WalkError) (Q : ℕ → Type 0) → IsErrAnd r (λ g. g ≡ e) → IsNoRefusal e → IfErr r (Refuses Q)
+none_passed r e Q is none = on_passed r e (Refuses Q) is (none_refused e Q none)
 
--- the reader failed
-pub fault_none : (w : WaveError) → IsReadFault w → IsNoRefusal (fault_of_line w)
-fault_none (wave.Refused n) fault = fault
-fault_none wave.Names fault = tt
-fault_none wave.Memory fault = tt
-fault_none wave.Read fault = tt
-fault_none (wave.Write n) fault = tt
+-- what is said of an error of a walk is said of what is answered
+pub walk_refuses : (e : WalkError) (P : ℕ → Type 0) → Refuses P e → OfRefusal P (error_of_walk e)
+walk_refuses (Refused n) P h = h
+walk_refuses Memory P h = tt
+walk_refuses Read P h = tt
+walk_refuses (Write n) P h = tt
+
+-- out of memory, no names are at fault
+pub memory_names : (sys : System) → IsNamesFault sys error.Memory
+memory_names sys same names = absurd (cc)
+
+-- a walk does not find names or paths at fault
+pub walk_names : (sys : System) (e : WalkError) → IsNamesFault sys (error_of_walk e)
+walk_names sys (Refused n) same names = absurd (cc)
+walk_names sys Memory same names = absurd (cc)
+walk_names sys Read same names = absurd (cc)
+walk_names sys (Write n) same names = absurd (cc)
+
+pub walk_paths : (e : WalkError) → error_of_walk e ≡ error.Unknown → ⊥
+walk_paths (Refused n) same = cc
+walk_paths Memory same = cc
+walk_paths Read same = cc
+walk_paths (Write n) same = cc
 
 -- ---- Lines
 

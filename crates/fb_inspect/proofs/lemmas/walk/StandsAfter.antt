@@ -1,5 +1,5 @@
 -- Where a walk stands after a taking, and which line is wrong where it does not go on.
-use Rattle.fb_inspect.proofs.lemmas.Common.{◌≡◌, ◌⊎◌, ℕ, zero, suc, ◌+◌, Bool, List, [], ◌∷◌, ◌++◌, length, map, Option, Some, None, Result, Ok, refl, sym, ap, subst, ◌∙◌, inl, inr, append_assoc, append-nil, arith, length-append, All, IfSome, Vec, take_through, append_cancel_left, map-append, All-append, All-cons, All-head, All-nil, All-tail, Basic, Composite, Emission, Event, Kind, system_of, line_of, path_at, AtStop, System, last_line, line_text, lines_text, Key, BasicType, BlockType, Form, One, Two, Line, Reason, Steps, last_tick, IsLineOf, IsTextOf, PortTable, IsOwnLine, all_lines, last_look, IsAlone, IsNext, IsTaking, IsTakingAt, IsTakingWith, Look, Taking, emission_line, left_at, most, opening_look, taking_lines, IsLineAt, FailsBy, IsWrongLine, steps_stop, AreAhead, GoesAfter, IsLeft, Watches, IsLookOf, WalkTakes, unread, Ahead, InspectError, Reading, Step, Ended, Trail, Walk, Stop}
+use Rattle.fb_inspect.proofs.lemmas.Common.{◌≡◌, ◌⊎◌, ℕ, zero, suc, ◌+◌, Bool, List, [], ◌∷◌, ◌++◌, length, map, Option, Some, None, Result, Ok, refl, sym, ap, subst, ◌∙◌, inl, inr, append_assoc, append-nil, arith, length-append, All, IfSome, Vec, take_through, append_cancel_left, map-append, All-append, All-cons, All-head, All-nil, All-tail, Basic, Composite, Emission, Event, Kind, system_of, line_of, path_at, AtStop, System, last_line, line_text, lines_text, Key, BasicType, BlockType, Form, One, Two, Line, Reason, Steps, last_tick, IsLineOf, IsTextOf, PortTable, IsOwnLine, all_lines, last_look, IsAlone, IsNext, IsTaking, IsTakingAt, IsTakingWith, Look, Taking, emission_line, left_at, most, opening_look, taking_lines, IsLineAt, FailsBy, IsWrongLine, steps_stop, AreAhead, GoesAfter, IsLeft, Watches, IsLookOf, WalkTakes, unread, Ahead, WalkError, Reading, Step, Ended, Trail, Walk, Stop}
 use Rattle.fb_types.specs.States as model
 use Rattle.fb_wave.specs.Waves.{AreLinesOf}
 use Rattle.fb_wave.proofs.lemmas.Lining.{line_not_last, line_one}
@@ -520,7 +520,7 @@ watched_step _ form steps takings w b c line rest text CutOff one two _ watched 
 
 -- where what is left has another name
 pub goes_left :
-    (sys : System) (form : Form) (steps : ℕ) (w : Walk) (a : Ahead) (rest text : List ℕ) (remaining : Option (List ℕ)) (r : Result Step InspectError) → remaining ≡ Some rest
+    (sys : System) (form : Form) (steps : ℕ) (w : Walk) (a : Ahead) (rest text : List ℕ) (remaining : Option (List ℕ)) (r : Result Step WalkError) → remaining ≡ Some rest
     → GoesAfter sys form steps w a (Some rest) text r → GoesAfter sys form steps w a remaining text r
 goes_left sys form steps w a rest text remaining r is goes = subst (λ (o : Option (List ℕ)). GoesAfter sys form steps w a o text r) (sym is) goes
 

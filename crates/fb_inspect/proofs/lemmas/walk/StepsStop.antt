@@ -1,5 +1,5 @@
 -- The event after which a trace may stop for its steps: which line is wrong where it does not.
-use Rattle.fb_inspect.proofs.lemmas.Common.{◌≡◌, ◌⊎◌, ℕ, Bool, true, false, List, [], ◌∷◌, ◌++◌, map, Option, Some, None, refl, sym, ap, subst, ◌∙◌, inl, inr, append_assoc, All-cons, system_of, line_of, System, line_text, lines_text, BlockType, Form, Line, Reason, Steps, IsLineOf, PortTable, KeepSteps, KeepsLimit, all_lines, last_look, limited, IsAlone, IsTaking, Look, Taking, left_at, opening_look, FailsBy, IsWrongLine, OfRefusal, steps_stop, AreAhead, Watches, WalkTakes, unread, Ahead, InspectError, Refused, Reading, Walk}
+use Rattle.fb_inspect.proofs.lemmas.Common.{◌≡◌, ◌⊎◌, ℕ, Bool, true, false, List, [], ◌∷◌, ◌++◌, map, Option, Some, None, refl, sym, ap, subst, ◌∙◌, inl, inr, append_assoc, All-cons, system_of, line_of, System, line_text, lines_text, BlockType, Form, Line, Reason, Steps, IsLineOf, PortTable, KeepSteps, KeepsLimit, all_lines, last_look, limited, IsAlone, IsTaking, Look, Taking, left_at, opening_look, FailsBy, IsWrongLine, Refuses, steps_stop, AreAhead, Watches, WalkTakes, unread, Ahead, WalkError, Refused, Reading, Walk}
 use Rattle.fb_types.specs.States as model
 use Rattle.fb_inspect.specs.Refusals.{StopsSoon}
 use Rattle.fb_inspect.specs.walk.Standing.{IsNear, StandsAt}
@@ -55,8 +55,8 @@ module _ (t : PortTable) (form : Form) (takings : List Taking) (w : Walk) (a : A
 
   -- some resource had used more than the steps in some tick
   pub last_kept :
-      (e : Bool) (k : ℕ) (event : List ℕ) → Watches sys form steps takings k event e → (KeepSteps sys steps look → ⊥) → (error : InspectError) → (e ≡ true → error ≡ Refused k)
-      → OfRefusal (λ n. IsWrongLine sys steps n text) error
+      (e : Bool) (k : ℕ) (event : List ℕ) → Watches sys form steps takings k event e → (KeepSteps sys steps look → ⊥) → (error : WalkError) → (e ≡ true → error ≡ Refused k)
+      → Refuses (λ n. IsWrongLine sys steps n text) error
   last_kept true k event many over error is =
       of_number (λ n. IsWrongLine sys steps n text) error k (is refl)
       (too_many_wrong sys form at.names steps takings w a.text.items a.last.items rest text at.stands k event many (line ∷ rows) (All-cons (IsLineOf sys) line rows at.is.line (λ n d h. (ahead.each n d h).line)) line.key.tick line.key.resource

@@ -1,9 +1,12 @@
-use Rattle.fb_inspect.proofs.lemmas.Common.{subst, ◌∙◌, IfSome, OnErr, OnOk, IfErr, ◌≤◌, Inputs, system_of, HasNames, most, IsWrongAt, OfRefusal}
-use Rattle.fb_inspect.proofs.lemmas.reactions.Placed.{err_any, err_then, of_table}
-use Rattle.fb_inspect.specs.StateWaves.{IsShownWith, WritesRead}
+use Rattle.fb_inspect.proofs.lemmas.Common.{◌≡◌, ℕ, subst, sym, ◌∙◌, IfSome, ◌≤◌, Inputs, system_of, HasNames, most, IsWrongAt, OfRefusal, Refuses}
+use Rattle.fb_inspect.proofs.lemmas.reactions.Placed.{err_any, no_table, of_table}
+use Rattle.fb_inspect.specs.Refusals.{IsNamesFault}
+use Rattle.fb_inspect.specs.declared.error.InspectError.TheVariants as error
+use Rattle.fb_wave.proofs.lemmas.Handing.{on_passed}
+use Rattle.fb_inspect.specs.StateWaves.{IsShownWith, WritesFront, WritesRead}
 use Rattle.fb_inspect.proofs.lemmas.dump.Ending.{front_none, front_nothing}
 use Rattle.fb_inspect.proofs.lemmas.results.Joined.{ok_passed}
-use Rattle.fb_inspect.proofs.lemmas.results.Refused.{none_passed}
+use Rattle.fb_inspect.proofs.lemmas.results.Refused.{memory_names, walk_names, walk_paths, walk_refuses}
 use Rattle.fb_inspect.proofs.dump.states.write_states.Goals as goal
 
 pub returns-in_err-ports-clause-fault : goal.returns-in_err-ports-clause-fault
@@ -32,39 +35,74 @@ pub returns-clause-whole : goal.returns-clause-whole
 returns-clause-whole g c =
     let old = g.W.Write.contents c.args.out.now in
     let new = g.W.Write.contents c.write_with.new.out in
-    subst (λ (s : Inputs). OnOk c.write_with.result (IfSome (g.R.Read.remaining c.args.input.now) (λ text. IsShownWith c.args.terms.cut (system_of s) c.args.terms.steps text old new)))
-    (of_table _ c.in-Some.table _ c.in-Some.is c.in_ok-table.ensures.system ∙ c.in_ok-ports.ensures) c.write_with.ensures.whole
+    subst (λ (s : Inputs). IfSome (g.R.Read.remaining c.args.input.now) (λ text. IsShownWith c.args.terms.cut (system_of s) c.args.terms.steps text old new))
+    (of_table _ c.in-Some.table _ c.in-Some.is c.in_ok-table.ensures.system ∙ c.in_ok-ports.ensures) c.in_ok-write_with.ensures.whole
 
-pub returns-clause-fault : goal.returns-clause-fault
-returns-clause-fault g c =
+pub returns-in_err-write_with-clause-fault : goal.returns-in_err-write_with-clause-fault
+returns-in_err-write_with-clause-fault g c =
     let old = g.W.Write.contents c.args.out.now in
     let new = g.W.Write.contents c.write_with.new.out in
-    err_then c.write_with.result _ _
-    (subst (λ (s : Inputs). OnErr c.write_with.result (WritesRead (system_of s) c.args.terms.steps (g.R.Read.remaining c.args.input.now) old new))
-    (of_table _ c.in-Some.table _ c.in-Some.is c.in_ok-table.ensures.system ∙ c.in_ok-ports.ensures) c.write_with.ensures.fault)
-    (λ (read : WritesRead (system_of c.args.system.now) c.args.terms.steps (g.R.Read.remaining c.args.input.now) old new). read.front)
+    err_any c.from_residual-in_err-write_with.result _
+    (subst (λ (s : Inputs). WritesFront (system_of s) c.args.terms.steps old new) (of_table _ c.in-Some.table _ c.in-Some.is c.in_ok-table.ensures.system ∙ c.in_ok-ports.ensures) c.in_err-write_with.ensures.fault.front)
 
-pub returns-clause-read : goal.returns-clause-read
-returns-clause-read g c =
+pub returns-in_err-write_with-clause-read : goal.returns-in_err-write_with-clause-read
+returns-in_err-write_with-clause-read g c =
     let old = g.W.Write.contents c.args.out.now in
     let new = g.W.Write.contents c.write_with.new.out in
-    subst (λ (s : Inputs). OnErr c.write_with.result (WritesRead (system_of s) c.args.terms.steps (g.R.Read.remaining c.args.input.now) old new))
-    (of_table _ c.in-Some.table _ c.in-Some.is c.in_ok-table.ensures.system ∙ c.in_ok-ports.ensures) c.write_with.ensures.fault
+    err_any c.from_residual-in_err-write_with.result _
+    (subst (λ (s : Inputs). WritesRead (system_of s) c.args.terms.steps (g.R.Read.remaining c.args.input.now) old new) (of_table _ c.in-Some.table _ c.in-Some.is c.in_ok-table.ensures.system ∙ c.in_ok-ports.ensures) c.in_err-write_with.ensures.fault)
 
-pub returns-clause-refused : goal.returns-clause-refused
-returns-clause-refused g c =
-    subst
-    (λ (s : Inputs). HasNames (system_of s) → c.args.terms.steps ≤ most → IfErr c.write_with.result (OfRefusal (λ n. IfSome (g.R.Read.remaining c.args.input.now) (IsWrongAt (system_of s) c.args.terms.steps n))))
-    (of_table _ c.in-Some.table _ c.in-Some.is c.in_ok-table.ensures.system ∙ c.in_ok-ports.ensures) c.write_with.ensures.refused
+pub returns-in_err-write_with-clause-refused : goal.returns-in_err-write_with-clause-refused
+returns-in_err-write_with-clause-refused g c = λ names few.
+    let e = c.in_err-write_with.field-0.0 in
+    let wrong : ℕ → Type 0 = λ n. IfSome (g.R.Read.remaining c.args.input.now) (IsWrongAt (system_of c.args.system.now) c.args.terms.steps n) in
+    on_passed _ _ (OfRefusal wrong) c.from_residual-in_err-write_with.ensures.1
+    (walk_refuses e wrong
+    (subst
+    (λ (s : Inputs). HasNames (system_of s) → c.args.terms.steps ≤ most → Refuses (λ n. IfSome (g.R.Read.remaining c.args.input.now) (IsWrongAt (system_of s) c.args.terms.steps n)) e)
+    (of_table _ c.in-Some.table _ c.in-Some.is c.in_ok-table.ensures.system ∙ c.in_ok-ports.ensures) c.in_err-write_with.ensures.refused names few))
+
+pub returns-in_err-write_with-clause-whole : goal.returns-in_err-write_with-clause-whole
+returns-in_err-write_with-clause-whole g c = ok_passed c.from_residual-in_err-write_with.result _ _ c.from_residual-in_err-write_with.ensures.1
 
 pub returns-in_err-ports-clause-whole : goal.returns-in_err-ports-clause-whole
 returns-in_err-ports-clause-whole g c = ok_passed c.from_residual.result _ _ c.from_residual.ensures.1
 
 pub returns-in_err-ports-clause-refused : goal.returns-in_err-ports-clause-refused
-returns-in_err-ports-clause-refused g c = λ _ _. none_passed _ _ _ c.from_residual.ensures.1 tt
+returns-in_err-ports-clause-refused g c = λ _ _. on_passed _ _ (OfRefusal _) c.from_residual.ensures.1 tt
 
 pub returns-in_err-table-clause-whole : goal.returns-in_err-table-clause-whole
 returns-in_err-table-clause-whole g c = ok_passed c.from_residual-in_err-table.result _ _ c.from_residual-in_err-table.ensures.1
 
 pub returns-in_err-table-clause-refused : goal.returns-in_err-table-clause-refused
-returns-in_err-table-clause-refused g c = λ _ _. none_passed _ _ _ c.from_residual-in_err-table.ensures.1 tt
+returns-in_err-table-clause-refused g c = λ _ _. on_passed _ _ (OfRefusal _) c.from_residual-in_err-table.ensures.1 tt
+
+-- ---- Names and paths
+
+pub returns-in_err-ports-clause-names : goal.returns-in_err-ports-clause-names
+returns-in_err-ports-clause-names g c = on_passed _ _ (IsNamesFault (system_of c.args.system.now)) c.from_residual.ensures.1 (memory_names _)
+
+pub returns-in_err-table-clause-names : goal.returns-in_err-table-clause-names
+returns-in_err-table-clause-names g c = on_passed _ _ (IsNamesFault (system_of c.args.system.now)) c.from_residual-in_err-table.ensures.1 (memory_names _)
+
+-- there is a table where there are names
+pub returns-in_default-clause-names : goal.returns-in_default-clause-names
+returns-in_default-clause-names g c = λ same names.
+    no_table _ c.in_default.is (c.in_ok-table.ensures.some (subst (λ (s : Inputs). HasNames (system_of s)) (sym c.in_ok-ports.ensures) names))
+
+pub returns-in_err-write_with-clause-names : goal.returns-in_err-write_with-clause-names
+returns-in_err-write_with-clause-names g c =
+    on_passed _ _ (IsNamesFault (system_of c.args.system.now)) c.from_residual-in_err-write_with.ensures.1 (walk_names _ c.in_err-write_with.field-0.0)
+
+pub returns-in_err-ports-clause-paths : goal.returns-in_err-ports-clause-paths
+returns-in_err-ports-clause-paths g c = on_passed _ _ (λ e. e ≡ error.Unknown → ⊥) c.from_residual.ensures.1 (λ same. cc)
+
+pub returns-in_err-table-clause-paths : goal.returns-in_err-table-clause-paths
+returns-in_err-table-clause-paths g c = on_passed _ _ (λ e. e ≡ error.Unknown → ⊥) c.from_residual-in_err-table.ensures.1 (λ same. cc)
+
+pub returns-in_default-clause-paths : goal.returns-in_default-clause-paths
+returns-in_default-clause-paths g c = λ same. cc
+
+pub returns-in_err-write_with-clause-paths : goal.returns-in_err-write_with-clause-paths
+returns-in_err-write_with-clause-paths g c =
+    on_passed _ _ (λ e. e ≡ error.Unknown → ⊥) c.from_residual-in_err-write_with.ensures.1 (walk_paths c.in_err-write_with.field-0.0)

@@ -1,4 +1,4 @@
-use Rattle.fb_inspect.proofs.lemmas.Common.{◌≡◌, ℕ, ◌<◌, suc, List, length, slice_set, refl, ap, sym, subst, inl, ◌∙◌, arith, IfErr, OnOk, ◌&&◌, if◌then◌else◌, slice_get, take, same_Some, system_of, path_at, IsTaking, IsTakingAt, left_at, FailsBy, OfRefusal, IsAlone, WalkTakes, Reading, Remembered, Trail, TickSteps, Walk}
+use Rattle.fb_inspect.proofs.lemmas.Common.{◌≡◌, ℕ, ◌<◌, suc, List, length, slice_set, refl, ap, sym, subst, inl, ◌∙◌, arith, IfErr, OnOk, ◌&&◌, if◌then◌else◌, slice_get, take, same_Some, system_of, path_at, IsTaking, IsTakingAt, left_at, FailsBy, Refuses, IsAlone, WalkTakes, Reading, Remembered, Trail, TickSteps, Walk}
 use Rattle.fb_types.proofs.Common.{length-set}
 use Rattle.fb_types.proofs.lemmas.lists.ByIndex.{element_at}
 use Rattle.fb_net.proofs.lemmas.blocks.OtherBlocks.{get_set_same}
@@ -130,9 +130,9 @@ returns-clause-refused g c = λ look names plain is.
     let resource = subst (λ (n : ℕ). l.key.resource < n) (sym counted) c.requires.is.line.belongs.resource in
     let there = item_is c.use_step.new.steps.items l.key.resource c.index_mut-steps.result.now resource c.index_mut-steps.ensures.value in
     let same : c.index_mut-steps.result.now ≡ stepped.after = same_Some c.index_mut-steps.result.now stepped.after (sym there ∙ stood) in
-    subst (λ (r : Reading). IfErr c.react_kept-stop.result (OfRefusal (FailsBy (IsTaking sys limit look) sys form l old r before after))) (sym (ap (λ (w : Walk). w.trail.reading) c.leave_out.ensures.others))
+    subst (λ (r : Reading). IfErr c.react_kept-stop.result (Refuses (FailsBy (IsTaking sys limit look) sys form l old r before after))) (sym (ap (λ (w : Walk). w.trail.reading) c.leave_out.ensures.others))
     (err_refused c.react_kept-stop.result (FailsBy (IsTakingAt stepped.after.meter.left look k) sys form l old new before after) (FailsBy (IsTaking sys limit look) sys form l old new before after)
-    (subst (λ (s : TickSteps). IfErr c.react_kept-stop.result (OfRefusal (FailsBy (IsTakingAt s.meter.left look k) sys form l old new before after))) same
+    (subst (λ (s : TickSteps). IfErr c.react_kept-stop.result (Refuses (FailsBy (IsTakingAt s.meter.left look k) sys form l old new before after))) same
     (c.react_kept-stop.ensures.refused look names plain (is.are.each l.instance c.index_mut-block.result.now at)))
     (λ n fails. fails_whole sys limit look l stepped.after.meter.left used c.if-line-gt-LATEST_TICK.false form old new before after n fails))
 

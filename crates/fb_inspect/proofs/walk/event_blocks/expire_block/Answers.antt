@@ -1,4 +1,4 @@
-use Rattle.fb_inspect.proofs.lemmas.Common.{ap, refl, rules, subst, sym, system_of, Reading, OfRefusal, InspectError}
+use Rattle.fb_inspect.proofs.lemmas.Common.{ap, refl, rules, subst, sym, system_of, Reading, Refuses, WalkError}
 use Rattle.fb_event.specs.Seen.{seen_memory}
 use Rattle.fb_inspect.specs.walk.OfWalk.{IsNext}
 use Rattle.fb_inspect.proofs.lemmas.reactions.Timed.{timer_goes}
@@ -24,7 +24,7 @@ returns-clause-next g c =
 pub returns-then-not-branch-clause-refused : goal.returns-then-not-branch-clause-refused
 returns-then-not-branch-clause-refused g c = λ s kept names plain.
     let sys = system_of c.args.fixed.now.table.now.system.now in
-    subst (λ (e : InspectError). OfRefusal (λ n. IsNotDue sys c.args.block.now.state.kind s c.args.line.now c.args.trail.now.reading c.refusal.new.self.reading n) e) (sym c.refusal.ensures.refused)
+    subst (λ (e : WalkError). Refuses (λ n. IsNotDue sys c.args.block.now.state.kind s c.args.line.now c.args.trail.now.reading c.refusal.new.self.reading n) e) (sym c.refusal.ensures.refused)
     (record {
       same = c.refusal.ensures.reading;
       number_is = refl;

@@ -1,8 +1,7 @@
-use Rattle.fb_types.proofs.Common.{◌≡◌, ◌<◌, ◌+◌, length, vec_len, sym, ◌∙◌, eqb-false, eqb-true, nil_from_length, IfSome, err_from_is_err_and}
+use Rattle.fb_types.proofs.Common.{◌≡◌, ◌<◌, ◌+◌, length, vec_len, sym, ◌∙◌, eqb-false, eqb-true, nil_from_length, IfSome}
 use Rattle.fb_inspect.specs.walk.Walking.{unread}
 use Rattle.fb_inspect.proofs.lemmas.dump.Ending.{end_left, more_left, some_left}
-use Rattle.fb_inspect.proofs.lemmas.results.Errors.{read_refuses}
-use Rattle.fb_inspect.proofs.lemmas.results.Refused.{none_refused, refused_then}
+use Rattle.fb_inspect.proofs.lemmas.results.Refused.{none_passed, refused_then}
 use Rattle.fb_inspect.proofs.walk.reading.Reading.finish.Goals as goal
 
 pub returns-then-not-is_empty-clause-refused : goal.returns-then-not-is_empty-clause-refused
@@ -12,21 +11,20 @@ returns-then-not-is_empty-clause-refused g c =
     let some = some_left text.items (g.R.Read.remaining c.args.input.now) (λ none. eqb-false (vec_len text) 0 (sym c.is_empty.ensures ∙ c.if-not-is_empty.true) (text.ok.0 ∙ none)) in
     refused_then c.refusal_after.result (λ n. n ≡ c.args.self.now.number + 1) (λ n. (n ≡ c.args.self.now.number + 1) × IfSome r (λ rest. 0 < length rest)) c.refusal_after.ensures (λ n is. (is, some))
 
-pub returns-in_err-is_over-clause-refused : goal.returns-in_err-is_over-clause-refused
-returns-in_err-is_over-clause-refused g c =
-    let q = err_from_is_err_and c.from_residual.result c.from_residual.ensures.1 in
-    rw q.1 (none_refused _ _ (read_refuses c.in_err-is_over.field-0.0 _ c.in_err-is_over.ensures.fault q.2))
+pub returns-in_err-is_all_read-clause-refused : goal.returns-in_err-is_all_read-clause-refused
+returns-in_err-is_all_read-clause-refused g c =
+    none_passed _ _ _ c.from_residual.ensures.1 c.in_err-is_all_read.ensures.fault
 
 pub returns-then-branch-clause-over : goal.returns-then-branch-clause-over
 returns-then-branch-clause-over g c =
     let text = c.args.ahead.now.text in
     end_left text.items (g.R.Read.remaining c.args.input.now)
-    (nil_from_length text.items (sym text.ok.0 ∙ eqb-true (vec_len text) 0 (sym c.is_empty.ensures ∙ c.if-not-is_empty.false))) (c.in_ok-is_over.ensures.over c.if-branch.true)
+    (nil_from_length text.items (sym text.ok.0 ∙ eqb-true (vec_len text) 0 (sym c.is_empty.ensures ∙ c.if-not-is_empty.false))) (c.in_ok-is_all_read.ensures.over c.if-branch.true)
 
 pub returns-else-branch-clause-refused : goal.returns-else-branch-clause-refused
 returns-else-branch-clause-refused g c =
     let text = c.args.ahead.now.text in
     let r = unread c.args.ahead.now (g.R.Read.remaining c.args.input.now) in
     let more = more_left text.items (g.R.Read.remaining c.args.input.now)
-    (nil_from_length text.items (sym text.ok.0 ∙ eqb-true (vec_len text) 0 (sym c.is_empty.ensures ∙ c.if-not-is_empty.false))) (c.in_ok-is_over.ensures.more c.if-branch.false) in
+    (nil_from_length text.items (sym text.ok.0 ∙ eqb-true (vec_len text) 0 (sym c.is_empty.ensures ∙ c.if-not-is_empty.false))) (c.in_ok-is_all_read.ensures.more c.if-branch.false) in
     refused_then c.refusal_after-else-branch.result (λ n. n ≡ c.args.self.now.number + 1) (λ n. (n ≡ c.args.self.now.number + 1) × IfSome r (λ rest. 0 < length rest)) c.refusal_after-else-branch.ensures (λ n is. (is, more))
