@@ -25,6 +25,7 @@ use Rattle.fb_inspect.specs.StateWaves as state_waves
 use Rattle.fb_inspect.specs.walk.Walking as walking
 use Rattle.fb_inspect.specs.dump.Waving as waving
 use Rattle.fb_inspect.specs.declared.error.InspectError.{InspectError}
+use Rattle.fb_inspect.specs.declared.walk.error.Refusal.{Refusal}
 use Rattle.fb_inspect.specs.declared.dump.before.Before.{Before}
 use Rattle.fb_inspect.specs.declared.walk.blocks.Remembered.{Remembered}
 use Rattle.fb_inspect.specs.declared.refused.line_fault.LineFault.{LineFault}
@@ -67,6 +68,9 @@ IsLineAt i = moves.IsLineAt (system_of i)
 
 abbrev pub IsWrongAt : Inputs → (steps number : ℕ) → (text : List ℕ) → Type 0
 IsWrongAt i = refusals.IsWrongAt (system_of i)
+
+abbrev pub IsWrongFor : Inputs → (steps : ℕ) → Refusal → (text : List ℕ) → Type 0
+IsWrongFor i = refusals.IsWrongFor (system_of i)
 
 abbrev pub IsNamesFault : Inputs → InspectError → Type 0
 IsNamesFault i = refusals.IsNamesFault (system_of i)

@@ -5,7 +5,7 @@ ghost use Rattle.fb_wave.specs.OfSystem.{HasNames};
 ghost use Rattle.fb_inspect.specs.Covering.{Covers};
 ghost use Rattle.fb_inspect.specs.walk.Looks.{most};
 ghost use Rattle.fb_inspect.specs.Refusals.{OfRefusal};
-ghost use Rattle.fb_inspect.specs.OfSystem.{IsNamesFault, IsWrongAt};
+ghost use Rattle.fb_inspect.specs.OfSystem.{IsNamesFault, IsWrongAt, IsWrongFor};
 ghost use Rattle.fb_inspect.specs.declared.error.InspectError.TheVariants.{Unknown};
 
 use crate::error::InspectError;
@@ -74,6 +74,8 @@ pub fn cover<R: BufRead>(
     ensures covered { IfOk result (λ covered. IfSome (R.remaining input.old) (λ text. Covers terms.cut system.now terms.steps text marks covered.marks covered.extent)) }
     ensures refused { HasNames system.now → terms.steps ≤ most
         → IfErr result (OfRefusal (λ n. IfSome (R.remaining input.old) (IsWrongAt system.now terms.steps n))) }
+    ensures found { HasNames system.now → terms.steps ≤ most
+        → IfErr result (OfRefusal (λ n. IfSome (R.remaining input.old) (IsWrongFor system.now terms.steps (record { number = n; finding = refused.new.finding })))) }
     ensures names { IfErr result (IsNamesFault system.now) }
     ensures paths { IfErr result (λ e. e ≡ Unknown → ⊥) }
 {

@@ -1,10 +1,8 @@
 //! Why a trace is not inspected, or not as a whole.
 
 ghost use Rattle.std.specs.Prelude.{◌≡◌};
-ghost use Rattle.fb_inspect.specs.Faults.{error_of_walk};
 ghost use Rattle.fb_inspect.specs.declared.error.InspectError.TheVariants.{Memory};
 
-use crate::walk::error::WalkError;
 use std::alloc::AllocError;
 use thiserror::Error;
 
@@ -35,19 +33,5 @@ impl From<AllocError> for InspectError {
 
     fn from(_error: AllocError) -> InspectError {
         InspectError::Memory
-    }
-}
-
-/// Why a walk through the trace did not come to its end.
-impl From<WalkError> for InspectError {
-    ghost from_gives = { λ fault e. e ≡ error_of_walk fault };
-
-    fn from(fault: WalkError) -> InspectError {
-        match fault {
-            WalkError::Refused(line) => InspectError::Refused(line),
-            WalkError::Memory => InspectError::Memory,
-            WalkError::Read => InspectError::Read,
-            WalkError::Write(written) => InspectError::Write(written),
-        }
     }
 }

@@ -16,7 +16,7 @@ ghost use Rattle.fb_wave.specs.OfSystem.{HasNames};
 ghost use Rattle.fb_inspect.specs.walk.Looks.{most};
 ghost use Rattle.fb_inspect.specs.Refusals.{IsNoRefusal, OfRefusal, Refuses};
 ghost use Rattle.fb_inspect.specs.walk.Walking.{AreUnused};
-ghost use Rattle.fb_inspect.specs.OfSystem.{BeginsWalk, IsNamesFault, IsNext, IsPathFault, IsShownBy, IsWrongAt, ShowsFront, ShowsRead, AreShown};
+ghost use Rattle.fb_inspect.specs.OfSystem.{BeginsWalk, IsNamesFault, IsNext, IsPathFault, IsShownBy, IsWrongAt, IsWrongFor, ShowsFront, ShowsRead, AreShown};
 ghost use Rattle.fb_inspect.specs.declared.error.InspectError.TheVariants.{Unknown};
 ghost use Rattle.fb_inspect.specs.walk.OfWalk as of_walk;
 ghost use Rattle.fb_inspect.specs.walk.OfWalk.{BeginsText, IsCoveredBy, Starts};
@@ -25,7 +25,7 @@ use crate::covering::Covered;
 use crate::error::InspectError;
 use crate::filter::{EventFilter, Shown};
 use crate::refused::fault_names::instance_of;
-use crate::refused::finding::{Finding, RefusedLine};
+use crate::refused::finding::RefusedLine;
 use crate::walk::ahead::Ahead;
 use crate::walk::blocks::opened_all;
 use crate::walk::error::WalkError;
@@ -169,7 +169,6 @@ pub fn begun(
         page: Page::new(alloc),
         is_shown: true,
         marks,
-        finding: Finding::Line,
         passed: PassedLines {
             lines: Vec::new(alloc),
             are_kept: false,
@@ -191,11 +190,10 @@ pub fn is_severed(cut: Cut, line: &[u8]) -> bool
     cut == Cut::Allowed && is_unended(line)
 }
 
-/// Lends the line at which a walk has refused a trace, and why.
+/// Lends the line at which a walk has refused a trace.
 pub fn lend(alloc: Global, form: Form, trail: &mut Trail, refused: &mut RefusedLine)
     ensures marks { trail.new.marks ≡ trail.old.marks }
     ensures line { refused.new.current ≡ record { text = trail.old.reading.line; form = form; tick = trail.old.reading.tick; after_end = trail.old.reading.after_end } }
-    ensures finding { refused.new.finding ≡ trail.old.finding }
 {
     refused.current = CurrentLine {
         text: mem::replace(&mut trail.reading.line, Vec::new(alloc)),
@@ -203,7 +201,6 @@ pub fn lend(alloc: Global, form: Form, trail: &mut Trail, refused: &mut RefusedL
         tick: trail.reading.tick,
         after_end: trail.reading.after_end,
     };
-    refused.finding = mem::replace(&mut trail.finding, Finding::Line);
 }
 
 /// Goes through a trace from its first line, which the walk has read: to its end, or as far as it goes if it is cut off.
@@ -228,7 +225,7 @@ fn go_through<R: BufRead, W: Write>(
         → OnErr result (of_walk.ShowsRead fixed.now what terms.steps known (W.contents out.old) (W.contents out.new)) }
     ensures refused { (what : Selection) (rest text : List ℕ)
         → terms.steps ≤ most → of_walk.HasNames fixed.now → Starts fixed.now what walk.old → R.remaining input.old ≡ Some rest → BeginsText fixed.now walk.old.trail.reading.line.items false rest text
-        → IfErr result (Refuses (λ n. of_walk.IsWrongAt fixed.now terms.steps n text)) }
+        → IfErr result (Refuses (λ refusal. of_walk.IsWrongFor fixed.now terms.steps refusal text)) }
 {
     if is_severed(terms.cut, walk.trail.reading.line.as_slice()) {
         return walk.finish_cut(out).and(Ok(Extent::CutOff));
@@ -254,7 +251,7 @@ fn inspect_with<R: BufRead, W: Write>(
     ensures covered { IfOk result (λ covered. IfSome (R.remaining input.old) (λ text. Covers inspection.entry.terms.cut table.now.system.now inspection.entry.terms.steps text marks covered.marks covered.extent)) }
     ensures fault { OnErr result (ShowsRead table.now.system.now (selection_of inspection.entry) inspection.entry.terms.steps (R.remaining input.old) (W.contents out.old) (W.contents out.new)) }
     ensures refused { HasNames table.now.system.now → inspection.entry.terms.steps ≤ most
-        → IfErr result (Refuses (λ n. IfSome (R.remaining input.old) (IsWrongAt table.now.system.now inspection.entry.terms.steps n))) }
+        → IfErr result (Refuses (λ refusal. IfSome (R.remaining input.old) (IsWrongFor table.now.system.now inspection.entry.terms.steps refusal))) }
 {
     table.system.facts(); // for the prover: what holds of every accepted system
     let (form, reading) = first_reading(alloc, table, input)?;
@@ -296,6 +293,8 @@ pub(crate) fn inspect_and_mark<R: BufRead, W: Write>(
     ensures fault { OnErr result (ShowsRead system.now (selection_of inspection.entry) inspection.entry.terms.steps (R.remaining input.old) (W.contents out.old) (W.contents out.new)) }
     ensures refused { HasNames system.now → inspection.entry.terms.steps ≤ most
         → IfErr result (OfRefusal (λ n. IfSome (R.remaining input.old) (IsWrongAt system.now inspection.entry.terms.steps n))) }
+    ensures found { HasNames system.now → inspection.entry.terms.steps ≤ most
+        → IfErr result (OfRefusal (λ n. IfSome (R.remaining input.old) (IsWrongFor system.now inspection.entry.terms.steps (record { number = n; finding = refused.new.finding })))) }
     ensures names { IfErr result (IsNamesFault system.now) }
     ensures paths { IfErr result (λ e. e ≡ Unknown → ⊥) }
 {
@@ -303,8 +302,10 @@ pub(crate) fn inspect_and_mark<R: BufRead, W: Write>(
     let Some(table) = PortTable::of(alloc, &ports)? else {
         return Err(InspectError::Names);
     };
-    let covered = inspect_with(alloc, &table, inspection, marks, refused, input, out)?;
-    Ok(covered)
+    match inspect_with(alloc, &table, inspection, marks, refused, input, out) {
+        Ok(covered) => Ok(covered),
+        Err(error) => Err(refused.keep(error)),
+    }
 }
 
 /// Reads a trace of the system, in either form, and writes it with what happens inside the blocks between its lines.
@@ -339,6 +340,8 @@ pub fn inspect<R: BufRead, W: Write>(
     ensures read { OnErr result (ShowsRead system.now (selection_of inspection.entry) inspection.entry.terms.steps (R.remaining input.old) (W.contents out.old) (W.contents out.new)) }
     ensures refused { HasNames system.now → inspection.entry.terms.steps ≤ most
         → IfErr result (OfRefusal (λ n. IfSome (R.remaining input.old) (IsWrongAt system.now inspection.entry.terms.steps n))) }
+    ensures found { HasNames system.now → inspection.entry.terms.steps ≤ most
+        → IfErr result (OfRefusal (λ n. IfSome (R.remaining input.old) (IsWrongFor system.now inspection.entry.terms.steps (record { number = n; finding = refused.new.finding })))) }
     ensures names { IfErr result (IsNamesFault system.now) }
     ensures paths { IfErr result (IsPathFault system.now inspection.entry.only.now) }
 {

@@ -6,7 +6,8 @@
 //!   its reaction gives. The writer gets it with the transitions, algorithms and memory of these reactions between its
 //!   lines. After an error it has the first bytes of that.
 //! - The line for which `insides::inspect` or `covering::cover` refuses a trace is not what the reactions give: no
-//!   trace of a run is refused (`laws`).
+//!   trace of a run is refused (`laws`). What was found there (`Finding`) is true of the line: for example, the block emits
+//!   the event that it names, and the line is not that of this event.
 //! - `dump::states::write_states` writes the value change dump of such a trace. In it are the state of each basic block by
 //!   name, its variables that no line carries, and a mark for each event that it lost. Without the lines of the inside of
 //!   blocks that is, byte for byte, the dump that `fb_wave` writes. After an error the writer has the first bytes of such

@@ -20,12 +20,12 @@ ghost use Rattle.fb_inspect.specs.walk.Lines.{IsAlone, IsPlain};
 ghost use Rattle.fb_inspect.specs.walk.Looks.{Look, Taking, left_at, most};
 ghost use Rattle.fb_inspect.specs.Selections.{Selection, is_wanted};
 ghost use Rattle.fb_inspect.specs.walk.Walking as spec;
-ghost use Rattle.fb_inspect.specs.Refusals.{IsNoRefusal, Refuses};
+ghost use Rattle.fb_inspect.specs.Refusals.{IsNoRefusal, IsRefusalAfter, Refuses};
 ghost use Rattle.fb_inspect.specs.declared.walk.error.WalkError.TheVariants.{Refused};
 ghost use Rattle.fb_inspect.specs.walk.Standing.{IsStepsStop};
 ghost use Rattle.fb_inspect.specs.walk.Walking.{Finishes, FinishesCut, HasLimited, HasStepped, IsLookOf, MayEnd, SendsCutPart, SendsPart, unread};
 ghost use Rattle.fb_inspect.specs.declared.walk.blocks.Remembered.TheVariants as kept;
-ghost use Rattle.fb_inspect.specs.walk.OfWalk.{AreAhead, AreApart, AreKept, BeginsText, CanReact, FailsAt, GoesAfter, HasAdvanced, HasCovered, HasLook, HasNames, IsCoveredBy, IsKeptAt, IsLineOf, IsNear, IsNext, IsNextLine, IsNotNear, IsShownBy, IsTextOf, IsWrongAt, KeptGoes, LineGoes, LooksAs, ShowsRead, StandsAt, StandsWell, Starts, StepGoes, TakingFails, WalkTakes, Watches};
+ghost use Rattle.fb_inspect.specs.walk.OfWalk.{AreAhead, AreApart, AreKept, BeginsText, CanReact, FailsAt, GoesAfter, HasAdvanced, HasCovered, HasLook, HasNames, IsCoveredBy, IsKeptAt, IsLineOf, IsNear, IsNext, IsNextLine, IsNotNear, IsShownBy, IsTextOf, IsWrongFor, KeptGoes, LineGoes, LooksAs, ShowsRead, StandsAt, StandsWell, Starts, StepGoes, TakingFails, WalkTakes, Watches};
 
 pub mod ahead;
 pub mod blocks;
@@ -99,7 +99,7 @@ fn react_basic<R: BufRead>(
         unreachable!()
     };
     if !line.taken {
-        return Err(trail.refusal(Finding::Unmade));
+        return Err(trail.reading.refusal(Finding::Unmade));
     }
     trail.pass(fixed, line, input)?;
     let number = type_number(fixed.table.system, line.instance);
@@ -205,7 +205,10 @@ fn is_for_steps(reason: Reason) -> bool
 }
 
 /// What is found where a taking that ended so should have run out of steps: the reason that stopped it, or else this.
-fn found_by(stop: Option<Reason>, other: Finding) -> Finding {
+fn found_by(stop: Option<Reason>, other: Finding) -> Finding
+    ensures stopped { (reason : Reason) → stop ≡ Some reason → result ≡ Finding.Stops reason }
+    ensures other { stop ≡ None → result ≡ other }
+{
     match stop {
         Some(reason) => Finding::Stops(reason),
         None => other,
@@ -248,10 +251,10 @@ impl Walk {
         self.trail.is_shown = self.shown.may_show(line);
         let before = self.trail.page.text.len();
         if line.key.tick > LATEST_TICK {
-            return Err(self.trail.refusal(Finding::Late));
+            return Err(self.trail.reading.refusal(Finding::Late));
         }
         if !use_step(&mut self.steps, fixed.limit, &line.key) {
-            return Err(self.trail.refusal(Finding::NoStep));
+            return Err(self.trail.reading.refusal(Finding::NoStep));
         }
         let steps = &mut self.steps[line.key.resource as usize];
         let block = &mut self.blocks[line.instance as usize];
@@ -316,26 +319,26 @@ impl Walk {
     /// The refusal of a trace that stops where a resource has used up its steps: of the first event after which a
     /// resource had used too many, or else of the next line, for what was found.
     fn refusal_for_steps(&mut self, ahead: &mut Ahead, finding: Finding) -> WalkError
-        ensures back { ahead.old.watched.is_excess ≡ true → result ≡ Refused ahead.old.watched.number }
-        ensures none { ahead.old.watched.is_excess ≡ false → result ≡ Refused self.old.trail.reading.number }
+        ensures back { ahead.old.watched.is_excess ≡ true → result ≡ Refused (record { number = ahead.old.watched.number; finding = Finding.NoStep }) }
+        ensures none { ahead.old.watched.is_excess ≡ false → result ≡ Refused (record { number = self.old.trail.reading.number; finding = finding }) }
     {
         if ahead.go_back(&mut self.trail.reading) {
-            return self.trail.refusal(Finding::NoStep);
+            return self.trail.reading.refusal(Finding::NoStep);
         }
-        self.trail.refusal(finding)
+        self.trail.reading.refusal(finding)
     }
 
     /// The refusal of the last line, which ends the trace so.
     fn refusal_of_end(&mut self, ahead: &mut Ahead, end: Outcome) -> WalkError
-        ensures back { ahead.old.watched.is_excess ≡ true → IsStepsStop end → result ≡ Refused ahead.old.watched.number }
-        ensures none { ahead.old.watched.is_excess ≡ false → result ≡ Refused self.old.trail.reading.number }
-        ensures other { (IsStepsStop end → ⊥) → result ≡ Refused self.old.trail.reading.number }
+        ensures back { ahead.old.watched.is_excess ≡ true → IsStepsStop end → result ≡ Refused (record { number = ahead.old.watched.number; finding = Finding.NoStep }) }
+        ensures none { ahead.old.watched.is_excess ≡ false → result ≡ Refused (record { number = self.old.trail.reading.number; finding = Finding.Runs }) }
+        ensures other { (IsStepsStop end → ⊥) → result ≡ Refused (record { number = self.old.trail.reading.number; finding = Finding.Runs }) }
     {
         match end {
             Outcome::Stop(mark) if mark.reason == Reason::Steps => {
                 self.refusal_for_steps(ahead, Finding::Runs)
             }
-            Outcome::Stop(_) | Outcome::End(_) => self.trail.refusal(Finding::Runs),
+            Outcome::Stop(_) | Outcome::End(_) => self.trail.reading.refusal(Finding::Runs),
         }
     }
 
@@ -440,10 +443,10 @@ impl Walk {
         };
         // A stop for the steps is one of the limit that the trace has, which is judged by itself.
         if is_for_steps(reason) {
-            return Err(self.trail.refusal(Finding::Stops(reason)));
+            return Err(self.trail.reading.refusal(Finding::Stops(reason)));
         }
         if !is_stop(&self.trail.reading.next, &line.key, reason) {
-            return Err(self.trail.refusal(Finding::Stops(reason)));
+            return Err(self.trail.reading.refusal(Finding::Stops(reason)));
         }
         Ok(Step::Ended(stop_of(&line.key, reason)))
     }
@@ -472,7 +475,7 @@ impl Walk {
             return Err(self.refusal_for_steps(ahead, Finding::NoStep));
         }
         if !self.limit(steps, &line.key) {
-            return Err(self.trail.refusal(Finding::NoStep));
+            return Err(self.trail.reading.refusal(Finding::NoStep));
         }
         let near = Fixed {
             alloc: fixed.alloc,
@@ -482,10 +485,10 @@ impl Walk {
         };
         let stop = self.take_from_ahead(&near, line, ahead)?;
         if !is_stop(&self.trail.reading.next, &line.key, Reason::Steps) {
-            return Err(self.trail.refusal(found_by(stop, Finding::Unmade)));
+            return Err(self.trail.reading.refusal(found_by(stop, Finding::Unmade)));
         }
         if !self.has_run_out(steps, &line.key, stop) {
-            return Err(self.trail.refusal(found_by(stop, Finding::Runs)));
+            return Err(self.trail.reading.refusal(found_by(stop, Finding::Runs)));
         }
         Ok(Step::Ended(stop_of(&line.key, Reason::Steps)))
     }
@@ -582,7 +585,7 @@ impl Walk {
             },
             Next::End(end) if self.may_end(terms.steps, end) => Ok(Step::Ended(end)),
             Next::End(end) => Err(self.refusal_of_end(ahead, end)),
-            Next::Bad => Err(self.trail.refusal(Finding::Line)),
+            Next::Bad => Err(self.trail.reading.refusal(Finding::Line)),
         }
     }
 
@@ -596,7 +599,7 @@ impl Walk {
         ensures finishes { OnOk result (Finishes self.old (unread ahead.now (R.remaining input.old)) (W.contents out.old) (W.contents out.new)) }
         ensures marks { self.new.trail.marks ≡ self.old.trail.marks }
         ensures fault { OnErr result (SendsPart self.old (W.contents out.old) (W.contents out.new)) }
-        ensures refused { IfErr result (Refuses (λ n. (n ≡ self.old.trail.reading.number + 1) × IfSome (unread ahead.now (R.remaining input.old)) (λ rest. 0 < length rest))) }
+        ensures refused { IfErr result (Refuses (λ refusal. IsRefusalAfter self.old.trail.reading.number refusal × IfSome (unread ahead.now (R.remaining input.old)) (λ rest. 0 < length rest))) }
     {
         let line = self.trail.reading.line.as_slice();
         put_line(&mut self.trail.page.text, line, true)?;
@@ -640,7 +643,7 @@ impl Walk {
             → OnErr result (ShowsRead fixed.now what terms.steps known (W.contents out.old) (W.contents out.new)) }
         ensures refused { (what : Selection) (rest text : List ℕ)
             → terms.steps ≤ most → HasNames fixed.now → Starts fixed.now what self.old → R.remaining input.old ≡ Some rest → BeginsText fixed.now self.old.trail.reading.line.items ahead.old.watched.is_excess rest text
-            → IfErr result (Refuses (λ n. IsWrongAt fixed.now terms.steps n text)) }
+            → IfErr result (Refuses (λ refusal. IsWrongFor fixed.now terms.steps refusal text)) }
     {
         for _ in 0..u64::MAX {
             match self.advance(fixed, terms, ahead, input)? {

@@ -7,9 +7,11 @@ pub use Rattle.fb_ecc.specs.Steps.{first_true}
 pub use Rattle.fb_event.specs.Reactions.{FitInputs}
 pub use Rattle.fb_inspect.specs.Inspections.{AreTaken, AreTakings, EndsBySteps, EndsSo, IsOneOf, IsOwnLine, KeepSteps, KeepsLimit, NoneStops, NothingAfter, RunsOut, all_lines, last_look, limited, stop_of}
 pub use Rattle.fb_inspect.specs.Markings.{PiecesMark, event_number}
-pub use Rattle.fb_inspect.specs.Refusals.{ChartFails, EmitsFail, FailsBy, IsWrongAt, IsWrongLine, OfRefusal, Refuses, steps_stop}
+pub use Rattle.fb_inspect.specs.Refusals.{ChartFails, EmitsFail, FailsBy, IsUnbegun, IsUnstarted, IsWrongAt, IsWrongFor, IsWrongLine, OfRefusal, Refuses, steps_stop}
 pub use Rattle.fb_inspect.specs.Selections.{Selection}
 pub use Rattle.fb_inspect.specs.declared.error.InspectError.{InspectError}
+pub use Rattle.fb_inspect.specs.declared.refused.finding.Finding.{Finding}
+pub use Rattle.fb_inspect.specs.declared.walk.error.Refusal.{Refusal}
 pub use Rattle.fb_inspect.specs.declared.walk.error.WalkError.{WalkError}
 pub use Rattle.fb_inspect.specs.declared.walk.error.WalkError.TheVariants.{Refused}
 pub use Rattle.fb_inspect.specs.declared.walk.Step.{Step}

@@ -35,6 +35,7 @@ use Rattle.fb_inspect.specs.dump.Waving as waving
 use Rattle.fb_inspect.specs.declared.walk.ahead.Ahead.{Ahead}
 use Rattle.fb_inspect.specs.declared.walk.blocks.EventBlock.{EventBlock}
 use Rattle.fb_inspect.specs.declared.walk.blocks.Remembered.{Remembered}
+use Rattle.fb_inspect.specs.declared.walk.error.Refusal.{Refusal}
 use Rattle.fb_inspect.specs.declared.walk.error.WalkError.{WalkError}
 use Rattle.fb_inspect.specs.declared.walk.reading.Reading.{Reading}
 use Rattle.fb_inspect.specs.declared.dump.state_wave.StateWave.{StateWave}
@@ -86,7 +87,7 @@ GoesPast f tick l old new =
 abbrev pub EmitsGo : Fixed → Line → List run.Emission → (old new : Trail) → (left after : Option (List ℕ)) → Type 0
 EmitsGo f = moves.EmitsGo (sys_of f) f.form
 
-abbrev pub EmitsFail : Fixed → Line → List Emission → (old new : Reading) → (left after : Option (List ℕ)) → (number : ℕ) → Type 0
+abbrev pub EmitsFail : Fixed → Line → List Emission → (old new : Reading) → (left after : Option (List ℕ)) → Refusal → Type 0
 EmitsFail f = refusals.EmitsFail (sys_of f) f.form
 
 -- ---- Lines that were read ahead
@@ -135,13 +136,13 @@ TimerGoes f = timing.TimerGoes (sys_of f) f.form
 abbrev pub reaction_at : Fixed → EventKind → Seen → Line → event_blocks.Reaction
 reaction_at f = taken_reaction (sys_of f)
 
-abbrev pub IsNotDue : Fixed → EventKind → Seen → Line → (old new : Reading) → (number : ℕ) → Type 0
+abbrev pub IsNotDue : Fixed → EventKind → Seen → Line → (old new : Reading) → Refusal → Type 0
 IsNotDue f = refusals.IsNotDue (sys_of f)
 
 -- No reaction of the instance of a line, with this number of steps left, gives the line and those after it.
-abbrev pub FailsAt : Fixed → (left : ℕ) → Look → Line → (old new : Reading) → (remaining rest : Option (List ℕ)) → (number : ℕ) → Type 0
+abbrev pub FailsAt : Fixed → (left : ℕ) → Look → Line → (old new : Reading) → (remaining rest : Option (List ℕ)) → Refusal → Type 0
 FailsAt f left look l =
-    refusals.FailsBy (IsTakingAt left look ((sys_of f).kind (numbers.path_at (sys_of f) l.instance))) (sys_of f) f.form l
+    refusals.FailsBy (IsTakingAt left look ((sys_of f).kind (numbers.path_at (sys_of f) l.instance))) (refusals.IsUnbegun (sys_of f) l) (sys_of f) f.form l
 
 -- ---- One taking
 
@@ -159,8 +160,8 @@ abbrev pub WalkTakes : Fixed → Look → Line → (stop : Option Reason) → (o
 WalkTakes f = walking.WalkTakes (types_of f) (sys_of f) f.form f.limit
 
 -- No taking from the look gives the line of an event and those after it.
-abbrev pub TakingFails : Fixed → Look → Line → (old new : Reading) → (remaining rest : Option (List ℕ)) → (number : ℕ) → Type 0
-TakingFails f look = refusals.FailsBy (IsTaking (sys_of f) f.limit look) (sys_of f) f.form
+abbrev pub TakingFails : Fixed → Look → Line → (old new : Reading) → (remaining rest : Option (List ℕ)) → Refusal → Type 0
+TakingFails f look l = refusals.FailsBy (IsTaking (sys_of f) f.limit look) (refusals.IsUnstarted (sys_of f) f.limit look l) (sys_of f) f.form l
 
 -- ---- One step
 
@@ -193,8 +194,8 @@ Watches f = standing.Watches (sys_of f) f.form
 abbrev pub GoesAfter : Fixed → (steps : ℕ) → Walk → Ahead → (remaining : Option (List ℕ)) → (text : List ℕ) → Result Step WalkError → Type 0
 GoesAfter f = standing.GoesAfter (sys_of f) f.form
 
-abbrev pub IsWrongAt : Fixed → (steps number : ℕ) → (text : List ℕ) → Type 0
-IsWrongAt f = refusals.IsWrongAt (sys_of f)
+abbrev pub IsWrongFor : Fixed → (steps : ℕ) → Refusal → (text : List ℕ) → Type 0
+IsWrongFor f = refusals.IsWrongFor (sys_of f)
 
 -- ---- Whole traces
 

@@ -8,13 +8,13 @@ ghost use Rattle.fb_types.specs.OfSystem.{IsInstance, kind_at, path_at};
 ghost use Rattle.fb_system.specs.OfSystem.{BelongsTo};
 ghost use Rattle.fb_inspect.specs.Inspections.{most};
 ghost use Rattle.fb_inspect.specs.walk.Looks.{Look};
-ghost use Rattle.fb_inspect.specs.Refusals.{IsNoRefusal, Refuses};
+ghost use Rattle.fb_inspect.specs.Refusals.{IsNoRefusal, IsRefusalAfter, Refuses};
 ghost use Rattle.fb_inspect.specs.walk.Walking.{unread};
 ghost use Rattle.fb_inspect.specs.dump.Saved.{IsBefore};
 ghost use Rattle.fb_inspect.specs.dump.StateDumps.{Taken};
 ghost use Rattle.fb_inspect.specs.dump.Waving.{FinishesCut, SendsCutPart};
 ghost use Rattle.fb_inspect.specs.OfSystem.{AreKept, CanShow, Finishes, IsLineAt, IsNextKept, IsPortDump, SendsPart, Shows, ShowsTaking, ShowsUntaken};
-ghost use Rattle.fb_inspect.specs.walk.OfWalk.{GoesAfter, HasGoneOn, HasLook, HasNames, HasWaved, IsNext, IsShownWith, IsWrongAt, StandsWell, WaveStarts, WritesRead};
+ghost use Rattle.fb_inspect.specs.walk.OfWalk.{GoesAfter, HasGoneOn, HasLook, HasNames, HasWaved, IsNext, IsShownWith, IsWrongFor, StandsWell, WaveStarts, WritesRead};
 
 use crate::Terms;
 use crate::dump::before::Before;
@@ -176,7 +176,7 @@ impl StateWave {
     ) -> Result<(), WalkError>
         ensures finishes { OnOk result (Finishes system.now end self.old (unread ahead.now (R.remaining input.old)) (W.contents out.old) (W.contents out.new)) }
         ensures fault { OnErr result (SendsPart system.now end self.old (W.contents out.old) (W.contents out.new)) }
-        ensures refused { IfErr result (Refuses (λ n. (n ≡ self.old.walk.trail.reading.number + 1) × IfSome (unread ahead.now (R.remaining input.old)) (λ rest. 0 < length rest))) }
+        ensures refused { IfErr result (Refuses (λ refusal. IsRefusalAfter self.old.walk.trail.reading.number refusal × IfSome (unread ahead.now (R.remaining input.old)) (λ rest. 0 < length rest))) }
     {
         self.dump.end(system, end, &mut self.page.text)?;
         self.walk.trail.reading.finish(ahead, input)?;
@@ -213,7 +213,7 @@ impl StateWave {
             → OnErr result (WritesRead fixed.now terms.steps known (W.contents out.old) (W.contents out.new)) }
         ensures refused { (rest text : List ℕ)
             → terms.steps ≤ most → HasNames fixed.now → R.remaining input.old ≡ Some rest → StandsWell fixed.now terms.steps self.old.walk ahead.old rest text → text ≡ self.old.walk.trail.reading.line.items ++ rest
-            → IfErr result (Refuses (λ n. IsWrongAt fixed.now terms.steps n text)) }
+            → IfErr result (Refuses (λ refusal. IsWrongFor fixed.now terms.steps refusal text)) }
     {
         for _ in 0..u64::MAX {
             match self.advance(fixed, terms, ahead, input)? {

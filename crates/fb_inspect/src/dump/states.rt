@@ -6,7 +6,7 @@ ghost use Rattle.fb_wave.specs.Copying.{IsFirstLine};
 ghost use Rattle.fb_wave.specs.OfSystem.{HasNames};
 ghost use Rattle.fb_inspect.specs.walk.Looks.{most};
 ghost use Rattle.fb_inspect.specs.Refusals.{OfRefusal, Refuses};
-ghost use Rattle.fb_inspect.specs.OfSystem.{BeginsWave, IsNamesFault, IsShownWith, IsWrongAt, WritesFront, WritesRead};
+ghost use Rattle.fb_inspect.specs.OfSystem.{BeginsWave, IsNamesFault, IsShownWith, IsWrongAt, IsWrongFor, WritesFront, WritesRead};
 ghost use Rattle.fb_inspect.specs.declared.error.InspectError.TheVariants.{Unknown};
 ghost use Rattle.fb_inspect.specs.walk.OfWalk as of_walk;
 ghost use Rattle.fb_inspect.specs.walk.OfWalk.{BeginsText, IsNext};
@@ -72,7 +72,7 @@ fn go_through<R: BufRead, W: Write>(
         → OnErr result (of_walk.WritesRead fixed.now terms.steps known (W.contents out.old) (W.contents out.new)) }
     ensures refused { (rest text : List ℕ)
         → terms.steps ≤ most → of_walk.HasNames fixed.now → R.remaining input.old ≡ Some rest → BeginsText fixed.now wave.old.walk.trail.reading.line.items false rest text
-        → IfErr result (Refuses (λ n. of_walk.IsWrongAt fixed.now terms.steps n text)) }
+        → IfErr result (Refuses (λ refusal. of_walk.IsWrongFor fixed.now terms.steps refusal text)) }
 {
     if is_severed(terms.cut, wave.walk.trail.reading.line.as_slice()) {
         return wave.finish_cut(out);
@@ -95,7 +95,7 @@ fn write_with<R: BufRead, W: Write>(
     ensures whole { OnOk result (IfSome (R.remaining input.old) (λ text. IsShownWith terms.cut table.now.system.now terms.steps text (W.contents out.old) (W.contents out.new))) }
     ensures fault { OnErr result (WritesRead table.now.system.now terms.steps (R.remaining input.old) (W.contents out.old) (W.contents out.new)) }
     ensures refused { HasNames table.now.system.now → terms.steps ≤ most
-        → IfErr result (Refuses (λ n. IfSome (R.remaining input.old) (IsWrongAt table.now.system.now terms.steps n))) }
+        → IfErr result (Refuses (λ refusal. IfSome (R.remaining input.old) (IsWrongFor table.now.system.now terms.steps refusal))) }
 {
     let (form, reading) = first_reading(alloc, table, input)?;
     let mut wave = begin(alloc, table.system, reading)?;
@@ -137,6 +137,8 @@ pub fn write_states<R: BufRead, W: Write>(
     ensures read { OnErr result (WritesRead system.now terms.steps (R.remaining input.old) (W.contents out.old) (W.contents out.new)) }
     ensures refused { HasNames system.now → terms.steps ≤ most
         → IfErr result (OfRefusal (λ n. IfSome (R.remaining input.old) (IsWrongAt system.now terms.steps n))) }
+    ensures found { HasNames system.now → terms.steps ≤ most
+        → IfErr result (OfRefusal (λ n. IfSome (R.remaining input.old) (IsWrongFor system.now terms.steps (record { number = n; finding = refused.new.finding })))) }
     ensures names { IfErr result (IsNamesFault system.now) }
     ensures paths { IfErr result (λ e. e ≡ Unknown → ⊥) }
 {
@@ -144,6 +146,8 @@ pub fn write_states<R: BufRead, W: Write>(
     let Some(table) = PortTable::of(alloc, &ports)? else {
         return Err(InspectError::Names);
     };
-    write_with(alloc, &table, terms, refused, input, out)?;
-    Ok(())
+    match write_with(alloc, &table, terms, refused, input, out) {
+        Ok(()) => Ok(()),
+        Err(error) => Err(refused.keep(error)),
+    }
 }

@@ -1,5 +1,11 @@
 //! Why no run gives a line of a trace.
 
+ghost use Rattle.std.specs.Prelude.{◌≡◌};
+ghost use Rattle.fb_inspect.specs.Faults.{error_of_walk};
+ghost use Rattle.fb_inspect.specs.Refusals.{Refuses};
+
+use crate::error::InspectError;
+use crate::walk::error::{Refusal, WalkError};
 use fb_types::{Emission, Reason};
 use fb_wave::CurrentLine;
 use std::alloc::Global;
@@ -53,6 +59,23 @@ impl RefusedLine {
         RefusedLine {
             current: CurrentLine::new(alloc),
             finding: Finding::Line,
+        }
+    }
+
+    /// The error of a walk, as callers have it. If a line is refused, what was found there is kept.
+    pub(crate) fn keep(&mut self, error: WalkError) -> InspectError
+        ensures error { result ≡ error_of_walk error }
+        ensures found { Refuses (λ refusal. self.new.finding ≡ refusal.finding) error }
+    {
+        match error {
+            WalkError::Refused(refusal) => {
+                let Refusal { number, finding } = refusal;
+                self.finding = finding;
+                InspectError::Refused(number)
+            }
+            WalkError::Memory => InspectError::Memory,
+            WalkError::Read => InspectError::Read,
+            WalkError::Write(written) => InspectError::Write(written),
         }
     }
 }

@@ -5,14 +5,24 @@ ghost use Rattle.fb_wave.specs.Faults.{IsReadFault};
 ghost use Rattle.fb_inspect.specs.Refusals.{IsNoRefusal};
 ghost use Rattle.fb_inspect.specs.declared.walk.error.WalkError.TheVariants.{Memory, Write};
 
+use crate::refused::finding::Finding;
 use fb_wave::{PageFault, WaveError};
 use std::alloc::AllocError;
 
+/// The line at which it shows that no run of the system has a trace.
+#[derive(Drop)]
+pub struct Refusal {
+    /// The number of the line, from 1.
+    pub number: u64,
+    /// Why no run gives it.
+    pub finding: Finding,
+}
+
 /// Why a walk through a trace does not come to its end.
-#[derive(Debug, Drop)]
+#[derive(Drop)]
 pub enum WalkError {
-    /// The line, from 1, at which it shows that no run of the system has this trace.
-    Refused(u64),
+    /// No run of the system has this trace.
+    Refused(Refusal),
     Memory,
     /// The reader of the trace failed, other than for memory.
     Read,

@@ -234,7 +234,7 @@ pub(crate) fn expire_block<R: BufRead>(
 {
     let before = seen_of(block);
     if !expire_to(fixed.alloc, block, line)? {
-        return Err(trail.refusal(Finding::NotDue));
+        return Err(trail.reading.refusal(Finding::NotDue));
     }
     let after = seen_of(block);
     trail.pass(fixed, line, input)?;

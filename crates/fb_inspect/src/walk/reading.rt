@@ -5,12 +5,13 @@ ghost use Rattle.std.specs.Io.KnownBytes.{Consumes, IsAtEnd};
 ghost use Rattle.fb_wave.specs.Copying.{IsFirstLine};
 ghost use Rattle.fb_inspect.specs.walk.Lines.{IsPlain};
 ghost use Rattle.fb_inspect.specs.OfSystem.{IsNext};
-ghost use Rattle.fb_inspect.specs.Refusals.{IsNoRefusal, Refuses};
+ghost use Rattle.fb_inspect.specs.Refusals.{IsNoRefusal, IsRefusalAfter, Refuses};
 ghost use Rattle.fb_inspect.specs.walk.Walking.{unread};
 ghost use Rattle.fb_inspect.specs.declared.walk.error.WalkError.TheVariants.{Refused};
 
+use crate::refused::finding::Finding;
 use crate::walk::ahead::Ahead;
-use crate::walk::error::{WalkError, read_fault};
+use crate::walk::error::{Refusal, WalkError, read_fault};
 use fb_trace::Outcome;
 use fb_types::{Form, Key, Line};
 use fb_wave::{Guess, PortTable, can_end, is_over, next_line, read_last, read_line};
@@ -161,7 +162,7 @@ impl Reading {
         input: &mut R,
     ) -> Result<(), WalkError>
         ensures over { OnOk result (IsAtEnd (unread ahead.now (R.remaining input.old))) }
-        ensures refused { IfErr result (Refuses (λ n. (n ≡ self.old.number + 1) × IfSome (unread ahead.now (R.remaining input.old)) (λ rest. 0 < length rest))) }
+        ensures refused { IfErr result (Refuses (λ refusal. IsRefusalAfter self.old.number refusal × IfSome (unread ahead.now (R.remaining input.old)) (λ rest. 0 < length rest))) }
     {
         self.after_end = true;
         if !ahead.text.is_empty() {
@@ -181,20 +182,26 @@ impl Reading {
         self.next = Next::Event(line);
     }
 
-    /// The refusal of the next line.
-    pub fn refusal(&self) -> WalkError
-        ensures { result ≡ Refused self.now.number }
+    /// The refusal of the next line, for what was found.
+    pub fn refusal(&self, finding: Finding) -> WalkError
+        ensures { result ≡ Refused (record { number = self.now.number; finding = finding }) }
     {
-        WalkError::Refused(self.number)
+        WalkError::Refused(Refusal {
+            number: self.number,
+            finding,
+        })
     }
 
     /// The refusal of the line after the next one.
     pub fn refusal_after(&self) -> WalkError
-        ensures { Refuses (λ n. n ≡ self.now.number + 1) result }
+        ensures { Refuses (IsRefusalAfter self.now.number) result }
     {
         // No reader has more lines than that.
         match self.number.checked_add(1) {
-            Some(number) => WalkError::Refused(number),
+            Some(number) => WalkError::Refused(Refusal {
+                number,
+                finding: Finding::Line,
+            }),
             None => WalkError::Read,
         }
     }

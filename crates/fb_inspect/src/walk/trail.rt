@@ -5,7 +5,6 @@ ghost use Rattle.fb_types.specs.Numbers.{emission_of};
 ghost use Rattle.fb_types.specs.declared.run.Line as run;
 ghost use Rattle.fb_system.specs.Lines.{IsEmission as IsEmissionOf};
 ghost use Rattle.fb_inspect.specs.Refusals.{IsNoRefusal, Refuses};
-ghost use Rattle.fb_inspect.specs.declared.walk.error.WalkError.TheVariants.{Refused};
 ghost use Rattle.fb_inspect.specs.walk.Moves.{HavePassed, IsEmission, StaysAlone, shown_text};
 ghost use Rattle.fb_inspect.specs.walk.OfWalk.{EmitsFail, EmitsGo, GoesPast, IsNext, IsPlainLine, IsTextOf, ports_in};
 
@@ -48,8 +47,6 @@ pub struct Trail {
     pub is_shown: bool,
     /// What is covered of the system.
     pub marks: Marks,
-    /// Why the next line is refused, if it is.
-    pub finding: Finding,
     /// The lines that were passed.
     pub passed: PassedLines,
 }
@@ -61,7 +58,6 @@ impl Drop for Trail {
             page: _,
             is_shown: _,
             marks: _,
-            finding: _,
             passed: _,
         } = self;
     }
@@ -155,29 +151,16 @@ pub(crate) fn put_line(text: &mut Vec<u8>, line: &[u8], is_shown: bool) -> Resul
 }
 
 impl Trail {
-    /// The refusal of the next line, for what was found.
-    pub(crate) fn refusal(&mut self, finding: Finding) -> WalkError
-        ensures marks { self.new.marks ≡ self.old.marks }
-        ensures reading { self.new.reading ≡ self.old.reading }
-        ensures refused { result ≡ Refused self.old.reading.number }
-        ensures finding { self.new.finding ≡ finding }
-    {
-        self.finding = finding;
-        self.reading.refusal()
-    }
-
     /// The refusal of the next line, where the block of a line makes this emission.
-    fn refusal_for(&mut self, alloc: Global, line: &Line, emission: &Emission) -> WalkError
-        ensures marks { self.new.marks ≡ self.old.marks }
-        ensures reading { self.new.reading ≡ self.old.reading }
-        ensures refused { Refuses (λ n. n ≡ self.old.reading.number) result }
+    fn refusal_for(&self, alloc: Global, line: &Line, emission: &Emission) -> WalkError
+        ensures refused { Refuses (λ refusal. refusal ≡ record { number = self.now.reading.number; finding = Finding.Emits line.now.instance emission.now }) result }
         ensures small { emission.now.event < 2 ^ 32 }
     {
         let event = event_of(emission);
         let Ok(values) = Values::from_slice(alloc, emission.values.as_slice()) else {
             return WalkError::Memory;
         };
-        self.refusal(Finding::Emits {
+        self.reading.refusal(Finding::Emits {
             instance: line.instance,
             emission: Emission { event, values },
         })

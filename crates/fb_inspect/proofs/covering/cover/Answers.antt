@@ -11,3 +11,6 @@ returns-clause-names g c = c.inspect_and_mark.ensures.names
 
 pub returns-clause-paths : goal.returns-clause-paths
 returns-clause-paths g c = c.inspect_and_mark.ensures.paths
+
+pub returns-clause-found : goal.returns-clause-found
+returns-clause-found g c = c.inspect_and_mark.ensures.found

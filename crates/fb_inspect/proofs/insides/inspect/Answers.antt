@@ -57,3 +57,7 @@ pub returns-in_err-inspect_and_mark-clause-paths : goal.returns-in_err-inspect_a
 returns-in_err-inspect_and_mark-clause-paths g c =
     on_passed _ _ (IsPathFault (system_of c.args.system.now) c.args.inspection.only.now) c.from_residual.ensures.1
     (λ same. absurd (c.in_err-inspect_and_mark.ensures.paths same))
+
+pub returns-in_err-inspect_and_mark-clause-found : goal.returns-in_err-inspect_and_mark-clause-found
+returns-in_err-inspect_and_mark-clause-found g c = λ names few.
+    let q = err_from_is_err_and c.from_residual.result c.from_residual.ensures.1 in rw (q.1, q.2) (c.in_err-inspect_and_mark.ensures.found names few)

@@ -1,4 +1,5 @@
-use Rattle.fb_inspect.proofs.lemmas.Common.{◌≡◌, ℕ, subst, sym, ◌∙◌, IfSome, ◌≤◌, Inputs, system_of, HasNames, most, IsWrongAt, OfRefusal, Refuses}
+use Rattle.fb_inspect.proofs.lemmas.Common.{◌≡◌, subst, sym, ◌∙◌, IfSome, ◌≤◌, Inputs, system_of, HasNames, most, IsWrongAt, IsWrongFor, OfRefusal, Refuses, InspectError}
+use Rattle.fb_inspect.specs.Faults.{error_of_walk}
 use Rattle.fb_inspect.specs.Refusals.{IsNamesFault}
 use Rattle.fb_inspect.specs.declared.error.InspectError.TheVariants as error
 use Rattle.fb_wave.proofs.lemmas.Handing.{on_passed}
@@ -7,7 +8,7 @@ use Rattle.fb_inspect.specs.Inspections.{IsShownBy, ShowsRead}
 use Rattle.fb_inspect.proofs.lemmas.walk.Ended.{front_none}
 use Rattle.fb_inspect.proofs.lemmas.reactions.Placed.{err_any, no_table, of_table}
 use Rattle.fb_inspect.proofs.lemmas.results.Joined.{ok_passed}
-use Rattle.fb_inspect.proofs.lemmas.results.Refused.{memory_names, walk_names, walk_paths, walk_refuses}
+use Rattle.fb_inspect.proofs.lemmas.results.Refused.{found_wrong, memory_names, walk_found, walk_names, walk_paths}
 use Rattle.fb_inspect.specs.Selections.{selection_of}
 use Rattle.fb_inspect.proofs.insides.inspect_and_mark.Goals as goal
 
@@ -22,45 +23,20 @@ returns-in_err-table-clause-fault g c =
 pub returns-in_default-clause-fault : goal.returns-in_default-clause-fault
 returns-in_default-clause-fault g c = front_none (system_of c.args.system.now) (selection_of c.args.inspection) c.args.inspection.terms.steps (g.R.Read.remaining c.args.input.now) (g.W.Write.contents c.args.out.now)
 
-pub returns-clause-whole : goal.returns-clause-whole
-returns-clause-whole g c =
+pub returns-in-Ok-clause-whole : goal.returns-in-Ok-clause-whole
+returns-in-Ok-clause-whole g c =
     let x = c.args.inspection in
     let old = g.W.Write.contents c.args.out.now in
     let new = g.W.Write.contents c.inspect_with.new.out in
     subst (λ (s : Inputs). IfSome (g.R.Read.remaining c.args.input.now) (λ text. IsShownBy x.terms.cut (system_of s) (selection_of x) x.terms.steps text old new))
-    (of_table _ c.in-Some.table _ c.in-Some.is c.in_ok-table.ensures.system ∙ c.in_ok-ports.ensures) c.in_ok-covered.ensures.whole
+    (of_table _ c.in-Some.table _ c.in-Some.is c.in_ok-table.ensures.system ∙ c.in_ok-ports.ensures) c.in-Ok.ensures.whole
 
-pub returns-clause-covered : goal.returns-clause-covered
-returns-clause-covered g c =
+pub returns-in-Ok-clause-covered : goal.returns-in-Ok-clause-covered
+returns-in-Ok-clause-covered g c =
     let x = c.args.inspection in
-    let covered = c.in_ok-covered.covered in
+    let covered = c.in-Ok.covered in
     subst (λ (i : Inputs). IfSome (g.R.Read.remaining c.args.input.now) (λ text. Covers x.terms.cut i x.terms.steps text c.args.marks covered.marks covered.extent))
-    (of_table _ c.in-Some.table _ c.in-Some.is c.in_ok-table.ensures.system ∙ c.in_ok-ports.ensures) c.in_ok-covered.ensures.covered
-
-pub returns-in_err-covered-clause-fault : goal.returns-in_err-covered-clause-fault
-returns-in_err-covered-clause-fault g c =
-    let x = c.args.inspection in
-    let old = g.W.Write.contents c.args.out.now in
-    let new = g.W.Write.contents c.inspect_with.new.out in
-    err_any c.from_residual-in_err-covered.result _
-    (subst (λ (s : Inputs). ShowsRead (system_of s) (selection_of x) x.terms.steps (g.R.Read.remaining c.args.input.now) old new) (of_table _ c.in-Some.table _ c.in-Some.is c.in_ok-table.ensures.system ∙ c.in_ok-ports.ensures) c.in_err-covered.ensures.fault)
-
-pub returns-in_err-covered-clause-refused : goal.returns-in_err-covered-clause-refused
-returns-in_err-covered-clause-refused g c = λ names few.
-    let x = c.args.inspection in
-    let e = c.in_err-covered.field-0.0 in
-    let wrong : ℕ → Type 0 = λ n. IfSome (g.R.Read.remaining c.args.input.now) (IsWrongAt (system_of c.args.system.now) x.terms.steps n) in
-    on_passed _ _ (OfRefusal wrong) c.from_residual-in_err-covered.ensures.1
-    (walk_refuses e wrong
-    (subst
-    (λ (s : Inputs). HasNames (system_of s) → x.terms.steps ≤ most → Refuses (λ n. IfSome (g.R.Read.remaining c.args.input.now) (IsWrongAt (system_of s) x.terms.steps n)) e)
-    (of_table _ c.in-Some.table _ c.in-Some.is c.in_ok-table.ensures.system ∙ c.in_ok-ports.ensures) c.in_err-covered.ensures.refused names few))
-
-pub returns-in_err-covered-clause-whole : goal.returns-in_err-covered-clause-whole
-returns-in_err-covered-clause-whole g c = ok_passed c.from_residual-in_err-covered.result _ _ c.from_residual-in_err-covered.ensures.1
-
-pub returns-in_err-covered-clause-covered : goal.returns-in_err-covered-clause-covered
-returns-in_err-covered-clause-covered g c = ok_passed c.from_residual-in_err-covered.result _ _ c.from_residual-in_err-covered.ensures.1
+    (of_table _ c.in-Some.table _ c.in-Some.is c.in_ok-table.ensures.system ∙ c.in_ok-ports.ensures) c.in-Ok.ensures.covered
 
 pub returns-in_err-ports-clause-whole : goal.returns-in_err-ports-clause-whole
 returns-in_err-ports-clause-whole g c = ok_passed c.from_residual.result _ _ c.from_residual.ensures.1
@@ -93,10 +69,6 @@ pub returns-in_default-clause-names : goal.returns-in_default-clause-names
 returns-in_default-clause-names g c = λ same names.
     no_table _ c.in_default.is (c.in_ok-table.ensures.some (subst (λ (s : Inputs). HasNames (system_of s)) (sym c.in_ok-ports.ensures) names))
 
-pub returns-in_err-covered-clause-names : goal.returns-in_err-covered-clause-names
-returns-in_err-covered-clause-names g c =
-    on_passed _ _ (IsNamesFault (system_of c.args.system.now)) c.from_residual-in_err-covered.ensures.1 (walk_names _ c.in_err-covered.field-0.0)
-
 pub returns-in_err-ports-clause-paths : goal.returns-in_err-ports-clause-paths
 returns-in_err-ports-clause-paths g c = on_passed _ _ (λ e. e ≡ error.Unknown → ⊥) c.from_residual.ensures.1 (λ same. cc)
 
@@ -106,6 +78,42 @@ returns-in_err-table-clause-paths g c = on_passed _ _ (λ e. e ≡ error.Unknown
 pub returns-in_default-clause-paths : goal.returns-in_default-clause-paths
 returns-in_default-clause-paths g c = λ same. cc
 
-pub returns-in_err-covered-clause-paths : goal.returns-in_err-covered-clause-paths
-returns-in_err-covered-clause-paths g c =
-    on_passed _ _ (λ e. e ≡ error.Unknown → ⊥) c.from_residual-in_err-covered.ensures.1 (walk_paths c.in_err-covered.field-0.0)
+-- ---- Where the walk does not come to its end
+
+pub returns-clause-fault : goal.returns-clause-fault
+returns-clause-fault g c =
+    let x = c.args.inspection in
+    let old = g.W.Write.contents c.args.out.now in
+    let new = g.W.Write.contents c.inspect_with.new.out in
+    subst (λ (s : Inputs). ShowsRead (system_of s) (selection_of x) x.terms.steps (g.R.Read.remaining c.args.input.now) old new) (of_table _ c.in-Some.table _ c.in-Some.is c.in_ok-table.ensures.system ∙ c.in_ok-ports.ensures) c.in-Err.ensures.fault
+
+pub returns-clause-found : goal.returns-clause-found
+returns-clause-found g c = λ names few.
+    let sys = system_of c.args.system.now in
+    let steps = c.args.inspection.terms.steps in
+    let input = g.R.Read.remaining c.args.input.now in
+    let wrong = subst (λ (s : Inputs). HasNames (system_of s) → steps ≤ most → Refuses (λ refusal. IfSome input (IsWrongFor (system_of s) steps refusal)) c.in-Err.error) (of_table _ c.in-Some.table _ c.in-Some.is c.in_ok-table.ensures.system ∙ c.in_ok-ports.ensures) c.in-Err.ensures.refused in
+    subst (OfRefusal (λ n. IfSome input (IsWrongFor sys steps (record { number = n; finding = c.keep.new.self.finding })))) (sym c.keep.ensures.error)
+    (walk_found sys steps input c.in-Err.error c.keep.new.self.finding (wrong names few) c.keep.ensures.found)
+
+pub returns-clause-refused : goal.returns-clause-refused
+returns-clause-refused g c = λ names few.
+    let sys = system_of c.args.system.now in
+    let steps = c.args.inspection.terms.steps in
+    let input = g.R.Read.remaining c.args.input.now in
+    let wrong = subst (λ (s : Inputs). HasNames (system_of s) → steps ≤ most → Refuses (λ refusal. IfSome input (IsWrongFor (system_of s) steps refusal)) c.in-Err.error) (of_table _ c.in-Some.table _ c.in-Some.is c.in_ok-table.ensures.system ∙ c.in_ok-ports.ensures) c.in-Err.ensures.refused in
+    subst (OfRefusal (λ n. IfSome input (IsWrongAt sys steps n))) (sym c.keep.ensures.error)
+    (found_wrong sys steps input c.keep.new.self.finding (error_of_walk c.in-Err.error)
+    (walk_found sys steps input c.in-Err.error c.keep.new.self.finding (wrong names few) c.keep.ensures.found))
+
+pub returns-clause-names : goal.returns-clause-names
+returns-clause-names g c = subst (IsNamesFault (system_of c.args.system.now)) (sym c.keep.ensures.error) (walk_names (system_of c.args.system.now) c.in-Err.error)
+
+pub returns-clause-paths : goal.returns-clause-paths
+returns-clause-paths g c = subst (λ (e : InspectError). e ≡ error.Unknown → ⊥) (sym c.keep.ensures.error) (walk_paths c.in-Err.error)
+
+pub returns-in_err-ports-clause-found : goal.returns-in_err-ports-clause-found
+returns-in_err-ports-clause-found g c = λ _ _. on_passed _ _ (OfRefusal _) c.from_residual.ensures.1 tt
+
+pub returns-in_err-table-clause-found : goal.returns-in_err-table-clause-found
+returns-in_err-table-clause-found g c = λ _ _. on_passed _ _ (OfRefusal _) c.from_residual-in_err-table.ensures.1 tt

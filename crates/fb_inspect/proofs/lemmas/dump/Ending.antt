@@ -1,5 +1,6 @@
 -- How a dump ends, and what the writer got where it does not.
-use Rattle.fb_inspect.proofs.lemmas.Common.{◌≡◌, ◌<◌, ◌+◌, ℕ, true, List, [], ◌∷◌, ◌++◌, length, map, Option, Some, None, refl, sym, ◌∙◌, ap, subst, inl, inr, append_assoc, append-nil, arith, IfSome, Appends, Consumes, Appends-nil, Appends-trans, map-append, All-nil, line_of, AtHorizon, System, last_line, last_look, lines_text, opening_look, Form, Line, One, ending_of, Outcome, IsFirstLine, is_unended, last_tick, IsLineOf, all_lines, taking_lines, IsWrongAt, Page, Reading, Shows, Taken, lines_of, takings_of, HasWaved}
+use Rattle.fb_inspect.proofs.lemmas.Common.{◌≡◌, ◌<◌, ◌+◌, ℕ, true, List, [], ◌∷◌, ◌++◌, length, map, Option, Some, None, refl, sym, ◌∙◌, ap, subst, inl, inr, append_assoc, append-nil, arith, IfSome, Appends, Consumes, Appends-nil, Appends-trans, map-append, All-nil, line_of, AtHorizon, System, last_line, last_look, lines_text, opening_look, Form, Line, One, ending_of, Outcome, IsFirstLine, is_unended, last_tick, IsLineOf, all_lines, taking_lines, Page, Reading, Shows, Taken, lines_of, takings_of, HasWaved}
+use Rattle.fb_inspect.specs.Refusals.{IsAfterLast}
 use Rattle.fb_types.proofs.Common.{IsAtEnd, trace_text}
 use Rattle.std.specs.Io.KnownBytes.{prepend_known}
 use Rattle.fb_types.specs.States as model
@@ -353,13 +354,12 @@ lines_are_of sys (x ∷ xs) have =
 -- more than the last line is left
 pub after_last :
     (sys : System) (form : Form) (steps : ℕ) (x : StateWave) (end : Outcome) (text : List ℕ) (remaining old mid : Option (List ℕ)) (n : ℕ) → IsWhole sys form steps x end (Some text) remaining old mid
-    → n ≡ x.walk.trail.reading.number + 1 → IfSome remaining (λ rest. 0 < length rest) → IsWrongAt sys steps n text
+    → n ≡ x.walk.trail.reading.number + 1 → IfSome remaining (λ rest. 0 < length rest) → IsAfterLast sys steps n text
 after_last sys form steps x end text None old mid n whole number more = absurd whole.waved.read
 after_last sys form steps x end text (Some rest) old mid n whole number more =
     let counted = whole.waved.numbered in
     let ls = lines_of whole.takings in
-    inr
-    (record {
+    record {
       front = lines_text form sys (map (line_of sys) ls) ++ whole.line;
       accepted = record {
         form = form;
@@ -379,4 +379,4 @@ after_last sys form steps x end text (Some rest) old mid n whole number more =
       rest = rest;
       more = more;
       is = whole.waved.read;
-    })
+    }

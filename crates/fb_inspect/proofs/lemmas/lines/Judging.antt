@@ -1,11 +1,12 @@
 -- The next line of a walk: an event, an end that may not come there, or none.
-use Rattle.fb_inspect.proofs.lemmas.Common.{◌≡◌, ℕ, Bool, true, false, List, [], ◌∷◌, ◌++◌, map, refl, sym, ap, subst, ◌∙◌, inl, inr, append-nil, take_through, All-nil, line_of, AtStop, System, last_line, lines_text, Form, Line, StopMark, Reason, Divide, Range, Steps, ending_of, Outcome, Stop, last_tick, IsEndOf, IsLineOf, IsTextOf, HasNames, all_lines, last_look, IsNext, Taking, opening_look, IsWrongLine, Refuses, StandsWell, Watches, MayEnd, Ahead, WalkError, Refused, Next, Walk}
+use Rattle.fb_inspect.proofs.lemmas.Common.{◌≡◌, ℕ, Bool, true, false, List, [], ◌∷◌, ◌++◌, map, refl, sym, ap, subst, ◌∙◌, inl, inr, append-nil, take_through, All-nil, line_of, AtStop, System, last_line, lines_text, Form, Line, StopMark, Reason, Divide, Range, Steps, ending_of, Outcome, Stop, last_tick, IsEndOf, IsLineOf, IsTextOf, HasNames, all_lines, last_look, IsNext, Taking, opening_look, IsWrongLine, Finding, Refusal, Refuses, StandsWell, Watches, MayEnd, Ahead, WalkError, Refused, Next, Walk}
 use Rattle.fb_types.specs.States as model
 use Rattle.fb_trace.specs.declared.last.Outcome.TheVariants.{End}
 use Rattle.fb_inspect.specs.Refusals.{IsWrongAfter}
 use Rattle.fb_inspect.specs.walk.Standing.{AreApart, AreNumbered, IsStepsStop, Stands, StandsAt, StandsOn}
+use Rattle.fb_inspect.specs.declared.refused.finding.Finding.TheVariants as why
 use Rattle.fb_inspect.specs.declared.walk.reading.Next.TheVariants as next
-use Rattle.fb_inspect.proofs.lemmas.results.Errors.{of_number}
+use Rattle.fb_inspect.proofs.lemmas.results.Errors.{of_refusal}
 use Rattle.fb_inspect.proofs.lemmas.walk.Watched.{too_many_wrong}
 
 -- the next line is that of an event
@@ -36,8 +37,12 @@ module _ (sys : System) (form : Form) (steps : ℕ) (w : Walk) (a : Ahead) (rest
   formed_at [] is empty f m at = stands.formed f m (record { line = at.line; is = ap (take_through 10) is ∙ sym stands.alone ∙ at.is })
   formed_at (l ∷ ls) is empty f m at = absurd (cc)
 
-  wrong_line : IsWrongAfter sys form steps (last_tick 0 stands.lines) well.takings [] w.trail.reading.line.items text → IsWrongLine sys steps w.trail.reading.number text
-  wrong_line wrong = record {
+  -- the refusal of the next line, for this
+  abbrev pub refused_for : Finding → Refusal
+  refused_for f = record { number = w.trail.reading.number; finding = f }
+
+  wrong_line : (f : Finding) → IsWrongAfter sys form steps (last_tick 0 stands.lines) well.takings [] w.trail.reading.line.items text f → IsWrongLine sys steps (refused_for f) text
+  wrong_line f wrong = record {
     form = form;
     before = stands.lines;
     line = w.trail.reading.line.items;
@@ -56,22 +61,23 @@ module _ (sys : System) (form : Form) (steps : ℕ) (w : Walk) (a : Ahead) (rest
   }
 
   -- the next line is none of the system
-  pub bad_line : next.Bad ≡ w.trail.reading.next → IsWrongLine sys steps w.trail.reading.number text
+  pub bad_line : next.Bad ≡ w.trail.reading.next → IsWrongLine sys steps (refused_for why.Line) text
   bad_line is =
       let none = (subst (λ (n : Next). IsNext sys form (last_tick 0 stands.lines) w.trail.reading.line.items n) (sym is) well.on.next) names in
-      wrong_line (inl (inl (refl, record { no_taking = λ m at plain later x first taking. none.0 m at later; no_end = none.1 })))
+      wrong_line why.Line (inl (inl (refl, record { no_taking = λ m at plain later x first taking. none.0 m at later; no_end = none.1; found = inl (refl, none.0) })))
 
   -- the next line is an end that may not come there
   module _ (end : Outcome) (is : next.End end ≡ w.trail.reading.next) (other : IsEndOf sys (ending_of end) → MayEnd sys steps (last_look (opening_look sys) well.takings) (ending_of end) → ⊥) where
     here : IsNext sys form (last_tick 0 stands.lines) w.trail.reading.line.items (next.End end)
     here = subst (λ (n : Next). IsNext sys form (last_tick 0 stands.lines) w.trail.reading.line.items n) (sym is) well.on.next
 
-    nothing : IsWrongLine sys steps w.trail.reading.number text
+    nothing : IsWrongLine sys steps (refused_for why.Runs) text
     nothing =
-        wrong_line (inl (inr (inl (refl, record { end = ending_of end; can = here.0.can; is = here.0.is; other = other here.0.can; near = stands.near }))))
+        wrong_line why.Runs (inl (inr (inl (refl, record { end = ending_of end; can = here.0.can; is = here.0.is; other = other here.0.can; near = stands.near; found = refl }))))
 
     -- the run ends for its steps, but a resource had used too many before
-    many : (m : StopMark) → end ≡ Stop m → m.reason ≡ Steps → (k : ℕ) (event : List ℕ) → Watches sys form steps well.takings k event true → IsWrongLine sys steps k text
+    many : (m : StopMark) → end ≡ Stop m → m.reason ≡ Steps → (k : ℕ) (event : List ℕ) → Watches sys form steps well.takings k event true
+        → IsWrongLine sys steps (record { number = k; finding = why.NoStep }) text
     many m end_is reason k event watched =
         let stop_is : ending_of end ≡ AtStop m.tick m.resource Steps = ap ending_of end_is ∙ ap (AtStop m.tick m.resource) reason in
         let line_is : w.trail.reading.line.items ≡ last_line sys (AtStop m.tick m.resource Steps) = here.0.is ∙ ap (last_line sys) stop_is in
@@ -84,19 +90,20 @@ module _ (sys : System) (form : Form) (steps : ℕ) (w : Walk) (a : Ahead) (rest
 pub wrong_end :
     (sys : System) (form : Form) (steps : ℕ) (w : Walk) (a : Ahead) (rest text : List ℕ) → HasNames sys → (well : StandsWell sys form steps w a rest text) → (end : Outcome) → next.End end ≡ w.trail.reading.next
     → (IsEndOf sys (ending_of end) → MayEnd sys steps (last_look (opening_look sys) well.takings) (ending_of end) → ⊥) → (error : WalkError)
-    → (a.watched.is_excess ≡ true → IsStepsStop end → error ≡ Refused a.watched.number) → (a.watched.is_excess ≡ false → error ≡ Refused w.trail.reading.number)
-    → ((IsStepsStop end → ⊥) → error ≡ Refused w.trail.reading.number) → Refuses (λ n. IsWrongLine sys steps n text) error
+    → (a.watched.is_excess ≡ true → IsStepsStop end → error ≡ Refused (record { number = a.watched.number; finding = why.NoStep }))
+    → (a.watched.is_excess ≡ false → error ≡ Refused (record { number = w.trail.reading.number; finding = why.Runs }))
+    → ((IsStepsStop end → ⊥) → error ≡ Refused (record { number = w.trail.reading.number; finding = why.Runs })) → Refuses (λ n. IsWrongLine sys steps n text) error
 wrong_end sys form steps w a rest text names well end is other error back none apart = by a.watched.is_excess refl well.watched end refl
   where
     not : IsEndOf sys (ending_of end) → MayEnd sys steps (last_look (opening_look sys) well.takings) (ending_of end) → ⊥
     not can = other can
 
-    plain : error ≡ Refused w.trail.reading.number → Refuses (λ n. IsWrongLine sys steps n text) error
-    plain e = of_number (λ n. IsWrongLine sys steps n text) error w.trail.reading.number e (nothing sys form steps w a rest text names well end is not)
+    plain : error ≡ Refused (record { number = w.trail.reading.number; finding = why.Runs }) → Refuses (λ n. IsWrongLine sys steps n text) error
+    plain e = of_refusal (λ n. IsWrongLine sys steps n text) error (record { number = w.trail.reading.number; finding = why.Runs }) e (nothing sys form steps w a rest text names well end is not)
 
     for_steps : (m : StopMark) → end ≡ Stop m → a.watched.is_excess ≡ true → Watches sys form steps well.takings a.watched.number a.watched.text.items true → (r : Reason) → m.reason ≡ r → Refuses (λ n. IsWrongLine sys steps n text) error
     for_steps m e set watched Steps reason =
-        of_number (λ n. IsWrongLine sys steps n text) error a.watched.number (back set (subst IsStepsStop (sym e) reason)) (many sys form steps w a rest text names well end is not m e reason a.watched.number a.watched.text.items watched)
+        of_refusal (λ n. IsWrongLine sys steps n text) error (record { number = a.watched.number; finding = why.NoStep }) (back set (subst IsStepsStop (sym e) reason)) (many sys form steps w a rest text names well end is not m e reason a.watched.number a.watched.text.items watched)
     for_steps m e set watched Divide reason = plain (apart (λ s. let h : m.reason ≡ Steps = subst IsStepsStop e s in let both : Steps ≡ Divide = sym h ∙ reason in cc))
     for_steps m e set watched Range reason = plain (apart (λ s. let h : m.reason ≡ Steps = subst IsStepsStop e s in let both : Steps ≡ Range = sym h ∙ reason in cc))
 

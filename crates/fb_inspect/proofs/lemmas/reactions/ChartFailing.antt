@@ -1,5 +1,5 @@
 -- The reaction of a basic block, up to an emission that is not in the next line.
-use Rattle.fb_inspect.proofs.lemmas.Common.{◌≡◌, ℕ, List, [], ◌∷◌, ◌++◌, ◌+◌, drop, map, Option, Some, None, refl, sym, ap, subst, append-nil, arith, All, slice_get, Basic, Emission, Position, Acts, Clears, trial_at, leaving, actions_of, Name, emission_of, path_at, ports_at, Action, BasicType, Ports, Transition, Reason, first_true, IsEmission as IsEmissionOf, Clears_by, Showing, Acting, ShowsActs, ShowsChain, ShowsReaction, stop_pieces, StepGoes, sys_of, ChartFails, EmitsFail, ChartTaking, Reading, Trail}
+use Rattle.fb_inspect.proofs.lemmas.Common.{◌≡◌, ℕ, List, [], ◌∷◌, ◌++◌, ◌+◌, drop, map, Option, Some, None, refl, sym, ap, subst, append-nil, arith, All, slice_get, Basic, Emission, Position, Acts, Clears, trial_at, leaving, actions_of, Name, emission_of, path_at, ports_at, Action, BasicType, Ports, Transition, Reason, first_true, IsEmission as IsEmissionOf, Clears_by, Showing, Acting, ShowsActs, ShowsChain, ShowsReaction, stop_pieces, StepGoes, sys_of, ChartFails, EmitsFail, Refusal, ChartTaking, Reading, Trail}
 use Rattle.fb_types.proofs.Common.{All-weaker}
 use Rattle.fb_types.specs.declared.run.Emission as run
 use Rattle.fb_ecc.specs.Indexes.{IsWellFormed}
@@ -13,12 +13,12 @@ again : (p : Position) → before p.emitted (record p { emitted = [] }) ≡ p
 again p = ap (λ (es : List Emission). record p { emitted = es }) (append-nil p.emitted)
 
 module _ (x : ChartTaking) where
-  abbrev Fails : List Emission → (old new : Reading) → (left after : Option (List ℕ)) → ℕ → Type 0
+  abbrev Fails : List Emission → (old new : Reading) → (left after : Option (List ℕ)) → Refusal → Type 0
   Fails es old new left after n = EmitsFail (sys_of x) x.fixed.form x.line.now es old new left after n
 
   -- a part of a movement was gone through, and the rest fails
   pub fails_after :
-      (S R : Showing) (p m : Position) (a b : Trail) (c : Reading) (l k j : Option (List ℕ)) (n : ℕ) → StepGoes x S p R m a b l k → ChartFails x R m b.reading c k j n
+      (S R : Showing) (p m : Position) (a b : Trail) (c : Reading) (l k j : Option (List ℕ)) (n : Refusal) → StepGoes x S p R m a b l k → ChartFails x R m b.reading c k j n
       → ChartFails x S p a.reading c l j n
   fails_after S R p m a b c l k j n first fails = record {
     stop = fails.stop;
@@ -31,7 +31,7 @@ module _ (x : ChartTaking) where
 
   -- an action fails, whatever comes after it
   pub act_fails :
-      (t : BasicType) (a : Action) (others : List Action) (p q : Position) (stop : Option Reason) (old new : Reading) (l k : Option (List ℕ)) (n : ℕ) → p.emitted ≡ []
+      (t : BasicType) (a : Action) (others : List Action) (p q : Position) (stop : Option Reason) (old new : Reading) (l k : Option (List ℕ)) (n : Refusal) → p.emitted ≡ []
       → Acts t (a ∷ []) p.left p stop q → Fails q.emitted old new l k n → ChartFails x (Acting t (a ∷ others)) p old new l k n
   act_fails t a others p q (Some r) old new l k n none acts fails =
       let shown = act_shown t a p.left p q (Some r) none acts in
@@ -53,7 +53,7 @@ module _ (x : ChartTaking) where
 
   -- a transition cleared, and the actions of its target fail
   pub link_fails :
-      (present : Option Name) (y : Transition) (target : Name) (left : ℕ) (p m : Position) (old new : Reading) (l k : Option (List ℕ)) (n : ℕ)
+      (present : Option Name) (y : Transition) (target : Name) (left : ℕ) (p m : Position) (old new : Reading) (l k : Option (List ℕ)) (n : Refusal)
       → trial_at x.block.now present p ≡ Clears target left → first_true (leaving x.block.now p.state) present p.vars ≡ Some y → m ≡ record p { state = target; left = left }
       → ChartFails x (Acting x.block.now (actions_of x.block.now target)) m old new l k n → ChartFails x (ShowsChain x.block.now present) p old new l k n
   link_fails present y target left p m old new l k n tried first at fails =
@@ -87,14 +87,14 @@ module _ (x : ChartTaking) where
 
   -- the chain fails
   pub reaction_fails :
-      (e : Name) (p : Position) (old new : Reading) (l k : Option (List ℕ)) (n : ℕ) → ChartFails x (ShowsChain x.block.now (Some e)) p old new l k n
+      (e : Name) (p : Position) (old new : Reading) (l k : Option (List ℕ)) (n : Refusal) → ChartFails x (ShowsChain x.block.now (Some e)) p old new l k n
       → ChartFails x (ShowsReaction x.block.now e) p old new l k n
   reaction_fails e p old new l k n fails =
       record { stop = fails.stop; end = fails.end; pieces = fails.pieces ++ stop_pieces fails.stop; shows = (fails.pieces, fails.shows, refl); fails = fails.fails }
 
   -- all actions, of which the first were performed
   pub acts_fail :
-      (t : BasicType) (all : List Action) (i : ℕ) (a : Action) (p m : Position) (b c : Trail) (d : Reading) (l k j : Option (List ℕ)) (n : ℕ) → slice_get all i ≡ Some a
+      (t : BasicType) (all : List Action) (i : ℕ) (a : Action) (p m : Position) (b c : Trail) (d : Reading) (l k j : Option (List ℕ)) (n : Refusal) → slice_get all i ≡ Some a
       → StepGoes x (Acting t all) p (Acting t (drop i all)) m b c l k → ChartFails x (Acting t (a ∷ drop (i + 1) all)) m c.reading d k j n
       → ChartFails x (Acting t all) p b.reading d l j n
   acts_fail t all i a p m b c d l k j n at came fails =
@@ -103,7 +103,7 @@ module _ (x : ChartTaking) where
 
   -- the emissions of the block, by the ports of its type
   pub emitted_fails :
-      (t : BasicType) (es : List run.Emission) (old new : Reading) (l k : Option (List ℕ)) (n : ℕ) → (sys_of x).kind (path_at (sys_of x) x.line.now.instance) ≡ Some (Basic t)
+      (t : BasicType) (es : List run.Emission) (old new : Reading) (l k : Option (List ℕ)) (n : Refusal) → (sys_of x).kind (path_at (sys_of x) x.line.now.instance) ≡ Some (Basic t)
       → Fails (map (emission_of (ports_at (sys_of x) (path_at (sys_of x) x.line.now.instance))) es) old new l k n → Fails (map (emission_of t.ports) es) old new l k n
   emitted_fails t es old new l k n kind fails = subst (λ (its : Ports). Fails (map (emission_of its) es) old new l k n) (ap ports_by kind) fails
 

@@ -1,5 +1,5 @@
 -- Lines that were read up to one that is refused.
-use Rattle.fb_inspect.proofs.lemmas.Common.{◌≡◌, ℕ, List, [], ◌∷◌, ◌++◌, map, Option, Some, None, Result, Ok, Err, refl, sym, ap, subst, ◌∙◌, append_assoc, append-nil, All, IfErr, take_through, Consumes, Consumes-trans, map-append, All-append, All-head, All-nil, All-tail, Emission, emission_of, line_of, path_at, ports_at, System, lines_text, Form, Line, IsFirstLine, IsAlone, emission_line, EmitsGo, Goes, IsLineAt, StaysAlone, EmitsFail, OfRefusal, Refuses, WalkError, Refused, Reading, Trail}
+use Rattle.fb_inspect.proofs.lemmas.Common.{◌≡◌, ℕ, List, [], ◌∷◌, ◌++◌, map, Option, Some, None, Result, Ok, Err, refl, sym, ap, subst, ◌∙◌, append_assoc, append-nil, All, IfErr, take_through, Consumes, Consumes-trans, map-append, All-append, All-head, All-nil, All-tail, IfSome, Emission, emission_of, line_of, path_at, ports_at, System, lines_text, Form, Line, IsFirstLine, IsAlone, emission_line, EmitsGo, Goes, IsLineAt, StaysAlone, EmitsFail, IsWrongAt, IsWrongFor, OfRefusal, Refusal, Refuses, WalkError, Refused, InspectError, Finding, Reading, Trail}
 use Rattle.fb_types.proofs.Common.{IsErrAnd}
 use Rattle.std.proofs.KnownBytes.{Consumes-nil}
 use Rattle.fb_types.specs.States as model
@@ -8,6 +8,7 @@ use Rattle.fb_wave.proofs.lemmas.Handing.{on_passed}
 use Rattle.fb_inspect.specs.Faults.{error_of_walk}
 use Rattle.fb_inspect.specs.Refusals.{HasRead, IsNamesFault, IsNoRefusal, IsOther}
 use Rattle.fb_inspect.specs.declared.error.InspectError.TheVariants as error
+use Rattle.fb_inspect.specs.declared.refused.finding.Finding.TheVariants as why
 use Rattle.fb_inspect.specs.declared.walk.error.WalkError.TheVariants.{Memory, Read, Write}
 use Rattle.fb_inspect.proofs.lemmas.lines.Emitted.{emissions_are}
 use Rattle.fb_inspect.proofs.lemmas.lines.Moving.{counted_then, lines-append, plus_none}
@@ -21,40 +22,58 @@ alone_first (Some x) (Some y) line took first old alone = first ∙ ap (take_thr
 -- ---- Errors
 
 -- an error that is none of a line says anything of one
-pub none_refused : (e : WalkError) (P : ℕ → Type 0) → IsNoRefusal e → Refuses P e
+pub none_refused : (e : WalkError) (P : Refusal → Type 0) → IsNoRefusal e → Refuses P e
 none_refused (Refused n) P none = absurd none
 none_refused Memory P none = tt
 none_refused Read P none = tt
 none_refused (Write n) P none = tt
 
-pub refused_then : (e : WalkError) (P Q : ℕ → Type 0) → Refuses P e → ((n : ℕ) → P n → Q n) → Refuses Q e
+pub refused_then : (e : WalkError) (P Q : Refusal → Type 0) → Refuses P e → ((n : Refusal) → P n → Q n) → Refuses Q e
 refused_then (Refused n) P Q h f = f n h
 refused_then Memory P Q h f = tt
 refused_then Read P Q h f = tt
 refused_then (Write n) P Q h f = tt
 
-pub err_refused : {A : Type 0} (r : Result A WalkError) (P Q : ℕ → Type 0) → IfErr r (Refuses P) → ((n : ℕ) → P n → Q n) → IfErr r (Refuses Q)
+pub err_refused : {A : Type 0} (r : Result A WalkError) (P Q : Refusal → Type 0) → IfErr r (Refuses P) → ((n : Refusal) → P n → Q n) → IfErr r (Refuses Q)
 err_refused (Ok x) P Q h f = tt
 err_refused (Err e) P Q h f = refused_then e P Q h f
 
-pub err_none : {A : Type 0} (r : Result A WalkError) (P : ℕ → Type 0) → IfErr r IsNoRefusal → IfErr r (Refuses P)
+pub err_none : {A : Type 0} (r : Result A WalkError) (P : Refusal → Type 0) → IfErr r IsNoRefusal → IfErr r (Refuses P)
 err_none (Ok x) P h = tt
 err_none (Err e) P h = none_refused e P h
 
 -- an error that was passed on
 pub err_passed :
-    {A : Type 0} (r : Result A WalkError) (e : WalkError) (P Q : ℕ → Type 0) → IsErrAnd r (λ g. g ≡ e) → Refuses P e → ((n : ℕ) → P n → Q n) → IfErr r (Refuses Q)
+    {A : Type 0} (r : Result A WalkError) (e : WalkError) (P Q : Refusal → Type 0) → IsErrAnd r (λ g. g ≡ e) → Refuses P e → ((n : Refusal) → P n → Q n) → IfErr r (Refuses Q)
 err_passed r e P Q is h f = on_passed r e (Refuses Q) is (refused_then e P Q h f)
 
-pub none_passed : {A : Type 0} (r : Result A WalkError) (e : WalkError) (Q : ℕ → Type 0) → IsErrAnd r (λ g. g ≡ e) → IsNoRefusal e → IfErr r (Refuses Q)
+pub none_passed : {A : Type 0} (r : Result A WalkError) (e : WalkError) (Q : Refusal → Type 0) → IsErrAnd r (λ g. g ≡ e) → IsNoRefusal e → IfErr r (Refuses Q)
 none_passed r e Q is none = on_passed r e (Refuses Q) is (none_refused e Q none)
 
--- what is said of an error of a walk is said of what is answered
-pub walk_refuses : (e : WalkError) (P : ℕ → Type 0) → Refuses P e → OfRefusal P (error_of_walk e)
-walk_refuses (Refused n) P h = h
-walk_refuses Memory P h = tt
-walk_refuses Read P h = tt
-walk_refuses (Write n) P h = tt
+-- what is said of an error of a walk is said of what is answered, with what was found
+pub walk_found :
+    (sys : System) (steps : ℕ) (input : Option (List ℕ)) (e : WalkError) (finding : Finding) → Refuses (λ refusal. IfSome input (IsWrongFor sys steps refusal)) e → Refuses (λ refusal. finding ≡ refusal.finding) e
+    → OfRefusal (λ n. IfSome input (IsWrongFor sys steps (record { number = n; finding = finding }))) (error_of_walk e)
+walk_found sys steps input (Refused refusal) finding wrong is =
+    subst (λ (f : Finding). IfSome input (IsWrongFor sys steps (record { number = refusal.number; finding = f }))) (sym is) wrong
+walk_found sys steps input Memory finding wrong is = tt
+walk_found sys steps input Read finding wrong is = tt
+walk_found sys steps input (Write n) finding wrong is = tt
+
+some_wrong : (sys : System) (steps n : ℕ) (finding : Finding) (input : Option (List ℕ)) → IfSome input (IsWrongFor sys steps (record { number = n; finding = finding })) → IfSome input (IsWrongAt sys steps n)
+some_wrong sys steps n finding None h = tt
+some_wrong sys steps n finding (Some text) h = (finding, h)
+
+-- a line that is wrong for what was found is wrong
+pub found_wrong :
+    (sys : System) (steps : ℕ) (input : Option (List ℕ)) (finding : Finding) (e : InspectError) → OfRefusal (λ n. IfSome input (IsWrongFor sys steps (record { number = n; finding = finding }))) e
+    → OfRefusal (λ n. IfSome input (IsWrongAt sys steps n)) e
+found_wrong sys steps input finding (error.Refused n) h = some_wrong sys steps n finding input h
+found_wrong sys steps input finding error.Names h = tt
+found_wrong sys steps input finding error.Unknown h = tt
+found_wrong sys steps input finding error.Memory h = tt
+found_wrong sys steps input finding error.Read h = tt
+found_wrong sys steps input finding (error.Write n) h = tt
 
 -- out of memory, no names are at fault
 pub memory_names : (sys : System) → IsNamesFault sys error.Memory
@@ -116,25 +135,30 @@ module _ (sys : System) (form : Form) (tick : ℕ) where
 module _ (sys : System) (form : Form) (line : Line) where
   -- the first of the emissions is in another line than the next one
   pub emits_fail :
-      (e : Emission) (old new : Reading) (l : Option (List ℕ)) (n : ℕ) → new.line.items ≡ old.line.items → new.number ≡ old.number → n ≡ old.number
-      → IsOther sys form old.line.items (emission_line (line_of sys line) e) → EmitsFail sys form line (e ∷ []) old new l l n
-  emits_fail e old new l n same counted number other = record {
+      (x : run.Emission) (old new : Reading) (l : Option (List ℕ)) (n : Refusal) → new.line.items ≡ old.line.items → new.number ≡ old.number
+      → n ≡ record { number = old.number; finding = why.Emits line.instance x }
+      → IsOther sys form old.line.items (emission_line (line_of sys line) (emission_of (ports_at sys (path_at sys line.instance)) x))
+      → EmitsFail sys form line (emission_of (ports_at sys (path_at sys line.instance)) x ∷ []) old new l l n
+  emits_fail x old new l n same counted is other = record {
     passed = [];
-    next = e;
+    next = emission_of (ports_at sys (path_at sys line.instance)) x;
     more = [];
     parts = refl;
     otherwise = record {
       lines = [];
       are = refl;
       reads = reads_none sys form line.key.tick old new l same counted;
-      number_is = number ∙ sym counted;
-      other = subst (λ (t : List ℕ). IsOther sys form t (emission_line (line_of sys line) e)) (sym same) other;
+      number_is = ap (λ (r : Refusal). r.number) is ∙ sym counted;
+      emission = x;
+      emission_is = refl;
+      found = ap (λ (r : Refusal). r.finding) is;
+      other = subst (λ (t : List ℕ). IsOther sys form t (emission_line (line_of sys line) (emission_of (ports_at sys (path_at sys line.instance)) x))) (sym same) other;
     };
   }
 
   -- more of them would come after it
   pub emits_more :
-      (es more : List Emission) (old new : Reading) (l k : Option (List ℕ)) (n : ℕ) → EmitsFail sys form line es old new l k n
+      (es more : List Emission) (old new : Reading) (l k : Option (List ℕ)) (n : Refusal) → EmitsFail sys form line es old new l k n
       → EmitsFail sys form line (es ++ more) old new l k n
   emits_more es more old new l k n fails = record {
     passed = fails.passed;
@@ -146,7 +170,7 @@ module _ (sys : System) (form : Form) (line : Line) where
 
   -- others were gone through before
   pub emits_after :
-      (es fs : List Emission) (ls : List Line) (a b c : Reading) (l k j : Option (List ℕ)) (n : ℕ) → map (line_of sys) ls ≡ map (emission_line (line_of sys line)) es
+      (es fs : List Emission) (ls : List Line) (a b c : Reading) (l k j : Option (List ℕ)) (n : Refusal) → map (line_of sys) ls ≡ map (emission_line (line_of sys line)) es
       → HasRead sys form line.key.tick ls a b l k → EmitsFail sys form line fs b c k j n → EmitsFail sys form line (es ++ fs) a c l j n
   emits_after es fs ls a b c l k j n are reads fails =
       let last = fails.otherwise in
@@ -163,6 +187,9 @@ module _ (sys : System) (form : Form) (line : Line) where
               ∙ sym (map-append (emission_line (line_of sys line)) es fails.passed);
           reads = reads_then sys form line.key.tick a b c ls last.lines l k j reads last.reads;
           number_is = last.number_is;
+          emission = last.emission;
+          emission_is = last.emission_is;
+          found = last.found;
           other = last.other;
         };
       }
@@ -174,7 +201,7 @@ fit_at P (x ∷ es) e rest all = fit_at P es e rest (All-tail P x (es ++ e ∷ r
 
 -- of some emissions the first were gone through, and the next one fails
 pub rest_fails :
-    (sys : System) (form : Form) (line : Line) (all es : List run.Emission) (e : run.Emission) (rest : List run.Emission) (a b : Trail) (c : Reading) (l k j : Option (List ℕ)) (n : ℕ)
+    (sys : System) (form : Form) (line : Line) (all es : List run.Emission) (e : run.Emission) (rest : List run.Emission) (a b : Trail) (c : Reading) (l k j : Option (List ℕ)) (n : Refusal)
     → all ≡ es ++ e ∷ rest → EmitsGo sys form line es a b l k
     → EmitsFail sys form line (emission_of (ports_at sys (path_at sys line.instance)) e ∷ []) b.reading c k j n
     → EmitsFail sys form line (map (emission_of (ports_at sys (path_at sys line.instance))) all) a.reading c l j n

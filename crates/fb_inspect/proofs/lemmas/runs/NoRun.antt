@@ -1,5 +1,5 @@
 -- No trace of a run is wrong at a line.
-use Rattle.fb_inspect.proofs.lemmas.Common.{◌≡◌, ◌⊎◌, ◌≤◌, ℕ, List, [], ◌∷◌, ◌++◌, length, map, Some, None, All, refl, sym, ap, subst, ◌∙◌, inl, inr, append-nil, append_assoc, arith, take_through, append_cancel_left, map-append, All-append, All-cons, All-head, All-nil, All-tail, Emission, AreAccepted, Inputs, system_of, Each, line_of, path_at, AtHorizon, AtStop, Ending, System, last_line, lines_text, Key, Form, One, Two, Reason, Steps, Divide, Range, last_tick, IsEndOf, IsInRange, IsLineOf, IsTextOf, HasNames, RiseFrom, AreTakings, EndsBySteps, EndsSo, IsOwnLine, KeepSteps, KeepsLimit, NoneStops, RunsOut, all_lines, last_look, limited, IsTaking, Look, Taking, emission_line, left_at, most, opening_look, taking_lines, IsWrongAt, IsWrongLine, steps_stop, MayEnd}
+use Rattle.fb_inspect.proofs.lemmas.Common.{◌≡◌, ◌⊎◌, ◌≤◌, ℕ, List, [], ◌∷◌, ◌++◌, length, map, Some, None, All, refl, sym, ap, subst, ◌∙◌, inl, inr, append-nil, append_assoc, arith, take_through, append_cancel_left, map-append, All-append, All-cons, All-head, All-nil, All-tail, Emission, AreAccepted, Inputs, system_of, Each, line_of, path_at, AtHorizon, AtStop, Ending, System, last_line, lines_text, Key, Form, One, Two, Reason, Steps, Divide, Range, last_tick, IsEndOf, IsInRange, IsLineOf, IsTextOf, HasNames, RiseFrom, AreTakings, EndsBySteps, EndsSo, IsOwnLine, KeepSteps, KeepsLimit, NoneStops, RunsOut, all_lines, last_look, limited, IsTaking, Look, Taking, emission_line, left_at, most, opening_look, taking_lines, IsUnstarted, IsWrongAt, IsWrongLine, Finding, Refusal, steps_stop, MayEnd}
 use Rattle.fb_types.proofs.Common.{All-weaker}
 use Rattle.fb_types.specs.States.{Line}
 use Rattle.fb_types.specs.declared.run.Line as run
@@ -154,7 +154,7 @@ module _ (i : Inputs) (accepted : AreAccepted i) (names : HasNames (system_of i)
 
   module _ (f : Form) (before : List run.Line) (line rest : List ℕ) (of : All (IsLineOf sys) before) (al : Aligned f before line rest)
       (formed : before ≡ [] → (g : Form) (m : run.Line) → IsTextOf sys g m line → g ≡ f) (ys : List Taking) (chain : AreTakings sys most (opening_look sys) ys) (goes : NoneStops ys) (begun : List Line)
-      (taken : map (line_of sys) before ≡ all_lines ys ++ begun) where
+      (taken : map (line_of sys) before ≡ all_lines ys ++ begun) (finding : Finding) where
     abbrev back : List Line
     back = map view al.back
 
@@ -248,8 +248,8 @@ module _ (i : Inputs) (accepted : AreAccepted i) (names : HasNames (system_of i)
     shown_plain Two l = tt
 
     not_begun :
-        (T : Taking → Type 0) → BeginsNothing T sys f (last_tick 0 before) line → ((l : Line) (more : List Line) → back ≡ l ∷ more → (x : Taking) × (x.first ≡ l) × T x) → ⊥
-    not_begun T wrong begins = by al.back refl
+        (T : Taking → Type 0) (G : run.Line → Finding → Type 0) → BeginsNothing T G sys f (last_tick 0 before) line finding → ((l : Line) (more : List Line) → back ≡ l ∷ more → (x : Taking) × (x.first ≡ l) × T x) → ⊥
+    not_begun T G wrong begins = by al.back refl
       where
         by : (ls : List run.Line) → al.back ≡ ls → ⊥
         by [] none = wrong.no_end a.end a.trace.last (last_tick_is none) (at_end none)
@@ -299,7 +299,7 @@ module _ (i : Inputs) (accepted : AreAccepted i) (names : HasNames (system_of i)
     no_stop_there : (w : Taking) → IsNoStepsStop sys w.first line → IsBasic sys (shown_taking F w).first → al.back ≡ [] → a.end ≡ AtStop (shown_taking F w).first.key.tick (shown_taking F w).first.key.resource Steps → ⊥
     no_stop_there w near basic none is = let own = basic_shown w basic in near own.0 own.1 (at_end none ∙ ap (last_line sys) (is ∙ stop_of_shown w))
 
-    not_ended : begun ≡ [] → EndsNothing sys limit ys line → ⊥
+    not_ended : begun ≡ [] → EndsNothing sys limit ys line finding → ⊥
     not_ended none wrong =
         let o = over f before line rest al wrong.end wrong.is in
         let lines : all_lines rows ≡ all_lines ahead = whole_none none ∙ ap (λ (ls : List run.Line). all_lines ahead ++ map view ls) o.none ∙ append-nil (all_lines ahead) in
@@ -315,7 +315,7 @@ module _ (i : Inputs) (accepted : AreAccepted i) (names : HasNames (system_of i)
     -- ---- Lines of a taking
 
     -- What holds of a taking that begins with the lines that were begun, and goes on.
-    module _ (T : Taking → Type 0) (wrong : GoesOtherwise T sys f begun line) where
+    module _ (T : Taking → Type 0) (wrong : GoesOtherwise T sys f begun line finding) where
       abbrev z : Taking
       z = shown_taking F wrong.taking
 
@@ -345,7 +345,7 @@ module _ (i : Inputs) (accepted : AreAccepted i) (names : HasNames (system_of i)
       not_next : (more : List Line) → back ≡ shown F wrong.next ∷ more → ⊥
       not_next more e = not_other wrong.next more e next_range wrong.other
 
-    not_gone : (wrong : GoesOtherwise (IsTaking sys most here) sys f begun line) → IsNoStepsStop sys wrong.taking.first line → ⊥
+    not_gone : (wrong : GoesOtherwise (IsTaking sys most here) sys f begun line finding) → IsNoStepsStop sys wrong.taking.first line → ⊥
     not_gone wrong near =
         by
         (goes_right sys limit within ahead ahead_chain rows a.end row_ends (shown_taking F wrong.taking) (shown_lines F wrong.passed) (shown F wrong.next) (shown_lines F wrong.more) back
@@ -356,7 +356,7 @@ module _ (i : Inputs) (accepted : AreAccepted i) (names : HasNames (system_of i)
         by (inl goes) = not_next (IsTaking sys most here) wrong goes.0 goes.1
         by (inr stops) = no_stop_there wrong.taking near stops.1 (no_back stops.0) stops.2
 
-    not_stopped : (wrong : StopsOtherwise (IsTaking sys most here) sys begun line) → IsNoStepsStop sys wrong.taking.first line → ⊥
+    not_stopped : (wrong : StopsOtherwise (IsTaking sys most here) sys begun line finding) → IsNoStepsStop sys wrong.taking.first line → ⊥
     not_stopped wrong near =
         let z = shown_taking F wrong.taking in
         let begun_is : seen_begun ≡ taking_lines z = sym (lines_shown F wrong.taking ∙ ap (shown_lines F) wrong.lines_are) in
@@ -456,7 +456,7 @@ module _ (i : Inputs) (accepted : AreAccepted i) (names : HasNames (system_of i)
           let first_is : z.first ≡ view first = (two_heads z.first (view first) (more ++ back) (map view soon.rows) (ap (λ (ls : List Line). ls ++ back) (sym e) ∙ begun_back)).0 in
           taking_one sys limit less nearest.x z nearest_takings (takings_shown sys F limit less z0 is_taking) (nearest.first_is ∙ sym first_is)
 
-      not_last_gone : GoesOtherwise (IsTaking sys limit less) sys f begun line → ⊥
+      not_last_gone : GoesOtherwise (IsTaking sys limit less) sys f begun line finding → ⊥
       not_last_gone wrong =
           let z = shown_taking F wrong.taking in
           let T : Taking → Type 0 = IsTaking sys limit less in
@@ -467,7 +467,7 @@ module _ (i : Inputs) (accepted : AreAccepted i) (names : HasNames (system_of i)
           in
           not_next T wrong (shown_lines F wrong.more) (sym (append_cancel_left seen_begun (shown F wrong.next ∷ shown_lines F wrong.more) back all))
 
-      not_on_after : GoesOnAfter (IsTaking sys limit less) sys limit less begun line → ⊥
+      not_on_after : GoesOnAfter (IsTaking sys limit less) sys limit less begun line finding → ⊥
       not_on_after wrong =
           let z0 = wrong.taking in
           let z = shown_taking F z0 in
@@ -498,10 +498,10 @@ module _ (i : Inputs) (accepted : AreAccepted i) (names : HasNames (system_of i)
                     (subst (λ (g : Look). left_at limit nearest.x.first.key.tick (g.steps nearest.x.first.key.resource) ≡ 0) after h.1)),
               )
 
-      not_last : IsWrongLast sys f limit (last_tick 0 before) ys first begun line → ⊥
+      not_last : IsWrongLast sys f limit (last_tick 0 before) ys first begun line finding → ⊥
       not_last (inl wrong) = wrong.1 nearest_keeps
       not_last (inr (inl wrong)) =
-          not_begun (IsTaking sys limit less) wrong.1 (λ l more e. (nearest.x, nearest.first_is ∙ sym (first_back l more wrong.0 e), nearest_takings))
+          not_begun (IsTaking sys limit less) (IsUnstarted sys limit less) wrong.1 (λ l more e. (nearest.x, nearest.first_is ∙ sym (first_back l more wrong.0 e), nearest_takings))
         where
           none_first : (form : Form) → shown_lines form [] ≡ []
           none_first One = refl
@@ -547,8 +547,8 @@ module _ (i : Inputs) (accepted : AreAccepted i) (names : HasNames (system_of i)
 
     -- ---- All kinds
 
-    not_freely : IsWrongFreely sys f limit (last_tick 0 before) ys begun line → ⊥
-    not_freely (inl wrong) = not_begun (IsTaking sys most here) wrong.1 begins
+    not_freely : IsWrongFreely sys f limit (last_tick 0 before) ys begun line finding → ⊥
+    not_freely (inl wrong) = not_begun (IsTaking sys most here) (IsUnstarted sys most here) wrong.1 begins
       where
         begins : (l : Line) (more : List Line) → back ≡ l ∷ more → (x : Taking) × (x.first ≡ l) × IsTaking sys most here x
         begins l more e =
@@ -558,15 +558,15 @@ module _ (i : Inputs) (accepted : AreAccepted i) (names : HasNames (system_of i)
     not_freely (inr (inr (inl wrong))) = not_gone wrong.0 wrong.1
     not_freely (inr (inr (inr wrong))) = not_stopped wrong.0 wrong.1
 
-    not_after : IsWrongAfter sys f limit (last_tick 0 before) ys begun line text → ⊥
+    not_after : IsWrongAfter sys f limit (last_tick 0 before) ys begun line text finding → ⊥
     not_after (inl wrong) = not_freely wrong
     not_after (inr (inl wrong)) = not_last wrong.0 wrong.1 wrong.2
     not_after (inr (inr wrong)) = not_over wrong.1
 
-  not_line : (n : ℕ) → IsWrongLine sys limit n text → ⊥
+  not_line : (n : Refusal) → IsWrongLine sys limit n text → ⊥
   not_line n w =
       let al = align w.form w.before w.line w.at.rest w.at.are.each w.at.is w.at.alone in
-      not_after w.form w.before w.line w.at.rest w.at.are.each al w.at.formed w.takings w.taken.chain w.taken.goes_on w.begun w.taken.lines_are w.wrong
+      not_after w.form w.before w.line w.at.rest w.at.are.each al w.at.formed w.takings w.taken.chain w.taken.goes_on w.begun w.taken.lines_are n.finding w.wrong
 
   not_past : (n : ℕ) → IsAfterLast sys limit n text → ⊥
   not_past n w =
@@ -583,5 +583,5 @@ module _ (i : Inputs) (accepted : AreAccepted i) (names : HasNames (system_of i)
       omega (arith, some, none)
 
   pub not_wrong : (n : ℕ) → IsWrongAt sys limit n text → ⊥
-  not_wrong n (inl wrong) = not_line n wrong
-  not_wrong n (inr wrong) = not_past n wrong
+  not_wrong n (finding, inl wrong) = not_line (record { number = n; finding = finding }) wrong
+  not_wrong n (finding, inr wrong) = not_past n wrong.0

@@ -1,10 +1,11 @@
 -- Takings that fail: the line of an event with which none begins, or a line after it that is another one.
-use Rattle.fb_inspect.proofs.lemmas.Common.{◌≡◌, ◌≤◌, ◌^◌, ◌⊎◌, ℕ, zero, suc, true, false, List, [], ◌∷◌, ◌++◌, map, Option, Some, None, refl, sym, ap, subst, ◌∙◌, inl, inr, map-append, Basic, Emission, Event, Kind, Position, Name, memory_of, event_at, line_of, path_at, System, EventKind, BasicType, Form, Line, ShowsReaction, sys_of, IsTaking, IsTakingAt, IsTakingWith, Look, Seen, Taking, emission_line, emissions_by, emits_pieces, left_at, memory_pieces, reacted, with_left, with_seen, ChartFails, EmitsFail, FailsBy, taken_reaction, Chart, ChartTaking, Reading}
+use Rattle.fb_inspect.proofs.lemmas.Common.{◌≡◌, ◌≤◌, ◌^◌, ◌⊎◌, ℕ, zero, suc, true, false, List, [], ◌∷◌, ◌++◌, map, Option, Some, None, refl, sym, ap, subst, ◌∙◌, arith, inl, inr, map-append, Basic, Emission, Event, Kind, Position, Name, memory_of, event_at, line_of, path_at, System, EventKind, BasicType, Form, Line, ShowsReaction, sys_of, IsTaking, IsTakingAt, IsTakingWith, Look, Seen, Taking, emission_line, emissions_by, emits_pieces, left_at, memory_pieces, reacted, with_left, with_seen, ChartFails, EmitsFail, FailsBy, IsUnbegun, IsUnstarted, Finding, Refusal, taken_reaction, Chart, ChartTaking, Reading}
 use Rattle.fb_types.specs.EventBlocks as blocks
 use Rattle.fb_types.specs.States as model
 use Rattle.fb_inspect.specs.walk.Charting.{IsChartTaking}
 use Rattle.fb_inspect.specs.walk.Looks.{IsTakingByBlock, IsTakingByChart, IsTakingByTimer}
-use Rattle.fb_inspect.specs.Refusals.{HasRead, IsNoTaking, IsNotDue, TakingFails}
+use Rattle.fb_inspect.specs.Refusals.{HasRead, IsEmitted, IsNoTaking, IsNotDue, TakingFails}
+use Rattle.fb_inspect.specs.declared.refused.finding.Finding.TheVariants as why
 use Rattle.fb_inspect.specs.walk.Timing.{taken_variables}
 use Rattle.fb_inspect.specs.walk.Walking.{IsChartKept}
 use Rattle.fb_inspect.proofs.lemmas.results.Refused.{reads_then}
@@ -15,11 +16,12 @@ use Rattle.fb_inspect.proofs.lemmas.walk.Walked.{begun, started, starts}
 -- ---- Where no taking begins
 
 -- the line of an event that a basic block does not take
-pub untaken_chart : (sys : System) (k : Option Kind) (t : BasicType) (look : Look) (left : ℕ) (line : Line) (old new : Reading) (n : ℕ) → k ≡ Some (Basic t) → line.taken ≡ false → new ≡ old → n ≡ old.number
-    → IsNoTaking (IsTakingAt left look k) sys line old new n
-untaken_chart sys k t look left line old new n kind untaken same number = record {
-  same = same;
-  number_is = number;
+pub untaken_chart : (sys : System) (k : Option Kind) (t : BasicType) (look : Look) (left : ℕ) (line : Line) (old : Reading) (n : Refusal) → k ≡ Some (Basic t) → sys.kind (path_at sys line.instance) ≡ k → line.taken ≡ false
+    → n ≡ record { number = old.number; finding = why.Unmade } → IsNoTaking (IsTakingAt left look k) (IsUnbegun sys line) sys line old old n
+untaken_chart sys k t look left line old n kind of_line untaken is = record {
+  same = refl;
+  number_is = ap (λ (r : Refusal). r.number) is;
+  found = subst (IsUnbegun sys line) (sym (ap (λ (r : Refusal). r.finding) is)) (untaken, (t, of_line ∙ kind));
   none = λ x first is_taking.
       let chart : IsTakingByChart left look t x = subst (λ (o : Option Kind). IsTakingAt left look o x) kind is_taking in
       let taken : line.taken ≡ true = sym (ap (λ (m : model.Line). m.taken) first) ∙ chart.taken in
@@ -28,11 +30,12 @@ untaken_chart sys k t look left line old new n kind untaken same number = record
 }
 
 -- the line of a timer of an event block that does not go off
-pub not_due : (sys : System) (k : Option Kind) (kind : EventKind) (look : Look) (left : ℕ) (line : Line) (old new : Reading) (n : ℕ) → k ≡ Some (Event kind) → line.taken ≡ false
-    → IsNotDue sys kind (look.blocks (path_at sys line.instance)) line old new n → IsNoTaking (IsTakingAt left look k) sys line old new n
-not_due sys k kind look left line old new n is untaken due = record {
+pub not_due : (sys : System) (k : Option Kind) (kind : EventKind) (look : Look) (left : ℕ) (line : Line) (old new : Reading) (n : Refusal) → k ≡ Some (Event kind) → sys.kind (path_at sys line.instance) ≡ k → line.taken ≡ false
+    → IsNotDue sys kind (look.blocks (path_at sys line.instance)) line old new n → IsNoTaking (IsTakingAt left look k) (IsUnbegun sys line) sys line old new n
+not_due sys k kind look left line old new n is of_line untaken due = record {
   same = due.same;
   number_is = due.number_is;
+  found = subst (IsUnbegun sys line) (sym due.found) (untaken, (kind, of_line ∙ is));
   none = λ x first is_taking. by x first (subst (λ (o : Option Kind). IsTakingAt left look o x) is is_taking);
 }
   where
@@ -50,11 +53,12 @@ not_due sys k kind look left line old new n is untaken due = record {
         })
 
 -- a taking that comes too late, or has no step
-pub too_late : (sys : System) (limit : ℕ) (look : Look) (line : Line) (old new : Reading) (n : ℕ) → (line.key.tick ≤ 10 ^ 12 → ⊥) → new ≡ old → n ≡ old.number
-    → IsNoTaking (IsTaking sys limit look) sys line old new n
-too_late sys limit look line old new n late same number = record {
-  same = same;
-  number_is = number;
+pub too_late : (sys : System) (limit : ℕ) (look : Look) (line : Line) (old : Reading) (n : Refusal) → (line.key.tick ≤ 10 ^ 12 → ⊥)
+    → n ≡ record { number = old.number; finding = why.Late } → IsNoTaking (IsTaking sys limit look) (IsUnstarted sys limit look line) sys line old old n
+too_late sys limit look line old n late is = record {
+  same = refl;
+  number_is = ap (λ (r : Refusal). r.number) is;
+  found = subst (IsUnstarted sys limit look line) (sym (ap (λ (r : Refusal). r.finding) is)) late;
   none = λ x first is_taking. by x first (left_at limit x.first.key.tick (look.steps x.first.key.resource)) is_taking;
 }
   where
@@ -62,11 +66,12 @@ too_late sys limit look line old new n late same number = record {
     by x first zero is_taking = is_taking
     by x first (suc left) is_taking = late (subst (λ (m : model.Line). m.key.tick ≤ 10 ^ 12) first is_taking.0)
 
-pub no_step : (sys : System) (limit : ℕ) (look : Look) (line : Line) (old new : Reading) (n : ℕ) → left_at limit line.key.tick (look.steps line.key.resource) ≡ 0 → new ≡ old → n ≡ old.number
-    → IsNoTaking (IsTaking sys limit look) sys line old new n
-no_step sys limit look line old new n none same number = record {
-  same = same;
-  number_is = number;
+pub no_step : (sys : System) (limit : ℕ) (look : Look) (line : Line) (old : Reading) (n : Refusal) → line.key.tick ≤ 10 ^ 12 → left_at limit line.key.tick (look.steps line.key.resource) ≡ 0
+    → n ≡ record { number = old.number; finding = why.NoStep } → IsNoTaking (IsTaking sys limit look) (IsUnstarted sys limit look line) sys line old old n
+no_step sys limit look line old n early none is = record {
+  same = refl;
+  number_is = ap (λ (r : Refusal). r.number) is;
+  found = subst (IsUnstarted sys limit look line) (sym (ap (λ (r : Refusal). r.finding) is)) (early, none);
   none = λ x first is_taking.
       subst (λ (left : ℕ). IsTakingWith sys look left x) (ap (λ (m : model.Line). left_at limit m.key.tick (look.steps m.key.resource)) first ∙ none) is_taking;
 }
@@ -87,9 +92,25 @@ module _ (sys : System) (limit : ℕ) (look : Look) (line : Line) (left : ℕ) (
   first_of : (taking : Taking) (passed : List Line) (rest : List model.Line) → taking.first ∷ map (emission_line taking.first) taking.emits ≡ (line_of sys line ∷ map (line_of sys) passed) ++ rest → taking.first ≡ line_of sys line
   first_of taking passed rest e = cc
 
-  pub fails_whole : (form : Form) (old new : Reading) (l j : Option (List ℕ)) (n : ℕ) → FailsBy (IsTakingAt left look (sys.kind (path_at sys line.instance))) sys form line old new l j n
-      → FailsBy (IsTaking sys limit look) sys form line old new l j n
-  fails_whole form old new l j n (inl none) = inl (record { same = none.same; number_is = none.number_is; none = λ x first is_taking. none.none x first (takings_part x first is_taking) })
+  some_left : left_at limit line.key.tick (look.steps line.key.resource) ≡ 0 → ⊥
+  some_left none = let both : suc left ≡ 0 = sym used ∙ none in absurd (omega (arith, both))
+
+  -- what is found of the line by its block
+  found_whole : (f : Finding) → IsUnbegun sys line f → IsUnstarted sys limit look line f
+  found_whole why.Line h = absurd h
+  found_whole (why.Emits i e) h = absurd h
+  found_whole why.Unmade h = (early, some_left, h)
+  found_whole why.NotDue h = (early, some_left, h)
+  found_whole why.Late h = absurd h
+  found_whole why.NoStep h = absurd h
+  found_whole (why.Stops r) h = absurd h
+  found_whole why.Runs h = absurd h
+
+  pub fails_whole : (form : Form) (old new : Reading) (l j : Option (List ℕ)) (n : Refusal)
+      → FailsBy (IsTakingAt left look (sys.kind (path_at sys line.instance))) (IsUnbegun sys line) sys form line old new l j n
+      → FailsBy (IsTaking sys limit look) (IsUnstarted sys limit look line) sys form line old new l j n
+  fails_whole form old new l j n (inl none) =
+      inl (record { same = none.same; number_is = none.number_is; found = found_whole n.finding none.found; none = λ x first is_taking. none.none x first (takings_part x first is_taking) })
   fails_whole form old new l j n (inr fails) = inr
       (record {
         taking = fails.taking;
@@ -100,6 +121,7 @@ module _ (sys : System) (limit : ℕ) (look : Look) (line : Line) (left : ℕ) (
         parts = fails.parts;
         reads = fails.reads;
         number_is = fails.number_is;
+        found = fails.found;
         other = fails.other;
       })
 
@@ -107,7 +129,7 @@ module _ (sys : System) (limit : ℕ) (look : Look) (line : Line) (left : ℕ) (
 
 -- a taking whose first lines, and no more, were read
 pub taking_fails :
-    (T : Taking → Type 0) (sys : System) (form : Form) (line : Line) (taking : Taking) (es : List Emission) (a y z : Reading) (l k j : Option (List ℕ)) (n : ℕ) → T taking → taking.first ≡ line_of sys line → taking.emits ≡ es
+    (T : Taking → Type 0) (sys : System) (form : Form) (line : Line) (taking : Taking) (es : List Emission) (a y z : Reading) (l k j : Option (List ℕ)) (n : Refusal) → T taking → taking.first ≡ line_of sys line → taking.emits ≡ es
     → HasRead sys form line.key.tick (line ∷ []) a y l k → EmitsFail sys form line es y z k j n → TakingFails T sys form line a z l j n
 taking_fails T sys form line taking es a y z l k j n is_taking first emits passed fails =
     let last = fails.otherwise in
@@ -124,12 +146,13 @@ taking_fails T sys form line taking es a y z l k j n is_taking first emits passe
           ∙ ap (λ (ls : List model.Line). first_line ∷ (ls ++ (emission_line first_line fails.next ∷ map (emission_line first_line) fails.more))) (sym last.are);
       reads = reads_then sys form line.key.tick a y z (line ∷ []) last.lines l k j passed last.reads;
       number_is = last.number_is;
+      found = subst (IsEmitted sys (emission_line first_line fails.next)) (sym last.found) (refl, ap (λ (e : Emission). e.event) last.emission_is, ap (λ (e : Emission). e.values) last.emission_is);
       other = last.other;
     }
 
 -- the reaction of a basic block
 pub chart_fails :
-    (x : ChartTaking) (look : Look) (c d : Chart) (left steps : ℕ) (a y z : Reading) (l k j : Option (List ℕ)) (n : ℕ) → IsChartTaking x
+    (x : ChartTaking) (look : Look) (c d : Chart) (left steps : ℕ) (a y z : Reading) (l k j : Option (List ℕ)) (n : Refusal) → IsChartTaking x
     → IsChartKept x.block.now c (look.blocks (path_at (sys_of x) x.line.now.instance)) → HasRead (sys_of x) x.fixed.form x.line.now.key.tick (x.line.now ∷ []) a y l k
     → ChartFails x (ShowsReaction x.block.now (event_at x.block.now.ports.event_inputs x.line.now.event)) (begun x look c d left steps None) y z k j n
     → TakingFails (IsTakingAt left look ((sys_of x).kind (path_at (sys_of x) x.line.now.instance))) (sys_of x) x.fixed.form x.line.now a z l j n
@@ -160,7 +183,7 @@ chart_fails x look c d left steps a y z l k j n taking is passed fails =
 
 -- the reaction of an event block
 pub block_fails :
-    (sys : System) (form : Form) (look : Look) (left : ℕ) (line : Line) (kind : EventKind) (a y z : Reading) (l k j : Option (List ℕ)) (n : ℕ) → sys.kind (path_at sys line.instance) ≡ Some (Event kind) → line.taken ≡ true
+    (sys : System) (form : Form) (look : Look) (left : ℕ) (line : Line) (kind : EventKind) (a y z : Reading) (l k j : Option (List ℕ)) (n : Refusal) → sys.kind (path_at sys line.instance) ≡ Some (Event kind) → line.taken ≡ true
     → HasRead sys form line.key.tick (line ∷ []) a y l k
     → EmitsFail sys form line (emissions_by kind (taken_reaction sys kind (look.blocks (path_at sys line.instance)) line)) y z k j n
     → TakingFails (IsTakingAt left look (sys.kind (path_at sys line.instance))) sys form line a z l j n

@@ -1,5 +1,5 @@
 -- Where a walk stands after a taking, and which line is wrong where it does not go on.
-use Rattle.fb_inspect.proofs.lemmas.Common.{◌≡◌, ◌⊎◌, ℕ, zero, suc, ◌+◌, Bool, List, [], ◌∷◌, ◌++◌, length, map, Option, Some, None, Result, Ok, refl, sym, ap, subst, ◌∙◌, inl, inr, append_assoc, append-nil, arith, length-append, All, IfSome, Vec, take_through, append_cancel_left, map-append, All-append, All-cons, All-head, All-nil, All-tail, Basic, Composite, Emission, Event, Kind, system_of, line_of, path_at, AtStop, System, last_line, line_text, lines_text, Key, BasicType, BlockType, Form, One, Two, Line, Reason, Steps, last_tick, IsLineOf, IsTextOf, PortTable, IsOwnLine, all_lines, last_look, IsAlone, IsNext, IsTaking, IsTakingAt, IsTakingWith, Look, Taking, emission_line, left_at, most, opening_look, taking_lines, IsLineAt, FailsBy, IsWrongLine, steps_stop, AreAhead, GoesAfter, IsLeft, Watches, IsLookOf, WalkTakes, unread, Ahead, WalkError, Reading, Step, Ended, Trail, Walk, Stop}
+use Rattle.fb_inspect.proofs.lemmas.Common.{◌≡◌, ◌⊎◌, ℕ, zero, suc, ◌+◌, Bool, List, [], ◌∷◌, ◌++◌, length, map, Option, Some, None, Result, Ok, refl, sym, ap, subst, ◌∙◌, inl, inr, append_assoc, append-nil, arith, length-append, All, IfSome, Vec, take_through, append_cancel_left, map-append, All-append, All-cons, All-head, All-nil, All-tail, Basic, Composite, Emission, Event, Kind, system_of, line_of, path_at, AtStop, System, last_line, line_text, lines_text, Key, BasicType, BlockType, Form, One, Two, Line, Reason, Steps, last_tick, IsLineOf, IsTextOf, PortTable, IsOwnLine, all_lines, last_look, IsAlone, IsNext, IsTaking, IsTakingAt, IsTakingWith, Look, Taking, emission_line, left_at, most, opening_look, taking_lines, IsLineAt, FailsBy, IsUnstarted, IsWrongLine, Finding, Refusal, steps_stop, AreAhead, GoesAfter, IsLeft, Watches, IsLookOf, WalkTakes, unread, Ahead, WalkError, Reading, Step, Ended, Trail, Walk, Stop}
 use Rattle.fb_types.specs.States as model
 use Rattle.fb_wave.specs.Waves.{AreLinesOf}
 use Rattle.fb_wave.proofs.lemmas.Lining.{line_not_last, line_one}
@@ -7,6 +7,7 @@ use Rattle.fb_inspect.specs.walk.Lines.{IsPlain}
 use Rattle.fb_inspect.specs.Refusals.{BeginsNothing, GoesOtherwise, HasRead, HaveTaken, IsLineAfter, IsNoStepsStop, IsWrongAfter, TakingFails}
 use Rattle.fb_inspect.specs.walk.SameLines.{AreLikeParts, IsSameLine}
 use Rattle.fb_inspect.specs.walk.Standing.{AreNumbered, IsNotNear, MayBeAhead, StandsAfter, StandsAt, StandsOn, TakesOne}
+use Rattle.fb_inspect.specs.declared.refused.finding.Finding.TheVariants as why
 use Rattle.fb_inspect.specs.declared.walk.Step.TheVariants.{CutOff, Taken}
 use Rattle.fb_inspect.specs.declared.walk.reading.Next.TheVariants as next
 use Rattle.fb_inspect.proofs.lemmas.lines.OneEnd.{no_stop_text}
@@ -138,15 +139,19 @@ module _ (t : PortTable) (form : Form) (takings : List Taking) (w : Walk) (a : A
   here_taken = record { chain = at.stands.chain; goes_on = at.stands.goes_on; lines_are = at.stands.lines_are ∙ sym (append-nil (all_lines takings)) }
 
   -- no such taking begins with the next line
-  pub begins_nothing : (T : Taking → Type 0) → ((x : Taking) → x.first ≡ line_of sys line → T x → ⊥) → BeginsNothing T sys form (last_tick 0 lines) w.trail.reading.line.items
-  begins_nothing T none = record {
+  pub begins_nothing :
+      (T : Taking → Type 0) (F : Line → Finding → Type 0) (f : Finding) → ((x : Taking) → x.first ≡ line_of sys line → T x → ⊥) → F line f
+      → BeginsNothing T F sys form (last_tick 0 lines) w.trail.reading.line.items f
+  begins_nothing T F f none holds = record {
     no_taking = λ m is plain later x first taking.
         let once = same_line form m line (line_once t at.names form m line w.trail.reading.line.items is at.is) plain at.plain in
         none x (first ∙ ap (line_of sys) once) taking;
     no_end = λ end can after is. line_not_last sys form line end at.is.line (sym at.is.is ∙ is);
+    found = inr (line, at.is, holds);
   }
 
-  pub wrong_here : (steps n : ℕ) → n ≡ w.trail.reading.number → IsWrongAfter sys form steps (last_tick 0 lines) takings [] w.trail.reading.line.items text → IsWrongLine sys steps n text
+  pub wrong_here :
+      (steps : ℕ) (n : Refusal) → n.number ≡ w.trail.reading.number → IsWrongAfter sys form steps (last_tick 0 lines) takings [] w.trail.reading.line.items text n.finding → IsWrongLine sys steps n text
   wrong_here steps n number wrong = record {
     form = form;
     before = lines;
@@ -232,7 +237,9 @@ module _ (t : PortTable) (form : Form) (takings : List Taking) (w : Walk) (a : A
       lines_are = map-append (line_of sys) lines (line ∷ passed) ∙ ap (λ (ls : List model.Line). ls ++ map (line_of sys) (line ∷ passed)) at.stands.lines_are;
     }
 
-    pub wrong_after : (steps n : ℕ) → n ≡ new.number → IsWrongAfter sys form steps (last_tick 0 before) takings (map (line_of sys) (line ∷ passed)) after text → IsWrongLine sys steps n text
+    pub wrong_after :
+        (steps : ℕ) (n : Refusal) → n.number ≡ new.number → IsWrongAfter sys form steps (last_tick 0 before) takings (map (line_of sys) (line ∷ passed)) after text n.finding
+        → IsWrongLine sys steps n text
     wrong_after steps n number wrong = record {
       form = form;
       before = before;
@@ -257,7 +264,7 @@ module _ (t : PortTable) (form : Form) (takings : List Taking) (w : Walk) (a : A
 
   -- ---- The event of the line
 
-  pub own_of : (T : Taking → Type 0) (new : Reading) (l j : Option (List ℕ)) (n : ℕ) (fails : TakingFails T sys form line w.trail.reading new l j n) → All (IsOwnLine sys line) fails.passed
+  pub own_of : (T : Taking → Type 0) (new : Reading) (l j : Option (List ℕ)) (n : Refusal) (fails : TakingFails T sys form line w.trail.reading new l j n) → All (IsOwnLine sys line) fails.passed
   own_of T new l j n fails =
       own_lines sys at.numbers line at.is.line fails.passed fails.taking.emits (fails.next ∷ fails.more) (after_first fails.taking fails.passed (fails.next ∷ fails.more) fails.parts)
       (All-tail (IsLineAt sys line.key.tick) line fails.passed fails.reads.each)
@@ -272,8 +279,8 @@ module _ (t : PortTable) (form : Form) (takings : List Taking) (w : Walk) (a : A
   first_is : (taking : Taking) (passed : List Line) (rest : List model.Line) → taking.first ∷ map (emission_line taking.first) taking.emits ≡ (line_of sys line ∷ map (line_of sys) passed) ++ rest → taking.first ≡ line_of sys line
   first_is taking passed rest e = cc
 
-  pub otherwise : (T : Taking → Type 0) (new : Reading) (l j : Option (List ℕ)) (n : ℕ) (fails : TakingFails T sys form line w.trail.reading new l j n)
-      → GoesOtherwise T sys form (map (line_of sys) (line ∷ fails.passed)) new.line.items
+  pub otherwise : (T : Taking → Type 0) (new : Reading) (l j : Option (List ℕ)) (n : Refusal) (fails : TakingFails T sys form line w.trail.reading new l j n)
+      → GoesOtherwise T sys form (map (line_of sys) (line ∷ fails.passed)) new.line.items n.finding
   otherwise T new l j n fails = record {
     taking = fails.taking;
     is_taking = fails.is_taking;
@@ -283,15 +290,16 @@ module _ (t : PortTable) (form : Form) (takings : List Taking) (w : Walk) (a : A
     more = fails.more;
     parts = fails.parts;
     other = fails.other;
+    found = fails.found;
   }
 
   -- a line is wrong where each resource has the greatest limit
   pub wrong_freely :
-      (steps n : ℕ) (rows : List Line) (new : Reading) (left : List ℕ) → AreAhead sys form line rows a.text.items a.last.items rest → IsNotNear sys line a.last.items
-      → FailsBy (IsTaking sys most seen_last) sys form line w.trail.reading new (Some a.text.items) (Some left) n → IsWrongLine sys steps n text
+      (steps : ℕ) (n : Refusal) (rows : List Line) (new : Reading) (left : List ℕ) → AreAhead sys form line rows a.text.items a.last.items rest → IsNotNear sys line a.last.items
+      → FailsBy (IsTaking sys most seen_last) (IsUnstarted sys most seen_last line) sys form line w.trail.reading new (Some a.text.items) (Some left) n → IsWrongLine sys steps n text
   unfolding otherwise
   wrong_freely steps n rows new left ahead far (inl none) =
-      wrong_here steps n none.number_is (inl (inl (refl, begins_nothing (IsTaking sys most seen_last) none.none)))
+      wrong_here steps n none.number_is (inl (inl (refl, begins_nothing (IsTaking sys most seen_last) (IsUnstarted sys most seen_last) n.finding none.none none.found)))
   wrong_freely steps n rows new left ahead far (inr fails) =
       let own = own_of (IsTaking sys most seen_last) new (Some a.text.items) (Some left) n fails in
       wrong_after rows ahead fails.passed new left fails.reads own steps n fails.number_is
@@ -367,12 +375,12 @@ module _ (t : PortTable) (form : Form) (takings : List Taking) (w : Walk) (a : A
 
     -- a taking stops its resource, and the next line says something else
     pub wrong_stop :
-        (steps n : ℕ) (reason : Reason) → n ≡ done.trail.reading.number → x.stop ≡ Some reason → IsTaking sys most seen_last x → IsNotNear sys line a.last.items
+        (steps : ℕ) (n : Refusal) (reason : Reason) → n ≡ record { number = done.trail.reading.number; finding = why.Stops reason } → x.stop ≡ Some reason → IsTaking sys most seen_last x → IsNotNear sys line a.last.items
         → ((reason ≡ Steps → ⊥) → done.trail.reading.line.items ≡ last_line sys (AtStop line.key.tick line.key.resource reason) → ⊥) → (reason ≡ Steps) ⊎ (reason ≡ Steps → ⊥) → IsWrongLine sys steps n text
-    wrong_stop steps n reason number stop taking far other which =
+    wrong_stop steps n reason is stop taking far other which =
         let none_near = no_steps_stop rows ahead passed done.trail.reading left reads own far x first in
         let basic = stops_basic sys most seen_last x reason stop taking in
-        wrong_after rows ahead passed done.trail.reading left reads own steps n number
+        wrong_after rows ahead passed done.trail.reading left reads own steps n (ap (λ (r : Refusal). r.number) is)
         (inl (inr (inr (inr (
           record {
             taking = x;
@@ -380,7 +388,8 @@ module _ (t : PortTable) (form : Form) (takings : List Taking) (w : Walk) (a : A
             lines_are = sym taking_is;
             reason = reason;
             stop = stop;
-            other = λ is. by which basic (is ∙ ap (λ (m : model.Line). last_line sys (AtStop m.key.tick m.key.resource reason)) first) is none_near;
+            found = ap (λ (r : Refusal). r.finding) is;
+            other = λ says. by which basic (says ∙ ap (λ (m : model.Line). last_line sys (AtStop m.key.tick m.key.resource reason)) first) says none_near;
           },
           none_near,
         )))))
@@ -429,10 +438,10 @@ module _ (t : PortTable) (form : Form) (takings : List Taking) (w : Walk) (a : A
     }
 
     pub freely_stop :
-        (steps n : ℕ) (reason : Reason) → n ≡ done.trail.reading.number → stop ≡ Some reason → (reason ≡ Steps) ⊎ (reason ≡ Steps → ⊥)
+        (steps : ℕ) (n : Refusal) (reason : Reason) → n ≡ record { number = done.trail.reading.number; finding = why.Stops reason } → stop ≡ Some reason → (reason ≡ Steps) ⊎ (reason ≡ Steps → ⊥)
         → ((reason ≡ Steps → ⊥) → done.trail.reading.next ≡ next.End (Stop (record { tick = line.key.tick; resource = line.key.resource; reason = reason })) → ⊥) → IsWrongLine sys steps n text
-    freely_stop steps n reason number stops which other =
-        wrong_stop rows ahead goes.taking goes.first_is done b.text.items all.0 all.1 all.2 steps n reason number (goes.stop_is ∙ stops) goes.is_taking far
+    freely_stop steps n reason refused stops which other =
+        wrong_stop rows ahead goes.taking goes.first_is done b.text.items all.0 all.1 all.2 steps n reason refused (goes.stop_is ∙ stops) goes.is_taking far
         (λ not is.
         no_stop_text sys form at.names at.apart line.key.tick done.trail.reading.line.items done.trail.reading.next line.key.tick line.key.resource reason next_is (omega arith)
         (at.is.line.range.tick, at.is.line.belongs.resource) (other not) is) which

@@ -1,16 +1,24 @@
 -- The event after which a trace may stop for its steps: which line is wrong where it does not.
-use Rattle.fb_inspect.proofs.lemmas.Common.{◌≡◌, ◌⊎◌, ℕ, Bool, true, false, List, [], ◌∷◌, ◌++◌, map, Option, Some, None, refl, sym, ap, subst, ◌∙◌, inl, inr, append_assoc, All-cons, system_of, line_of, System, line_text, lines_text, BlockType, Form, Line, Reason, Steps, IsLineOf, PortTable, KeepSteps, KeepsLimit, all_lines, last_look, limited, IsAlone, IsTaking, Look, Taking, left_at, opening_look, FailsBy, IsWrongLine, Refuses, steps_stop, AreAhead, Watches, WalkTakes, unread, Ahead, WalkError, Refused, Reading, Walk}
+use Rattle.fb_inspect.proofs.lemmas.Common.{◌≡◌, ◌⊎◌, ℕ, Bool, true, false, List, [], ◌∷◌, ◌++◌, map, Option, Some, None, refl, sym, ap, subst, ◌∙◌, inl, inr, append_assoc, All-cons, system_of, line_of, System, line_text, lines_text, BlockType, Form, Line, Reason, Steps, IsLineOf, PortTable, KeepSteps, KeepsLimit, all_lines, last_look, limited, IsAlone, IsTaking, Look, Taking, left_at, opening_look, FailsBy, IsUnstarted, IsWrongLine, Finding, Refusal, Refuses, steps_stop, AreAhead, Watches, WalkTakes, unread, Ahead, WalkError, Refused, Reading, Walk}
 use Rattle.fb_types.specs.States as model
-use Rattle.fb_inspect.specs.Refusals.{StopsSoon}
+use Rattle.fb_inspect.specs.Refusals.{IsEndFound, StopsSoon}
+use Rattle.fb_inspect.specs.declared.refused.finding.Finding.TheVariants as why
 use Rattle.fb_inspect.specs.walk.Standing.{IsNear, StandsAt}
 use Rattle.fb_inspect.proofs.lemmas.lines.Moving.{lines-append}
-use Rattle.fb_inspect.proofs.lemmas.results.Errors.{of_number}
+use Rattle.fb_inspect.proofs.lemmas.results.Errors.{of_refusal}
 use Rattle.fb_inspect.proofs.lemmas.walk.StandsAfter.{begins_nothing, goes_reads, otherwise, own, own_of, reads_first, taking_is, wrong_after, wrong_here}
 use Rattle.fb_inspect.proofs.lemmas.walk.Watched.{too_many_wrong}
 
 pub stop_same : (a b : Option Reason) (P : Type 0) → a ≡ b → (a ≡ Some Steps) ⊎ ((a ≡ None) × P) → (b ≡ Some Steps) ⊎ ((b ≡ None) × P)
 stop_same a b P same (inl stops) = inl (sym same ∙ stops)
 stop_same a b P same (inr (none, p)) = inr (sym same ∙ none, p)
+
+-- what is found where a taking ended so: the reason that stopped it, or else this
+pub end_found :
+    (stop : Option Reason) (says_so : Type 0) (f other : Finding) → ((r : Reason) → stop ≡ Some r → f ≡ why.Stops r) → (stop ≡ None → f ≡ other) → (f ≡ other → IsEndFound None says_so f)
+    → IsEndFound stop says_so f
+end_found (Some r) says_so f other stopped rested is = stopped r refl
+end_found None says_so f other stopped rested is = is (rested refl)
 
 module _ (t : PortTable) (form : Form) (takings : List Taking) (w : Walk) (a : Ahead) (line : Line) (rest text : List ℕ) (at : StandsAt (system_of t.system.now) form takings w a.text.items a.last.items line rest text)
     (rows : List Line) (ahead : AreAhead (system_of t.system.now) form line rows a.text.items a.last.items rest) (steps : ℕ) (near : IsNear (system_of t.system.now) line a.last.items) where
@@ -50,25 +58,28 @@ module _ (t : PortTable) (form : Form) (takings : List Taking) (w : Walk) (a : A
   }
 
   -- its resource had used more than the steps in the tick
-  pub last_limit : (n : ℕ) → n ≡ w.trail.reading.number → (KeepsLimit steps line.key.tick line.key.resource look → ⊥) → IsWrongLine sys steps n text
-  last_limit n number over = wrong_here t form takings w a line rest text at steps n number (inr (inl (line, soon, inl (refl, over))))
+  pub last_limit :
+      (n : Refusal) → n ≡ record { number = w.trail.reading.number; finding = why.NoStep } → (KeepsLimit steps line.key.tick line.key.resource look → ⊥) → IsWrongLine sys steps n text
+  last_limit n is over =
+      wrong_here t form takings w a line rest text at steps n (ap (λ (r : Refusal). r.number) is) (inr (inl (line, soon, inl (refl, over, ap (λ (r : Refusal). r.finding) is))))
 
   -- some resource had used more than the steps in some tick
   pub last_kept :
-      (e : Bool) (k : ℕ) (event : List ℕ) → Watches sys form steps takings k event e → (KeepSteps sys steps look → ⊥) → (error : WalkError) → (e ≡ true → error ≡ Refused k)
+      (e : Bool) (k : ℕ) (event : List ℕ) → Watches sys form steps takings k event e → (KeepSteps sys steps look → ⊥) → (error : WalkError)
+      → (e ≡ true → error ≡ Refused (record { number = k; finding = why.NoStep }))
       → Refuses (λ n. IsWrongLine sys steps n text) error
   last_kept true k event many over error is =
-      of_number (λ n. IsWrongLine sys steps n text) error k (is refl)
+      of_refusal (λ n. IsWrongLine sys steps n text) error (record { number = k; finding = why.NoStep }) (is refl)
       (too_many_wrong sys form at.names steps takings w a.text.items a.last.items rest text at.stands k event many (line ∷ rows) (All-cons (IsLineOf sys) line rows at.is.line (λ n d h. (ahead.each n d h).line)) line.key.tick line.key.resource
       (at.is.line.range.tick, at.is.line.belongs.resource) rest whole (λ front z e none. absurd (cc)))
   last_kept false k event kept over error is = absurd (over kept)
 
   -- the next line, or one after it, is not that of the taking
   pub last_fails :
-      (n : ℕ) (new : Reading) (left : List ℕ) → FailsBy (IsTaking sys steps less) sys form line w.trail.reading new (Some a.text.items) (Some left) n → IsWrongLine sys steps n text
+      (n : Refusal) (new : Reading) (left : List ℕ) → FailsBy (IsTaking sys steps less) (IsUnstarted sys steps less line) sys form line w.trail.reading new (Some a.text.items) (Some left) n → IsWrongLine sys steps n text
   last_fails n new left (inl none) =
       wrong_here t form takings w a line rest text at steps n none.number_is
-      (inr (inl (line, soon, inr (inl (refl, begins_nothing t form takings w a line rest text at (IsTaking sys steps less) none.none)))))
+      (inr (inl (line, soon, inr (inl (refl, begins_nothing t form takings w a line rest text at (IsTaking sys steps less) (IsUnstarted sys steps less) n.finding none.none none.found)))))
   last_fails n new left (inr fails) =
       wrong_after t form takings w a line rest text at rows ahead fails.passed new left fails.reads
       (own_of t form takings w a line rest text at (IsTaking sys steps less) new (Some a.text.items) (Some left) n fails) steps n fails.number_is
@@ -77,10 +88,11 @@ module _ (t : PortTable) (form : Form) (takings : List Taking) (w : Walk) (a : A
   -- the taking does not use up the steps, or the next line does not say so
   pub last_goes :
       (types : List BlockType) (stop : Option Reason) (between done : Walk) (b : Ahead) → between.trail ≡ w.trail → (goes : WalkTakes types sys form steps less line stop between done (unread a (Some [])) (unread b (Some [])))
-      → (IsAlone between.trail.reading.line.items (Some a.text.items) → IsAlone done.trail.reading.line.items (Some b.text.items)) → (n : ℕ) → n ≡ done.trail.reading.number
+      → (IsAlone between.trail.reading.line.items (Some a.text.items) → IsAlone done.trail.reading.line.items (Some b.text.items)) → (n : Refusal) → n.number ≡ done.trail.reading.number
+      → IsEndFound stop (done.trail.reading.line.items ≡ steps_stop sys (line_of sys line)) n.finding
       → (done.trail.reading.line.items ≡ steps_stop sys (line_of sys line)
       → (goes.taking.stop ≡ Some Steps) ⊎ ((goes.taking.stop ≡ None) × (left_at steps line.key.tick (goes.taking.after.steps line.key.resource) ≡ 0)) → ⊥) → IsWrongLine sys steps n text
-  last_goes types stop between done b same goes alone n number other =
+  last_goes types stop between done b same goes alone n number found other =
       let x = goes.taking in
       let all = reads_first t form takings w a line rest text at x goes.first_is done.trail.reading b.text.items goes.lines goes.lines_are
       (goes_reads t form takings w a line rest text at types steps less stop between done b same goes alone) in
@@ -98,6 +110,8 @@ module _ (t : PortTable) (form : Form) (takings : List Taking) (w : Walk) (a : A
               taking = x;
               is_taking = goes.is_taking;
               lines_are = sym (taking_is t form takings w a line rest text at rows ahead x goes.first_is done b.text.items all.0 all.1 all.2);
+              found = subst (λ (m : model.Line). IsEndFound x.stop (done.trail.reading.line.items ≡ steps_stop sys m) n.finding) (sym key_is)
+                  (subst (λ (s : Option Reason). IsEndFound s (done.trail.reading.line.items ≡ steps_stop sys (line_of sys line)) n.finding) (sym goes.stop_is) found);
               other = λ is out.
                   other (is ∙ ap (steps_stop sys) key_is)
                   (subst (λ (m : model.Line). (x.stop ≡ Some Steps) ⊎ ((x.stop ≡ None) × (left_at steps m.key.tick (x.after.steps m.key.resource) ≡ 0))) key_is out);

@@ -1,5 +1,6 @@
 -- A walk from its first line to the line that is refused.
-use Rattle.fb_inspect.proofs.lemmas.Common.{◌≡◌, ◌<◌, ℕ, ◌+◌, Bool, false, List, [], ◌∷◌, ◌++◌, length, map, Option, Some, None, refl, sym, ap, subst, ◌∙◌, inl, inr, arith, IfSome, take_through, Consumes, All-nil, line_of, System, lines_text, BlockType, Form, ending_of, Outcome, Marks, last_tick, IsLineOf, Selection, IsNext, Taking, opening_look, IsWrongAt, BeginsText, IsLeft, StandsWell, Watches, IsLookOf, Starts, Ahead, Page, Trail, Walk, IsFirstLine, HasNames}
+use Rattle.fb_inspect.proofs.lemmas.Common.{◌≡◌, ◌<◌, ℕ, ◌+◌, Bool, false, List, [], ◌∷◌, ◌++◌, length, map, Option, Some, None, refl, sym, ap, subst, ◌∙◌, inl, arith, IfSome, take_through, Consumes, All-nil, line_of, System, lines_text, BlockType, Form, ending_of, Outcome, Marks, last_tick, IsLineOf, Selection, IsNext, Taking, opening_look, BeginsText, IsLeft, StandsWell, Watches, IsLookOf, Starts, Ahead, Page, Trail, Walk, IsFirstLine, HasNames}
+use Rattle.fb_inspect.specs.Refusals.{IsAfterLast}
 use Rattle.fb_inspect.specs.walk.Walking.{IsComplete}
 use Rattle.fb_inspect.specs.declared.walk.trail.PassedLines.{PassedLines}
 use Rattle.fb_wave.proofs.lemmas.Copied.{ends_after}
@@ -53,12 +54,11 @@ well_flushed sys form steps w page a rest text well = record { takings = well.ta
 -- more than the last line is left
 pub after_last :
     (types : List BlockType) (first : Marks) (sys : System) (form : Form) (what : Selection) (steps : ℕ) (w : Walk) (end : Outcome) (text : List ℕ) (remaining old mid : Option (List ℕ)) (n : ℕ)
-    → IsComplete types first sys form what steps w end (Some text) remaining old mid → n ≡ w.trail.reading.number + 1 → IfSome remaining (λ rest. 0 < length rest) → IsWrongAt sys steps n text
+    → IsComplete types first sys form what steps w end (Some text) remaining old mid → n ≡ w.trail.reading.number + 1 → IfSome remaining (λ rest. 0 < length rest) → IsAfterLast sys steps n text
 after_last types first sys form what steps w end text None old mid n complete number more = absurd complete.gone.read
 after_last types first sys form what steps w end text (Some rest) old mid n complete number more =
     let counted = complete.gone.numbered in
-    inr
-    (record {
+    record {
       front = lines_text form sys (map (line_of sys) complete.gone.lines) ++ w.trail.reading.line.items;
       accepted = record {
         form = form;
@@ -78,7 +78,7 @@ after_last types first sys form what steps w end text (Some rest) old mid n comp
       rest = rest;
       more = more;
       is = complete.gone.read;
-    })
+    }
 
 -- the first line of a text that is known
 pub text_begins :

@@ -1,4 +1,4 @@
-use Rattle.fb_inspect.proofs.lemmas.Common.{system_of, path_at, event_at, err_from_is_err_and, [], ◌∷◌, List, Some, inl, inr, refl, sym, ap, subst, ◌∙◌, Position, Name, Value, ChartTaking, values_of, ShowsChain, ChartGoes, place, Chart, Reading, Trail, IsTakingAt, ChartFails, FailsBy}
+use Rattle.fb_inspect.proofs.lemmas.Common.{system_of, path_at, event_at, err_from_is_err_and, [], ◌∷◌, List, Some, inl, inr, refl, sym, ap, subst, ◌∙◌, Position, Name, Value, ChartTaking, values_of, ShowsChain, ChartGoes, place, Chart, Reading, Trail, IsTakingAt, ChartFails, FailsBy, IsUnbegun, Refusal}
 use Rattle.fb_inspect.proofs.lemmas.walk.Walked.{chart_goes, chart_kept_at, chart_taking}
 use Rattle.fb_ecc.specs.Indexes.{sampled}
 use Rattle.fb_inspect.specs.walk.OfWalk.{IsNext}
@@ -6,9 +6,10 @@ use Rattle.fb_inspect.proofs.lemmas.reactions.ChartFailing.{reaction_fails}
 use Rattle.fb_inspect.proofs.lemmas.reactions.Charted.{begun_at, reaction_goes}
 use Rattle.fb_inspect.proofs.lemmas.walk.FailedTakings.{chart_fails, untaken_chart}
 use Rattle.fb_inspect.proofs.lemmas.lines.NearStop.{basic_kept}
-use Rattle.fb_inspect.proofs.lemmas.results.Errors.{of_number}
+use Rattle.fb_inspect.proofs.lemmas.results.Errors.{of_refusal}
 use Rattle.fb_inspect.proofs.lemmas.results.Refused.{err_passed, none_passed, none_refused, reads_of}
 use Rattle.fb_inspect.proofs.lemmas.results.Joined.{ok_passed}
+use Rattle.fb_inspect.specs.declared.refused.finding.Finding.TheVariants as why
 use Rattle.fb_inspect.proofs.walk.react_basic.Goals as goal
 
 pub returns-then-not-line-clause-refused : goal.returns-then-not-line-clause-refused
@@ -17,10 +18,9 @@ returns-then-not-line-clause-refused g c = λ look names plain kept.
     let l = c.args.line.now in
     let k = sys.kind (path_at sys l.instance) in
     let old = c.args.trail.now.reading in
-    let new = c.refusal.new.self.reading in
-    of_number (FailsBy (IsTakingAt c.args.meter.now.left look k) sys c.args.fixed.now.form l old new (g.R.Read.remaining c.args.input.now) (g.R.Read.remaining c.args.input.now)) c.refusal.result old.number
-    c.refusal.ensures.refused
-    (inl (untaken_chart sys k c.in-Some.block.now look c.args.meter.now.left l old new old.number c.in-Some.ensures.basic c.if-not-line.true c.refusal.ensures.reading refl))
+    let unmade : Refusal = record { number = old.number; finding = why.Unmade } in
+    of_refusal (FailsBy (IsTakingAt c.args.meter.now.left look k) (IsUnbegun sys l) sys c.args.fixed.now.form l old old (g.R.Read.remaining c.args.input.now) (g.R.Read.remaining c.args.input.now)) c.refusal.result
+    unmade c.refusal.ensures (inl (untaken_chart sys k c.in-Some.block.now look c.args.meter.now.left l old unmade c.in-Some.ensures.basic refl c.if-not-line.true refl))
 
 pub returns-in_err-pass-clause-refused : goal.returns-in_err-pass-clause-refused
 returns-in_err-pass-clause-refused g c = λ look names plain kept.
@@ -143,7 +143,7 @@ returns-in_err-end-clause-refused g c = λ look names plain kept.
     let new : Reading = c.follow.new.trail.reading in
     let start : Chart = record (c.args.chart.now) { state = now } in
     err_passed _ _ (λ n. ChartFails x (ShowsChain t (Some e)) (place t start left) passed.reading new between after n)
-    (FailsBy (IsTakingAt left look (sys.kind p)) sys x.fixed.form l c.args.trail.now.reading new before after) c.from_residual-in_err-end.ensures.1 (c.in_err-end.ensures.refused names plain)
+    (FailsBy (IsTakingAt left look (sys.kind p)) (IsUnbegun sys l) sys x.fixed.form l c.args.trail.now.reading new before after) c.from_residual-in_err-end.ensures.1 (c.in_err-end.ensures.refused names plain)
     (λ n fails.
     inr
     (chart_fails x look c.args.chart.now c.args.chart.now left 0 c.args.trail.now.reading passed.reading new before between after n taking is

@@ -1,4 +1,4 @@
-use Rattle.fb_inspect.proofs.lemmas.Common.{[], ◌∷◌, None, inl, inr, subst, sym, ◌∙◌, system_of, path_at, IsTakingAt, emissions_by, EmitsFail, FailsBy, taken_reaction, IsKept, Remembered}
+use Rattle.fb_inspect.proofs.lemmas.Common.{[], ◌∷◌, None, inl, inr, refl, subst, sym, ◌∙◌, system_of, path_at, IsTakingAt, emissions_by, EmitsFail, FailsBy, IsUnbegun, taken_reaction, IsKept, Remembered}
 use Rattle.fb_inspect.specs.walk.OfWalk.{CanReact}
 use Rattle.fb_inspect.specs.Refusals.{IsNotDue}
 use Rattle.fb_inspect.specs.walk.Walking.{KeptGoes}
@@ -44,9 +44,9 @@ returns-in-Event-clause-refused g c = λ look names plain kept.
     let own = subst (λ (r : Remembered). IsKept (sys.kind p) r (look.blocks p)) c.in-Event.is kept in
     err_joined c.and.result c.expire_block.result None _ c.and.ensures
     (err_refused c.expire_block.result (IsNotDue sys b.state.kind (look.blocks p) l old new)
-    (FailsBy (IsTakingAt left look (sys.kind p)) sys form l old new (g.R.Read.remaining c.args.input.now) (g.R.Read.remaining c.expire_block.new.input))
+    (FailsBy (IsTakingAt left look (sys.kind p)) (IsUnbegun sys l) sys form l old new (g.R.Read.remaining c.args.input.now) (g.R.Read.remaining c.expire_block.new.input))
     (c.expire_block.ensures.refused (look.blocks p) (event_kept_at (sys.kind p) b (look.blocks p) own) names plain)
-    (λ n due. inl (not_due sys (sys.kind p) b.state.kind look left l old new n line.kind c.if-not-line.true due)))
+    (λ n due. inl (not_due sys (sys.kind p) b.state.kind look left l old new n line.kind refl c.if-not-line.true due)))
 
 pub returns-in-Event-clause-next : goal.returns-in-Event-clause-next
 returns-in-Event-clause-next g c = on_joined c.and.result c.expire_block.result None _ c.and.ensures c.expire_block.ensures.next
@@ -88,7 +88,7 @@ returns-in_ok-pass-in-Event-2-clause-refused g c = λ look names plain kept.
     let own = subst (λ (r : Remembered). IsKept (sys.kind p) r (look.blocks p)) c.in-Event.is kept in
     err_joined c.and-in-Event-2.result c.react_block.result None _ c.and-in-Event-2.ensures
     (err_refused c.react_block.result (EmitsFail sys form l (emissions_by b.state.kind (taken_reaction sys b.state.kind (look.blocks p) l)) mid.reading new between after)
-    (FailsBy (IsTakingAt left look (sys.kind p)) sys form l old.reading new before after)
+    (FailsBy (IsTakingAt left look (sys.kind p)) (IsUnbegun sys l) sys form l old.reading new before after)
     (c.react_block.ensures.refused (look.blocks p) (event_kept_at (sys.kind p) b (look.blocks p) own) names plain)
     (λ n fails.
     inr

@@ -6,8 +6,9 @@ use Rattle.fb_inspect.proofs.lemmas.walk.OneStep.{ended_whole, line_next, severe
 use Rattle.fb_inspect.proofs.lemmas.walk.Stepped.{bad_on, complete_bad, ended_here}
 use Rattle.fb_inspect.proofs.lemmas.lines.Judging.{bad_line, event_at, wrong_end}
 use Rattle.fb_inspect.proofs.lemmas.lines.OneEnd.{names_apart}
-use Rattle.fb_inspect.proofs.lemmas.results.Errors.{of_number}
+use Rattle.fb_inspect.proofs.lemmas.results.Errors.{of_refusal}
 use Rattle.fb_inspect.proofs.lemmas.results.Joined.{ok_passed}
+use Rattle.fb_inspect.specs.declared.refused.finding.Finding.TheVariants as why
 use Rattle.fb_inspect.proofs.walk.Walk.advance.Goals as goal
 
 pub returns-in-CutOff-clause-goes : goal.returns-in-CutOff-clause-goes
@@ -133,7 +134,7 @@ pub returns-in-Bad-clause-stands : goal.returns-in-Bad-clause-stands
 returns-in-Bad-clause-stands g c = λ rest text few names known well.
     let fixed = c.args.fixed.now in
     let sys = system_of fixed.table.now.system.now in
-    of_number (λ n. IsWrongLine sys c.args.terms.steps n text) c.refusal.result c.args.self.now.trail.reading.number c.refusal.ensures.refused
+    of_refusal (λ n. IsWrongLine sys c.args.terms.steps n text) c.refusal.result (record { number = c.args.self.now.trail.reading.number; finding = why.Line }) c.refusal.ensures
     (bad_line sys fixed.form c.args.terms.steps c.args.self.now c.args.ahead.now rest text names well c.in-Bad.ensures.value)
 
 pub returns-in_err-advance_by_event-in-Event-clause-goes : goal.returns-in_err-advance_by_event-in-Event-clause-goes

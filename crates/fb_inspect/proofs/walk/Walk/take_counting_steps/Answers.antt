@@ -1,8 +1,8 @@
-use Rattle.fb_inspect.proofs.lemmas.Common.{◌≡◌, ◌≤◌, ◌<◌, ◌+◌, ◌∷◌, ◌++◌, [], List, ℕ, Some, ap, inl, inr, length, refl, subst, sym, ◌∙◌, Vec, ◌||◌, not, length-map, err_from_is_err_and, system_of, line_of, line_text, all_lines, last_look, IsTaking, Left, most, opening_look, FailsBy, IsWrongLine, Watches, IsLookOf, unread, Ended}
+use Rattle.fb_inspect.proofs.lemmas.Common.{◌≡◌, ◌≤◌, ◌<◌, ◌+◌, ◌∷◌, ◌++◌, [], List, ℕ, Some, ap, inl, inr, length, refl, subst, sym, ◌∙◌, Vec, ◌||◌, not, length-map, err_from_is_err_and, system_of, line_of, line_text, all_lines, last_look, IsTaking, Left, most, opening_look, FailsBy, IsUnstarted, IsWrongLine, Watches, IsLookOf, unread, Ended}
 use Rattle.fb_types.specs.States as model
 use Rattle.fb_inspect.specs.declared.walk.ahead.EventLine.{EventLine}
 use Rattle.fb_inspect.specs.declared.walk.Step.TheVariants.{Taken}
-use Rattle.fb_inspect.proofs.lemmas.results.Errors.{of_number}
+use Rattle.fb_inspect.proofs.lemmas.results.Errors.{of_refusal}
 use Rattle.fb_inspect.proofs.lemmas.results.Joined.{ok_passed}
 use Rattle.fb_inspect.proofs.lemmas.lines.NearStop.{not_kept, not_over}
 use Rattle.fb_inspect.proofs.lemmas.walk.OneStep.{free_ends, free_goes, line_watched}
@@ -10,6 +10,7 @@ use Rattle.fb_inspect.proofs.lemmas.reactions.Placed.{item_is}
 use Rattle.fb_inspect.proofs.lemmas.results.Refused.{refused_then}
 use Rattle.fb_inspect.proofs.lemmas.walk.StandsAfter.{ahead_ahead, at_ahead, freely_on, freely_stop, watched_step, wrong_freely}
 use Rattle.fb_inspect.proofs.lemmas.walk.Watched.{watched_line, watches_on}
+use Rattle.fb_inspect.specs.declared.refused.finding.Finding.TheVariants as why
 use Rattle.fb_inspect.proofs.walk.Walk.take_counting_steps.Goals as goal
 
 pub returns-in_default-clause-takes : goal.returns-in_default-clause-takes
@@ -48,12 +49,12 @@ returns-in_err-stop-clause-stands c = λ takings rest text rows at watches ahead
     let new = c.take_from_ahead.new.self.trail.reading in
     let q = err_from_is_err_and c.from_residual-in_err-stop.result c.from_residual-in_err-stop.ensures.1 in
     rw (q.1, q.2)
-    (refused_then c.in_err-stop.field-0.0 (λ n. (left : List ℕ) × FailsBy (IsTaking sys fixed.limit look) sys fixed.form line old new (Some w.text.items) (Some left) n) (λ n. IsWrongLine sys c.args.steps n text)
+    (refused_then c.in_err-stop.field-0.0 (λ n. (left : List ℕ) × FailsBy (IsTaking sys fixed.limit look) (IsUnstarted sys fixed.limit look line) sys fixed.form line old new (Some w.text.items) (Some left) n) (λ n. IsWrongLine sys c.args.steps n text)
     (c.in_err-stop.ensures.refused look at2.names at2.plain at2.stands.look)
     (λ n fails.
     wrong_freely fixed.table.now fixed.form takings c.args.self.now w line rest text at2 c.args.steps n rows new fails.0 ahead2
     (λ basic kind is. far basic kind (ap (λ (v : Vec ℕ). v.items) (sym c.watch.ensures.last) ∙ is))
-    (subst (λ (limit : ℕ). FailsBy (IsTaking sys limit look) sys fixed.form line old new (Some w.text.items) (Some fails.0) n) c.requires.limit fails.1)))
+    (subst (λ (limit : ℕ). FailsBy (IsTaking sys limit look) (IsUnstarted sys limit look line) sys fixed.form line old new (Some w.text.items) (Some fails.0) n) c.requires.limit fails.1)))
 
 pub returns-then-is_for_steps-clause-stands : goal.returns-then-is_for_steps-clause-stands
 returns-then-is_for_steps-clause-stands c = λ takings rest text rows at watches ahead far.
@@ -64,12 +65,12 @@ returns-then-is_for_steps-clause-stands c = λ takings rest text rows at watches
     let at2 = at_ahead sys fixed.form takings c.args.self.now c.args.ahead.now w line rest text c.watch.ensures.text c.watch.ensures.last at in
     let ahead2 = ahead_ahead sys fixed.form c.args.ahead.now w line rows rest c.watch.ensures.text c.watch.ensures.last ahead in
     let is = c.is_for_steps.ensures.steps c.if-is_for_steps.true in
-    of_number (λ n. IsWrongLine sys c.args.steps n text) c.refusal.result c.take_from_ahead.new.self.trail.reading.number c.refusal.ensures.refused
+    of_refusal (λ n. IsWrongLine sys c.args.steps n text) c.refusal.result (record { number = c.take_from_ahead.new.self.trail.reading.number; finding = why.Stops c.in-Some.reason }) c.refusal.ensures
     (freely_stop fixed.table.now fixed.form takings c.args.self.now w line rest text at2 rows ahead2
     (λ basic kind is. far basic kind (ap (λ (v : Vec ℕ). v.items) (sym c.watch.ensures.last) ∙ is))
     fixed.table.now.system.now.library.blocks fixed.limit c.requires.limit c.take_from_ahead.new.self c.take_from_ahead.new.ahead c.in_ok-stop.stop
     (c.in_ok-stop.ensures.goes (last_look (opening_look sys) takings) (Some []) at2.stands.look) c.in_ok-stop.ensures.alone c.in_ok-stop.ensures.last c.in_ok-stop.ensures.next c.args.steps
-    c.take_from_ahead.new.self.trail.reading.number c.in-Some.reason refl c.in-Some.is (inl is) (λ not. absurd (not is)))
+    (record { number = c.take_from_ahead.new.self.trail.reading.number; finding = why.Stops c.in-Some.reason }) c.in-Some.reason refl c.in-Some.is (inl is) (λ not. absurd (not is)))
 
 pub returns-then-not-is_stop-clause-stands : goal.returns-then-not-is_stop-clause-stands
 returns-then-not-is_stop-clause-stands c = λ takings rest text rows at watches ahead far.
@@ -79,12 +80,13 @@ returns-then-not-is_stop-clause-stands c = λ takings rest text rows at watches 
     let w = c.watch.new.self in
     let at2 = at_ahead sys fixed.form takings c.args.self.now c.args.ahead.now w line rest text c.watch.ensures.text c.watch.ensures.last at in
     let ahead2 = ahead_ahead sys fixed.form c.args.ahead.now w line rows rest c.watch.ensures.text c.watch.ensures.last ahead in
-    of_number (λ n. IsWrongLine sys c.args.steps n text) c.refusal-then-not-is_stop.result c.take_from_ahead.new.self.trail.reading.number c.refusal-then-not-is_stop.ensures.refused
+    of_refusal (λ n. IsWrongLine sys c.args.steps n text) c.refusal-then-not-is_stop.result (record { number = c.take_from_ahead.new.self.trail.reading.number; finding = why.Stops c.in-Some.reason })
+    c.refusal-then-not-is_stop.ensures
     (freely_stop fixed.table.now fixed.form takings c.args.self.now w line rest text at2 rows ahead2
     (λ basic kind is. far basic kind (ap (λ (v : Vec ℕ). v.items) (sym c.watch.ensures.last) ∙ is))
     fixed.table.now.system.now.library.blocks fixed.limit c.requires.limit c.take_from_ahead.new.self c.take_from_ahead.new.ahead c.in_ok-stop.stop
     (c.in_ok-stop.ensures.goes (last_look (opening_look sys) takings) (Some []) at2.stands.look) c.in_ok-stop.ensures.alone c.in_ok-stop.ensures.last c.in_ok-stop.ensures.next c.args.steps
-    c.take_from_ahead.new.self.trail.reading.number c.in-Some.reason refl c.in-Some.is (inr (c.is_for_steps.ensures.other c.if-is_for_steps.false)) (λ not. c.is_stop.ensures.other c.if-not-is_stop.true))
+    (record { number = c.take_from_ahead.new.self.trail.reading.number; finding = why.Stops c.in-Some.reason }) c.in-Some.reason refl c.in-Some.is (inr (c.is_for_steps.ensures.other c.if-is_for_steps.false)) (λ not. c.is_stop.ensures.other c.if-not-is_stop.true))
 
 pub returns-in_default-clause-stands : goal.returns-in_default-clause-stands
 returns-in_default-clause-stands c = λ takings rest text rows at watches ahead far.

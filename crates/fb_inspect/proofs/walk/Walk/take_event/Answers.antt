@@ -1,15 +1,16 @@
-use Rattle.fb_inspect.proofs.lemmas.Common.{◌≡◌, ℕ, ◌<◌, suc, List, length, slice_set, refl, ap, sym, subst, inl, ◌∙◌, arith, IfErr, OnOk, ◌&&◌, if◌then◌else◌, slice_get, take, same_Some, system_of, path_at, IsTaking, IsTakingAt, left_at, FailsBy, Refuses, IsAlone, WalkTakes, Reading, Remembered, Trail, TickSteps, Walk}
+use Rattle.fb_inspect.proofs.lemmas.Common.{◌≡◌, ℕ, ◌<◌, suc, List, length, slice_set, refl, ap, sym, subst, inl, ◌∙◌, arith, IfErr, OnOk, ◌&&◌, if◌then◌else◌, slice_get, take, same_Some, system_of, path_at, IsTaking, IsTakingAt, left_at, FailsBy, IsUnbegun, IsUnstarted, Refusal, Refuses, IsAlone, WalkTakes, Reading, Remembered, Trail, TickSteps, Walk}
 use Rattle.fb_types.proofs.Common.{length-set}
 use Rattle.fb_types.proofs.lemmas.lists.ByIndex.{element_at}
 use Rattle.fb_net.proofs.lemmas.blocks.OtherBlocks.{get_set_same}
 use Rattle.fb_inspect.specs.Selections.{is_wanted}
 use Rattle.fb_inspect.specs.walk.OfWalk.{IsNext}
 use Rattle.fb_inspect.specs.walk.Walking.{is_chart}
-use Rattle.fb_inspect.proofs.lemmas.results.Errors.{of_number}
+use Rattle.fb_inspect.proofs.lemmas.results.Errors.{of_refusal}
 use Rattle.fb_inspect.proofs.lemmas.walk.FailedTakings.{fails_whole, no_step, too_late}
 use Rattle.fb_inspect.proofs.lemmas.reactions.Placed.{item_is, ok_on, ok_then}
 use Rattle.fb_inspect.proofs.lemmas.results.Refused.{err_refused}
 use Rattle.fb_inspect.proofs.lemmas.walk.Walked.{taking_gone}
+use Rattle.fb_inspect.specs.declared.refused.finding.Finding.TheVariants as why
 use Rattle.fb_inspect.proofs.walk.Walk.take_event.Goals as goal
 
 pub index_mut-steps-requires : goal.index_mut-steps-requires
@@ -91,11 +92,11 @@ returns-then-line-gt-LATEST_TICK-clause-refused g c = λ look names plain is.
     let sys = system_of c.args.fixed.now.table.now.system.now in
     let l = c.args.line.now in
     let old = c.args.self.now.trail.reading in
-    let new = c.refusal.new.self.reading in
+    let limit = c.args.fixed.now.limit in
     let over = c.if-line-gt-LATEST_TICK.true in
-    of_number (FailsBy (IsTaking sys c.args.fixed.now.limit look) sys c.args.fixed.now.form l old new (g.R.Read.remaining c.args.input.now) (g.R.Read.remaining c.args.input.now)) c.refusal.result old.number
-    c.refusal.ensures.refused
-    (inl (too_late sys c.args.fixed.now.limit look l old new old.number (λ early. absurd (omega (arith, early, over))) c.refusal.ensures.reading refl))
+    let late : Refusal = record { number = old.number; finding = why.Late } in
+    of_refusal (FailsBy (IsTaking sys limit look) (IsUnstarted sys limit look l) sys c.args.fixed.now.form l old old (g.R.Read.remaining c.args.input.now) (g.R.Read.remaining c.args.input.now)) c.refusal.result late
+    c.refusal.ensures (inl (too_late sys limit look l old late (λ early. absurd (omega (arith, early, over))) refl))
 
 pub returns-then-not-use_step-clause-refused : goal.returns-then-not-use_step-clause-refused
 returns-then-not-use_step-clause-refused g c = λ look names plain is.
@@ -103,12 +104,14 @@ returns-then-not-use_step-clause-refused g c = λ look names plain is.
     let l = c.args.line.now in
     let limit = c.args.fixed.now.limit in
     let old = c.args.self.now.trail.reading in
-    let new = c.refusal-then-not-use_step.new.self.reading in
+    let none : Refusal = record { number = old.number; finding = why.NoStep } in
     let within = subst (λ (n : ℕ). l.key.resource < n) (sym is.counts) c.requires.is.line.belongs.resource in
     let own = element_at c.args.self.now.steps.items l.key.resource within in
-    of_number (FailsBy (IsTaking sys limit look) sys c.args.fixed.now.form l old new (g.R.Read.remaining c.args.input.now) (g.R.Read.remaining c.args.input.now)) c.refusal-then-not-use_step.result old.number
-    c.refusal-then-not-use_step.ensures.refused
-    (inl (no_step sys limit look l old new old.number (ap (left_at limit l.key.tick) (is.lefts l.key.resource own.0 own.1) ∙ c.if-not-use_step.ensures.none own.0 own.1) c.refusal-then-not-use_step.ensures.reading refl))
+    of_refusal (FailsBy (IsTaking sys limit look) (IsUnstarted sys limit look l) sys c.args.fixed.now.form l old old (g.R.Read.remaining c.args.input.now) (g.R.Read.remaining c.args.input.now))
+    c.refusal-then-not-use_step.result none c.refusal-then-not-use_step.ensures
+    (inl
+    (no_step sys limit look l old none c.if-line-gt-LATEST_TICK.false (ap (left_at limit l.key.tick) (is.lefts l.key.resource own.0 own.1) ∙ c.if-not-use_step.ensures.none own.0 own.1)
+    refl))
 
 pub returns-clause-refused : goal.returns-clause-refused
 returns-clause-refused g c = λ look names plain is.
@@ -130,9 +133,10 @@ returns-clause-refused g c = λ look names plain is.
     let resource = subst (λ (n : ℕ). l.key.resource < n) (sym counted) c.requires.is.line.belongs.resource in
     let there = item_is c.use_step.new.steps.items l.key.resource c.index_mut-steps.result.now resource c.index_mut-steps.ensures.value in
     let same : c.index_mut-steps.result.now ≡ stepped.after = same_Some c.index_mut-steps.result.now stepped.after (sym there ∙ stood) in
-    subst (λ (r : Reading). IfErr c.react_kept-stop.result (Refuses (FailsBy (IsTaking sys limit look) sys form l old r before after))) (sym (ap (λ (w : Walk). w.trail.reading) c.leave_out.ensures.others))
-    (err_refused c.react_kept-stop.result (FailsBy (IsTakingAt stepped.after.meter.left look k) sys form l old new before after) (FailsBy (IsTaking sys limit look) sys form l old new before after)
-    (subst (λ (s : TickSteps). IfErr c.react_kept-stop.result (Refuses (FailsBy (IsTakingAt s.meter.left look k) sys form l old new before after))) same
+    subst (λ (r : Reading). IfErr c.react_kept-stop.result (Refuses (FailsBy (IsTaking sys limit look) (IsUnstarted sys limit look l) sys form l old r before after))) (sym (ap (λ (w : Walk). w.trail.reading) c.leave_out.ensures.others))
+    (err_refused c.react_kept-stop.result (FailsBy (IsTakingAt stepped.after.meter.left look k) (IsUnbegun sys l) sys form l old new before after)
+    (FailsBy (IsTaking sys limit look) (IsUnstarted sys limit look l) sys form l old new before after)
+    (subst (λ (s : TickSteps). IfErr c.react_kept-stop.result (Refuses (FailsBy (IsTakingAt s.meter.left look k) (IsUnbegun sys l) sys form l old new before after))) same
     (c.react_kept-stop.ensures.refused look names plain (is.are.each l.instance c.index_mut-block.result.now at)))
     (λ n fails. fails_whole sys limit look l stepped.after.meter.left used c.if-line-gt-LATEST_TICK.false form old new before after n fails))
 

@@ -1,4 +1,4 @@
-use Rattle.fb_inspect.proofs.lemmas.Common.{List, Some, ℕ, subst, sym, ◌∙◌, err_from_is_err_and, system_of, IsAlone, IsTaking, FailsBy}
+use Rattle.fb_inspect.proofs.lemmas.Common.{List, Some, ℕ, subst, sym, ◌∙◌, err_from_is_err_and, system_of, IsAlone, IsTaking, FailsBy, IsUnstarted}
 use Rattle.fb_inspect.proofs.lemmas.walk.Stepped.{taking_joined}
 use Rattle.fb_inspect.proofs.lemmas.results.Refused.{none_passed, refused_then}
 use Rattle.fb_inspect.proofs.lemmas.results.Joined.{ok_passed}
@@ -28,10 +28,10 @@ returns-in_err-stop-clause-refused c = λ look names plain is.
     let new = c.take_event.new.self.trail.reading in
     let q = err_from_is_err_and c.from_residual.result c.from_residual.ensures.1 in
     rw (q.1, q.2)
-    (refused_then c.in_err-stop.field-0.0 (FailsBy T sys fixed.form c.args.line.now old new (Some c.as_slice-rest.result.now) (Some c.take_event.new.input.now))
-    (λ n. (rest : List ℕ) × FailsBy T sys fixed.form c.args.line.now old new (Some c.args.ahead.now.text.items) (Some rest) n) (c.in_err-stop.ensures.refused look names plain is)
+    (refused_then c.in_err-stop.field-0.0 (FailsBy T (IsUnstarted sys fixed.limit look c.args.line.now) sys fixed.form c.args.line.now old new (Some c.as_slice-rest.result.now) (Some c.take_event.new.input.now))
+    (λ n. (rest : List ℕ) × FailsBy T (IsUnstarted sys fixed.limit look c.args.line.now) sys fixed.form c.args.line.now old new (Some c.args.ahead.now.text.items) (Some rest) n) (c.in_err-stop.ensures.refused look names plain is)
     (λ n fails.
-    (c.take_event.new.input.now, subst (λ (u : List ℕ). FailsBy T sys fixed.form c.args.line.now old new (Some u) (Some c.take_event.new.input.now) n) c.as_slice-rest.ensures.value fails)))
+    (c.take_event.new.input.now, subst (λ (u : List ℕ). FailsBy T (IsUnstarted sys fixed.limit look c.args.line.now) sys fixed.form c.args.line.now old new (Some u) (Some c.take_event.new.input.now) n) c.as_slice-rest.ensures.value fails)))
 
 pub returns-in_err-stop-clause-goes : goal.returns-in_err-stop-clause-goes
 returns-in_err-stop-clause-goes c = λ _ _ _. ok_passed c.from_residual.result _ _ c.from_residual.ensures.1

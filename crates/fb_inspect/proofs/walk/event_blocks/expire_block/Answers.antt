@@ -24,10 +24,12 @@ returns-clause-next g c =
 pub returns-then-not-branch-clause-refused : goal.returns-then-not-branch-clause-refused
 returns-then-not-branch-clause-refused g c = λ s kept names plain.
     let sys = system_of c.args.fixed.now.table.now.system.now in
-    subst (λ (e : WalkError). Refuses (λ n. IsNotDue sys c.args.block.now.state.kind s c.args.line.now c.args.trail.now.reading c.refusal.new.self.reading n) e) (sym c.refusal.ensures.refused)
+    let reading = c.args.trail.now.reading in
+    subst (λ (e : WalkError). Refuses (IsNotDue sys c.args.block.now.state.kind s c.args.line.now reading reading) e) (sym c.refusal.ensures)
     (record {
-      same = c.refusal.ensures.reading;
+      same = refl;
       number_is = refl;
+      found = refl;
       other = not_due c.args.fixed.now.table.now c.args.block.now c.args.line.now c.requires.line names s kept (c.in_ok-expire_to.ensures.other (search rules));
     })
 

@@ -1,4 +1,4 @@
-use Rattle.fb_inspect.proofs.lemmas.Common.{List, ℕ, [], ◌∷◌, ap, refl, subst, sym, ◌∙◌, system_of, emission_of, line_of, path_at, ports_at, line_text, Key, IsNext, Goes, shown_text, Next, Reading, Trail}
+use Rattle.fb_inspect.proofs.lemmas.Common.{List, ℕ, [], ◌∷◌, refl, subst, sym, ◌∙◌, system_of, line_of, line_text, Key, IsNext, Goes, shown_text, Next, Reading, Trail}
 use Rattle.fb_types.specs.declared.run.Line as run
 use Rattle.fb_wave.proofs.lemmas.Handing.{on_ok}
 use Rattle.fb_inspect.proofs.lemmas.lines.Moving.{aside, goes_same}
@@ -43,14 +43,12 @@ returns-in_default-clause-refused g c = λ own fit.
     let form = c.args.fixed.now.form in
     let line = c.args.line.now in
     let e = c.args.emission.now in
-    let its = ports_at sys (path_at sys line.instance) in
     let old : Reading = c.args.self.now.reading in
-    let new : Reading = c.refusal_for.new.self.reading in
-    let same = c.refusal_for.ensures.reading in
+    let new : Reading = record old { next = c.replace-next.new.dest } in
     let other = other_next t form old.line.items line e own fit c.refusal_for.ensures.small old.next c.requires
     (λ (l : run.Line) at em. c.in_default.not-Event l (c.replace-next.ensures.value ∙ at)) in
     refused_then c.refusal_for.result _ _ c.refusal_for.ensures.refused
-    (λ n number. emits_fail sys form line (emission_of its e) old new (g.R.Read.remaining c.args.input.now) n (ap (λ (r : Reading). r.line.items) same) (ap (λ (r : Reading). r.number) same) number other)
+    (λ n is. emits_fail sys form line e old new (g.R.Read.remaining c.args.input.now) n refl refl is other)
 
 pub returns-then-not-is_emission-clause-refused : goal.returns-then-not-is_emission-clause-refused
 returns-then-not-is_emission-clause-refused g c = λ own fit.
@@ -59,11 +57,9 @@ returns-then-not-is_emission-clause-refused g c = λ own fit.
     let form = c.args.fixed.now.form in
     let line = c.args.line.now in
     let e = c.args.emission.now in
-    let its = ports_at sys (path_at sys line.instance) in
     let old : Reading = c.args.self.now.reading in
-    let new : Reading = c.refusal_for-then-not-is_emission.new.self.reading in
-    let same = c.refusal_for-then-not-is_emission.ensures.reading in
+    let new : Reading = record old { next = c.replace-next.new.dest } in
     let here = subst (λ (n : Next). IsNext sys form line.key.tick old.line.items n) (sym c.replace-next.ensures.value ∙ c.in-Event.is) c.requires in
     let other = other_event t form old.line.items line e own fit c.is_emission.ensures.small c.in-Event.next here.0 here.2 (c.is_emission.ensures.other c.if-not-is_emission.true) in
     refused_then c.refusal_for-then-not-is_emission.result _ _ c.refusal_for-then-not-is_emission.ensures.refused
-    (λ n number. emits_fail sys form line (emission_of its e) old new (g.R.Read.remaining c.args.input.now) n (ap (λ (r : Reading). r.line.items) same) (ap (λ (r : Reading). r.number) same) number other)
+    (λ n is. emits_fail sys form line e old new (g.R.Read.remaining c.args.input.now) n refl refl is other)
