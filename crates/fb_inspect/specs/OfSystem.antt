@@ -69,7 +69,7 @@ IsLineAt i = moves.IsLineAt (system_of i)
 abbrev pub IsWrongAt : Inputs → (steps number : ℕ) → (text : List ℕ) → Type 0
 IsWrongAt i = refusals.IsWrongAt (system_of i)
 
-abbrev pub IsWrongFor : Inputs → (steps : ℕ) → Refusal → (text : List ℕ) → Type 0
+abbrev pub IsWrongFor : Inputs → (steps : ℕ) → Refusal → (line text : List ℕ) → Type 0
 IsWrongFor i = refusals.IsWrongFor (system_of i)
 
 abbrev pub IsNamesFault : Inputs → InspectError → Type 0

@@ -347,11 +347,10 @@ IsWrongAfter sys form steps tick takings begun line text finding =
     ⊎ ((first : run.Line) × StopsSoon sys form takings first text × IsWrongLast sys form steps tick takings first begun line finding)
     ⊎ ((begun ≡ []) × UsesTooMany sys form steps takings text × (finding ≡ why.NoStep))
 
--- The line of a refusal is not what comes after the lines before it, and what was found is why.
-pub record IsWrongLine (sys : System) (steps : ℕ) (refusal : Refusal) (text : List ℕ) : Type 0 where
+-- The line of a refusal is this one, and it is not what comes after the lines before it. What was found is why.
+pub record IsWrongLine (sys : System) (steps : ℕ) (refusal : Refusal) (line text : List ℕ) : Type 0 where
   pub form : Form
   pub before : List run.Line
-  pub line : List ℕ
   pub at : IsLineAfter sys form refusal.number text before line
   pub takings : List Taking
   pub begun : List Line
@@ -367,10 +366,10 @@ pub record IsAfterLast (sys : System) (steps number : ℕ) (text : List ℕ) : T
   pub more : 0 < length rest
   pub is : text ≡ front ++ rest
 
--- The line of a refusal is not what the reactions give, for what was found.
-abbrev pub IsWrongFor : System → (steps : ℕ) → Refusal → (text : List ℕ) → Type 0
-IsWrongFor sys steps refusal text = IsWrongLine sys steps refusal text ⊎ (IsAfterLast sys steps refusal.number text × (refusal.finding ≡ why.Line))
+-- The line of a refusal, which is this one unless it comes after the last one of a trace, is not what the reactions give, for what was found.
+abbrev pub IsWrongFor : System → (steps : ℕ) → Refusal → (line text : List ℕ) → Type 0
+IsWrongFor sys steps refusal line text = IsWrongLine sys steps refusal line text ⊎ (IsAfterLast sys steps refusal.number text × (refusal.finding ≡ why.Line))
 
 -- The line of this number, from 1, is not what the reactions give.
 abbrev pub IsWrongAt : System → (steps number : ℕ) → (text : List ℕ) → Type 0
-IsWrongAt sys steps number text = (finding : Finding) × IsWrongFor sys steps (record { number = number; finding = finding }) text
+IsWrongAt sys steps number text = (finding : Finding) × (line : List ℕ) × IsWrongFor sys steps (record { number = number; finding = finding }) line text

@@ -225,7 +225,7 @@ fn go_through<R: BufRead, W: Write>(
         → OnErr result (of_walk.ShowsRead fixed.now what terms.steps known (W.contents out.old) (W.contents out.new)) }
     ensures refused { (what : Selection) (rest text : List ℕ)
         → terms.steps ≤ most → of_walk.HasNames fixed.now → Starts fixed.now what walk.old → R.remaining input.old ≡ Some rest → BeginsText fixed.now walk.old.trail.reading.line.items false rest text
-        → IfErr result (Refuses (λ refusal. of_walk.IsWrongFor fixed.now terms.steps refusal text)) }
+        → IfErr result (Refuses (λ refusal. of_walk.IsWrongFor fixed.now terms.steps refusal refused.new.current.text.items text)) }
 {
     if is_severed(terms.cut, walk.trail.reading.line.as_slice()) {
         return walk.finish_cut(out).and(Ok(Extent::CutOff));
@@ -251,7 +251,7 @@ fn inspect_with<R: BufRead, W: Write>(
     ensures covered { IfOk result (λ covered. IfSome (R.remaining input.old) (λ text. Covers inspection.entry.terms.cut table.now.system.now inspection.entry.terms.steps text marks covered.marks covered.extent)) }
     ensures fault { OnErr result (ShowsRead table.now.system.now (selection_of inspection.entry) inspection.entry.terms.steps (R.remaining input.old) (W.contents out.old) (W.contents out.new)) }
     ensures refused { HasNames table.now.system.now → inspection.entry.terms.steps ≤ most
-        → IfErr result (Refuses (λ refusal. IfSome (R.remaining input.old) (IsWrongFor table.now.system.now inspection.entry.terms.steps refusal))) }
+        → IfErr result (Refuses (λ refusal. IfSome (R.remaining input.old) (IsWrongFor table.now.system.now inspection.entry.terms.steps refusal refused.new.current.text.items))) }
 {
     table.system.facts(); // for the prover: what holds of every accepted system
     let (form, reading) = first_reading(alloc, table, input)?;
@@ -294,7 +294,7 @@ pub(crate) fn inspect_and_mark<R: BufRead, W: Write>(
     ensures refused { HasNames system.now → inspection.entry.terms.steps ≤ most
         → IfErr result (OfRefusal (λ n. IfSome (R.remaining input.old) (IsWrongAt system.now inspection.entry.terms.steps n))) }
     ensures found { HasNames system.now → inspection.entry.terms.steps ≤ most
-        → IfErr result (OfRefusal (λ n. IfSome (R.remaining input.old) (IsWrongFor system.now inspection.entry.terms.steps (record { number = n; finding = refused.new.finding })))) }
+        → IfErr result (OfRefusal (λ n. IfSome (R.remaining input.old) (IsWrongFor system.now inspection.entry.terms.steps (record { number = n; finding = refused.new.finding }) refused.new.current.text.items))) }
     ensures names { IfErr result (IsNamesFault system.now) }
     ensures paths { IfErr result (λ e. e ≡ Unknown → ⊥) }
 {
@@ -341,7 +341,7 @@ pub fn inspect<R: BufRead, W: Write>(
     ensures refused { HasNames system.now → inspection.entry.terms.steps ≤ most
         → IfErr result (OfRefusal (λ n. IfSome (R.remaining input.old) (IsWrongAt system.now inspection.entry.terms.steps n))) }
     ensures found { HasNames system.now → inspection.entry.terms.steps ≤ most
-        → IfErr result (OfRefusal (λ n. IfSome (R.remaining input.old) (IsWrongFor system.now inspection.entry.terms.steps (record { number = n; finding = refused.new.finding })))) }
+        → IfErr result (OfRefusal (λ n. IfSome (R.remaining input.old) (IsWrongFor system.now inspection.entry.terms.steps (record { number = n; finding = refused.new.finding }) refused.new.current.text.items))) }
     ensures names { IfErr result (IsNamesFault system.now) }
     ensures paths { IfErr result (IsPathFault system.now inspection.entry.only.now) }
 {

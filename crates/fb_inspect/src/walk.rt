@@ -320,7 +320,9 @@ impl Walk {
     /// resource had used too many, or else of the next line, for what was found.
     fn refusal_for_steps(&mut self, ahead: &mut Ahead, finding: Finding) -> WalkError
         ensures back { ahead.old.watched.is_excess ≡ true → result ≡ Refused (record { number = ahead.old.watched.number; finding = Finding.NoStep }) }
+        ensures back_at { ahead.old.watched.is_excess ≡ true → self.new.trail.reading.line ≡ ahead.old.watched.text }
         ensures none { ahead.old.watched.is_excess ≡ false → result ≡ Refused (record { number = self.old.trail.reading.number; finding = finding }) }
+        ensures here { ahead.old.watched.is_excess ≡ false → self.new.trail.reading.line ≡ self.old.trail.reading.line }
     {
         if ahead.go_back(&mut self.trail.reading) {
             return self.trail.reading.refusal(Finding::NoStep);
@@ -333,6 +335,9 @@ impl Walk {
         ensures back { ahead.old.watched.is_excess ≡ true → IsStepsStop end → result ≡ Refused (record { number = ahead.old.watched.number; finding = Finding.NoStep }) }
         ensures none { ahead.old.watched.is_excess ≡ false → result ≡ Refused (record { number = self.old.trail.reading.number; finding = Finding.Runs }) }
         ensures other { (IsStepsStop end → ⊥) → result ≡ Refused (record { number = self.old.trail.reading.number; finding = Finding.Runs }) }
+        ensures back_at { ahead.old.watched.is_excess ≡ true → IsStepsStop end → self.new.trail.reading.line ≡ ahead.old.watched.text }
+        ensures here { ahead.old.watched.is_excess ≡ false → self.new.trail.reading.line ≡ self.old.trail.reading.line }
+        ensures stays { (IsStepsStop end → ⊥) → self.new.trail.reading.line ≡ self.old.trail.reading.line }
     {
         match end {
             Outcome::Stop(mark) if mark.reason == Reason::Steps => {
@@ -643,7 +648,7 @@ impl Walk {
             → OnErr result (ShowsRead fixed.now what terms.steps known (W.contents out.old) (W.contents out.new)) }
         ensures refused { (what : Selection) (rest text : List ℕ)
             → terms.steps ≤ most → HasNames fixed.now → Starts fixed.now what self.old → R.remaining input.old ≡ Some rest → BeginsText fixed.now self.old.trail.reading.line.items ahead.old.watched.is_excess rest text
-            → IfErr result (Refuses (λ refusal. IsWrongFor fixed.now terms.steps refusal text)) }
+            → IfErr result (Refuses (λ refusal. IsWrongFor fixed.now terms.steps refusal self.new.trail.reading.line.items text)) }
     {
         for _ in 0..u64::MAX {
             match self.advance(fixed, terms, ahead, input)? {

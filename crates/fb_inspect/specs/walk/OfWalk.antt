@@ -194,7 +194,7 @@ Watches f = standing.Watches (sys_of f) f.form
 abbrev pub GoesAfter : Fixed → (steps : ℕ) → Walk → Ahead → (remaining : Option (List ℕ)) → (text : List ℕ) → Result Step WalkError → Type 0
 GoesAfter f = standing.GoesAfter (sys_of f) f.form
 
-abbrev pub IsWrongFor : Fixed → (steps : ℕ) → Refusal → (text : List ℕ) → Type 0
+abbrev pub IsWrongFor : Fixed → (steps : ℕ) → Refusal → (line text : List ℕ) → Type 0
 IsWrongFor f = refusals.IsWrongFor (sys_of f)
 
 -- ---- Whole traces

@@ -109,7 +109,7 @@ abbrev pub StandsAfter :
 StandsAfter sys form steps takings walk ahead last line rest text (Ok Taken) = TakesOne sys form takings walk ahead last line rest text
 StandsAfter sys form steps takings walk ahead last line rest text (Ok (Ended end)) = Unit {0}
 StandsAfter sys form steps takings walk ahead last line rest text (Ok CutOff) = Unit {0}
-StandsAfter sys form steps takings walk ahead last line rest text (Err e) = Refuses (λ n. IsWrongLine sys steps n text) e
+StandsAfter sys form steps takings walk ahead last line rest text (Err e) = Refuses (λ refusal. IsWrongLine sys steps refusal walk.trail.reading.line.items text) e
 
 -- ---- Steps
 
@@ -157,4 +157,4 @@ abbrev pub GoesAfter :
 GoesAfter sys form steps walk ahead remaining text (Ok Taken) = IsLeft remaining (λ rest. StandsWell sys form steps walk ahead rest text)
 GoesAfter sys form steps walk ahead remaining text (Ok (Ended end)) = Unit {0}
 GoesAfter sys form steps walk ahead remaining text (Ok CutOff) = Unit {0}
-GoesAfter sys form steps walk ahead remaining text (Err e) = Refuses (λ n. IsWrongLine sys steps n text) e
+GoesAfter sys form steps walk ahead remaining text (Err e) = Refuses (λ refusal. IsWrongLine sys steps refusal walk.trail.reading.line.items text) e

@@ -213,7 +213,7 @@ impl StateWave {
             → OnErr result (WritesRead fixed.now terms.steps known (W.contents out.old) (W.contents out.new)) }
         ensures refused { (rest text : List ℕ)
             → terms.steps ≤ most → HasNames fixed.now → R.remaining input.old ≡ Some rest → StandsWell fixed.now terms.steps self.old.walk ahead.old rest text → text ≡ self.old.walk.trail.reading.line.items ++ rest
-            → IfErr result (Refuses (λ refusal. IsWrongFor fixed.now terms.steps refusal text)) }
+            → IfErr result (Refuses (λ refusal. IsWrongFor fixed.now terms.steps refusal self.new.walk.trail.reading.line.items text)) }
     {
         for _ in 0..u64::MAX {
             match self.advance(fixed, terms, ahead, input)? {

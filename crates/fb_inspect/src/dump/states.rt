@@ -72,7 +72,7 @@ fn go_through<R: BufRead, W: Write>(
         → OnErr result (of_walk.WritesRead fixed.now terms.steps known (W.contents out.old) (W.contents out.new)) }
     ensures refused { (rest text : List ℕ)
         → terms.steps ≤ most → of_walk.HasNames fixed.now → R.remaining input.old ≡ Some rest → BeginsText fixed.now wave.old.walk.trail.reading.line.items false rest text
-        → IfErr result (Refuses (λ refusal. of_walk.IsWrongFor fixed.now terms.steps refusal text)) }
+        → IfErr result (Refuses (λ refusal. of_walk.IsWrongFor fixed.now terms.steps refusal refused.new.current.text.items text)) }
 {
     if is_severed(terms.cut, wave.walk.trail.reading.line.as_slice()) {
         return wave.finish_cut(out);
@@ -95,7 +95,7 @@ fn write_with<R: BufRead, W: Write>(
     ensures whole { OnOk result (IfSome (R.remaining input.old) (λ text. IsShownWith terms.cut table.now.system.now terms.steps text (W.contents out.old) (W.contents out.new))) }
     ensures fault { OnErr result (WritesRead table.now.system.now terms.steps (R.remaining input.old) (W.contents out.old) (W.contents out.new)) }
     ensures refused { HasNames table.now.system.now → terms.steps ≤ most
-        → IfErr result (Refuses (λ refusal. IfSome (R.remaining input.old) (IsWrongFor table.now.system.now terms.steps refusal))) }
+        → IfErr result (Refuses (λ refusal. IfSome (R.remaining input.old) (IsWrongFor table.now.system.now terms.steps refusal refused.new.current.text.items))) }
 {
     let (form, reading) = first_reading(alloc, table, input)?;
     let mut wave = begin(alloc, table.system, reading)?;
@@ -138,7 +138,7 @@ pub fn write_states<R: BufRead, W: Write>(
     ensures refused { HasNames system.now → terms.steps ≤ most
         → IfErr result (OfRefusal (λ n. IfSome (R.remaining input.old) (IsWrongAt system.now terms.steps n))) }
     ensures found { HasNames system.now → terms.steps ≤ most
-        → IfErr result (OfRefusal (λ n. IfSome (R.remaining input.old) (IsWrongFor system.now terms.steps (record { number = n; finding = refused.new.finding })))) }
+        → IfErr result (OfRefusal (λ n. IfSome (R.remaining input.old) (IsWrongFor system.now terms.steps (record { number = n; finding = refused.new.finding }) refused.new.current.text.items))) }
     ensures names { IfErr result (IsNamesFault system.now) }
     ensures paths { IfErr result (λ e. e ≡ Unknown → ⊥) }
 {

@@ -66,6 +66,7 @@ impl RefusedLine {
     pub(crate) fn keep(&mut self, error: WalkError) -> InspectError
         ensures error { result ≡ error_of_walk error }
         ensures found { Refuses (λ refusal. self.new.finding ≡ refusal.finding) error }
+        ensures current { self.new.current ≡ self.old.current }
     {
         match error {
             WalkError::Refused(refusal) => {

@@ -141,6 +141,7 @@ impl Ahead {
     pub(crate) fn go_back(&mut self, reading: &mut Reading) -> bool
         ensures excess { result ≡ self.old.watched.is_excess }
         ensures back { IsTrue result → reading.new.number ≡ self.old.watched.number }
+        ensures line { IsTrue result → reading.new.line ≡ self.old.watched.text }
         ensures none { result ≡ false → reading.new ≡ reading.old }
     {
         if !self.watched.is_excess {

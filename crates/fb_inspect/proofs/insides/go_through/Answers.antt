@@ -1,4 +1,4 @@
-use Rattle.fb_inspect.proofs.lemmas.Common.{◌≡◌, List, ℕ, Bool, true, refl, sym, subst, IfSome, system_of, Marks, is_unended, BeginsText}
+use Rattle.fb_inspect.proofs.lemmas.Common.{◌≡◌, List, ℕ, Bool, true, refl, sym, subst, IfSome, system_of, Marks, is_unended, BeginsText, IfErr, IsWrongFor, Refuses}
 use Rattle.fb_inspect.specs.Covering.{IsCoveredBy, IsCutCovered}
 use Rattle.fb_inspect.proofs.lemmas.walk.Ended.{front_none, severed_covered, severed_none, severed_part, severed_shown, shown_cut}
 use Rattle.fb_wave.proofs.lemmas.Handing.{on_ok}
@@ -6,6 +6,7 @@ use Rattle.fb_inspect.proofs.lemmas.results.Joined.{err_joined, fails_joined, ok
 use Rattle.fb_inspect.proofs.lemmas.reactions.Placed.{err_any, err_then, ok_then}
 use Rattle.fb_inspect.proofs.lemmas.results.Refused.{err_none, none_passed}
 use Rattle.fb_inspect.proofs.lemmas.lines.Severing.{on_some}
+use Rattle.fb_wave.specs.declared.current_line.CurrentLine.{CurrentLine}
 use Rattle.fb_inspect.proofs.insides.go_through.Goals as goal
 
 pub returns-then-is_severed-clause-whole : goal.returns-then-is_severed-clause-whole
@@ -75,8 +76,10 @@ returns-clause-fault g c = λ what known starts read one. c.go-gone.ensures.faul
 pub returns-clause-refused : goal.returns-clause-refused
 returns-clause-refused g c = λ what rest text few names starts known begins.
     let fixed = c.args.fixed.now in
-    c.go-gone.ensures.refused what rest text few names starts known
-    (subst (λ (e : Bool). BeginsText (system_of fixed.table.now.system.now) fixed.form c.args.walk.now.trail.reading.line.items e rest text) (sym c.in_ok-ahead.ensures.watched) begins)
+    let sys = system_of fixed.table.now.system.now in
+    subst (λ (l : CurrentLine). IfErr c.go-gone.result (Refuses (λ n. IsWrongFor sys c.args.terms.steps n l.text.items text))) (sym c.lend.ensures.line)
+    (c.go-gone.ensures.refused what rest text few names starts known
+    (subst (λ (e : Bool). BeginsText sys fixed.form c.args.walk.now.trail.reading.line.items e rest text) (sym c.in_ok-ahead.ensures.watched) begins))
 
 pub returns-in_err-ahead-clause-whole : goal.returns-in_err-ahead-clause-whole
 returns-in_err-ahead-clause-whole g c = λ _ _ _ _ _. ok_passed c.from_residual.result _ _ c.from_residual.ensures.1

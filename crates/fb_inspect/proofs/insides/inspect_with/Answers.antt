@@ -68,7 +68,7 @@ returns-in_err-extent-clause-refused g c = λ names few.
     let line_is : c.in_ok-form.reading.line.items ≡ c.in_ok-walk.walk.trail.reading.line.items = sym (ap (λ (r : Reading). r.line.items) c.in_ok-walk.ensures.reading_is) in
     let q = err_from_is_err_and c.from_residual-in_err-extent.result c.from_residual-in_err-extent.ensures.1 in
     rw (q.1, q.2)
-    (of_known (g.R.Read.remaining c.args.input.now) (λ n. IsWrongFor sys steps n) c.in_err-extent.field-0.0
+    (of_known (g.R.Read.remaining c.args.input.now) (λ n. IsWrongFor sys steps n c.go_through.new.refused.current.text.items) c.in_err-extent.field-0.0
     (λ text known.
     let begins = text_begins sys c.in_ok-form.form c.in_ok-form.reading.line.items false text (g.R.Read.remaining c.args.input.now) (g.R.Read.remaining c.first_reading.new.input) names known
     c.in_ok-form.ensures.read c.in_ok-form.ensures.first c.in_ok-form.ensures.form refl in

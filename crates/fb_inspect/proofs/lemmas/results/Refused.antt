@@ -52,28 +52,28 @@ none_passed r e Q is none = on_passed r e (Refuses Q) is (none_refused e Q none)
 
 -- what is said of an error of a walk is said of what is answered, with what was found
 pub walk_found :
-    (sys : System) (steps : ℕ) (input : Option (List ℕ)) (e : WalkError) (finding : Finding) → Refuses (λ refusal. IfSome input (IsWrongFor sys steps refusal)) e → Refuses (λ refusal. finding ≡ refusal.finding) e
-    → OfRefusal (λ n. IfSome input (IsWrongFor sys steps (record { number = n; finding = finding }))) (error_of_walk e)
-walk_found sys steps input (Refused refusal) finding wrong is =
-    subst (λ (f : Finding). IfSome input (IsWrongFor sys steps (record { number = refusal.number; finding = f }))) (sym is) wrong
-walk_found sys steps input Memory finding wrong is = tt
-walk_found sys steps input Read finding wrong is = tt
-walk_found sys steps input (Write n) finding wrong is = tt
+    (sys : System) (steps : ℕ) (input : Option (List ℕ)) (e : WalkError) (finding : Finding) (line : List ℕ) → Refuses (λ refusal. IfSome input (IsWrongFor sys steps refusal line)) e → Refuses (λ refusal. finding ≡ refusal.finding) e
+    → OfRefusal (λ n. IfSome input (IsWrongFor sys steps (record { number = n; finding = finding }) line)) (error_of_walk e)
+walk_found sys steps input (Refused refusal) finding line wrong is =
+    subst (λ (f : Finding). IfSome input (IsWrongFor sys steps (record { number = refusal.number; finding = f }) line)) (sym is) wrong
+walk_found sys steps input Memory finding line wrong is = tt
+walk_found sys steps input Read finding line wrong is = tt
+walk_found sys steps input (Write n) finding line wrong is = tt
 
-some_wrong : (sys : System) (steps n : ℕ) (finding : Finding) (input : Option (List ℕ)) → IfSome input (IsWrongFor sys steps (record { number = n; finding = finding })) → IfSome input (IsWrongAt sys steps n)
-some_wrong sys steps n finding None h = tt
-some_wrong sys steps n finding (Some text) h = (finding, h)
+some_wrong : (sys : System) (steps n : ℕ) (finding : Finding) (line : List ℕ) (input : Option (List ℕ)) → IfSome input (IsWrongFor sys steps (record { number = n; finding = finding }) line) → IfSome input (IsWrongAt sys steps n)
+some_wrong sys steps n finding line None h = tt
+some_wrong sys steps n finding line (Some text) h = (finding, line, h)
 
 -- a line that is wrong for what was found is wrong
 pub found_wrong :
-    (sys : System) (steps : ℕ) (input : Option (List ℕ)) (finding : Finding) (e : InspectError) → OfRefusal (λ n. IfSome input (IsWrongFor sys steps (record { number = n; finding = finding }))) e
+    (sys : System) (steps : ℕ) (input : Option (List ℕ)) (finding : Finding) (line : List ℕ) (e : InspectError) → OfRefusal (λ n. IfSome input (IsWrongFor sys steps (record { number = n; finding = finding }) line)) e
     → OfRefusal (λ n. IfSome input (IsWrongAt sys steps n)) e
-found_wrong sys steps input finding (error.Refused n) h = some_wrong sys steps n finding input h
-found_wrong sys steps input finding error.Names h = tt
-found_wrong sys steps input finding error.Unknown h = tt
-found_wrong sys steps input finding error.Memory h = tt
-found_wrong sys steps input finding error.Read h = tt
-found_wrong sys steps input finding (error.Write n) h = tt
+found_wrong sys steps input finding line (error.Refused n) h = some_wrong sys steps n finding line input h
+found_wrong sys steps input finding line error.Names h = tt
+found_wrong sys steps input finding line error.Unknown h = tt
+found_wrong sys steps input finding line error.Memory h = tt
+found_wrong sys steps input finding line error.Read h = tt
+found_wrong sys steps input finding line (error.Write n) h = tt
 
 -- out of memory, no names are at fault
 pub memory_names : (sys : System) → IsNamesFault sys error.Memory

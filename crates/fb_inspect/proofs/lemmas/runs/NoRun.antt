@@ -563,10 +563,10 @@ module _ (i : Inputs) (accepted : AreAccepted i) (names : HasNames (system_of i)
     not_after (inr (inl wrong)) = not_last wrong.0 wrong.1 wrong.2
     not_after (inr (inr wrong)) = not_over wrong.1
 
-  not_line : (n : Refusal) → IsWrongLine sys limit n text → ⊥
-  not_line n w =
-      let al = align w.form w.before w.line w.at.rest w.at.are.each w.at.is w.at.alone in
-      not_after w.form w.before w.line w.at.rest w.at.are.each al w.at.formed w.takings w.taken.chain w.taken.goes_on w.begun w.taken.lines_are n.finding w.wrong
+  not_line : (n : Refusal) (line : List ℕ) → IsWrongLine sys limit n line text → ⊥
+  not_line n line w =
+      let al = align w.form w.before line w.at.rest w.at.are.each w.at.is w.at.alone in
+      not_after w.form w.before line w.at.rest w.at.are.each al w.at.formed w.takings w.taken.chain w.taken.goes_on w.begun w.taken.lines_are n.finding w.wrong
 
   not_past : (n : ℕ) → IsAfterLast sys limit n text → ⊥
   not_past n w =
@@ -583,5 +583,5 @@ module _ (i : Inputs) (accepted : AreAccepted i) (names : HasNames (system_of i)
       omega (arith, some, none)
 
   pub not_wrong : (n : ℕ) → IsWrongAt sys limit n text → ⊥
-  not_wrong n (finding, inl wrong) = not_line (record { number = n; finding = finding }) wrong
-  not_wrong n (finding, inr wrong) = not_past n wrong.0
+  not_wrong n (finding, line, inl wrong) = not_line (record { number = n; finding = finding }) line wrong
+  not_wrong n (finding, line, inr wrong) = not_past n wrong.0

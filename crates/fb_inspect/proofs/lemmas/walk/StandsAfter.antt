@@ -151,11 +151,11 @@ module _ (t : PortTable) (form : Form) (takings : List Taking) (w : Walk) (a : A
   }
 
   pub wrong_here :
-      (steps : ℕ) (n : Refusal) → n.number ≡ w.trail.reading.number → IsWrongAfter sys form steps (last_tick 0 lines) takings [] w.trail.reading.line.items text n.finding → IsWrongLine sys steps n text
+      (steps : ℕ) (n : Refusal) → n.number ≡ w.trail.reading.number → IsWrongAfter sys form steps (last_tick 0 lines) takings [] w.trail.reading.line.items text n.finding
+      → IsWrongLine sys steps n w.trail.reading.line.items text
   wrong_here steps n number wrong = record {
     form = form;
     before = lines;
-    line = w.trail.reading.line.items;
     at = subst (λ (k : ℕ). IsLineAfter sys form k text lines w.trail.reading.line.items) (sym number) here_place;
     takings = takings;
     begun = [];
@@ -239,11 +239,10 @@ module _ (t : PortTable) (form : Form) (takings : List Taking) (w : Walk) (a : A
 
     pub wrong_after :
         (steps : ℕ) (n : Refusal) → n.number ≡ new.number → IsWrongAfter sys form steps (last_tick 0 before) takings (map (line_of sys) (line ∷ passed)) after text n.finding
-        → IsWrongLine sys steps n text
+        → IsWrongLine sys steps n after text
     wrong_after steps n number wrong = record {
       form = form;
       before = before;
-      line = after;
       at = subst (λ (k : ℕ). IsLineAfter sys form k text before after) (sym number) place;
       takings = takings;
       begun = map (line_of sys) (line ∷ passed);
@@ -296,10 +295,11 @@ module _ (t : PortTable) (form : Form) (takings : List Taking) (w : Walk) (a : A
   -- a line is wrong where each resource has the greatest limit
   pub wrong_freely :
       (steps : ℕ) (n : Refusal) (rows : List Line) (new : Reading) (left : List ℕ) → AreAhead sys form line rows a.text.items a.last.items rest → IsNotNear sys line a.last.items
-      → FailsBy (IsTaking sys most seen_last) (IsUnstarted sys most seen_last line) sys form line w.trail.reading new (Some a.text.items) (Some left) n → IsWrongLine sys steps n text
+      → FailsBy (IsTaking sys most seen_last) (IsUnstarted sys most seen_last line) sys form line w.trail.reading new (Some a.text.items) (Some left) n → IsWrongLine sys steps n new.line.items text
   unfolding otherwise
   wrong_freely steps n rows new left ahead far (inl none) =
-      wrong_here steps n none.number_is (inl (inl (refl, begins_nothing (IsTaking sys most seen_last) (IsUnstarted sys most seen_last) n.finding none.none none.found)))
+      subst (λ (r : Reading). IsWrongLine sys steps n r.line.items text) (sym none.same)
+      (wrong_here steps n none.number_is (inl (inl (refl, begins_nothing (IsTaking sys most seen_last) (IsUnstarted sys most seen_last) n.finding none.none none.found))))
   wrong_freely steps n rows new left ahead far (inr fails) =
       let own = own_of (IsTaking sys most seen_last) new (Some a.text.items) (Some left) n fails in
       wrong_after rows ahead fails.passed new left fails.reads own steps n fails.number_is
@@ -376,7 +376,8 @@ module _ (t : PortTable) (form : Form) (takings : List Taking) (w : Walk) (a : A
     -- a taking stops its resource, and the next line says something else
     pub wrong_stop :
         (steps : ℕ) (n : Refusal) (reason : Reason) → n ≡ record { number = done.trail.reading.number; finding = why.Stops reason } → x.stop ≡ Some reason → IsTaking sys most seen_last x → IsNotNear sys line a.last.items
-        → ((reason ≡ Steps → ⊥) → done.trail.reading.line.items ≡ last_line sys (AtStop line.key.tick line.key.resource reason) → ⊥) → (reason ≡ Steps) ⊎ (reason ≡ Steps → ⊥) → IsWrongLine sys steps n text
+        → ((reason ≡ Steps → ⊥) → done.trail.reading.line.items ≡ last_line sys (AtStop line.key.tick line.key.resource reason) → ⊥) → (reason ≡ Steps) ⊎ (reason ≡ Steps → ⊥)
+        → IsWrongLine sys steps n done.trail.reading.line.items text
     wrong_stop steps n reason is stop taking far other which =
         let none_near = no_steps_stop rows ahead passed done.trail.reading left reads own far x first in
         let basic = stops_basic sys most seen_last x reason stop taking in
@@ -439,7 +440,8 @@ module _ (t : PortTable) (form : Form) (takings : List Taking) (w : Walk) (a : A
 
     pub freely_stop :
         (steps : ℕ) (n : Refusal) (reason : Reason) → n ≡ record { number = done.trail.reading.number; finding = why.Stops reason } → stop ≡ Some reason → (reason ≡ Steps) ⊎ (reason ≡ Steps → ⊥)
-        → ((reason ≡ Steps → ⊥) → done.trail.reading.next ≡ next.End (Stop (record { tick = line.key.tick; resource = line.key.resource; reason = reason })) → ⊥) → IsWrongLine sys steps n text
+        → ((reason ≡ Steps → ⊥) → done.trail.reading.next ≡ next.End (Stop (record { tick = line.key.tick; resource = line.key.resource; reason = reason })) → ⊥)
+        → IsWrongLine sys steps n done.trail.reading.line.items text
     freely_stop steps n reason refused stops which other =
         wrong_stop rows ahead goes.taking goes.first_is done b.text.items all.0 all.1 all.2 steps n reason refused (goes.stop_is ∙ stops) goes.is_taking far
         (λ not is.

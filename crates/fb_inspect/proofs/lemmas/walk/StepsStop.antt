@@ -59,27 +59,30 @@ module _ (t : PortTable) (form : Form) (takings : List Taking) (w : Walk) (a : A
 
   -- its resource had used more than the steps in the tick
   pub last_limit :
-      (n : Refusal) → n ≡ record { number = w.trail.reading.number; finding = why.NoStep } → (KeepsLimit steps line.key.tick line.key.resource look → ⊥) → IsWrongLine sys steps n text
+      (n : Refusal) → n ≡ record { number = w.trail.reading.number; finding = why.NoStep } → (KeepsLimit steps line.key.tick line.key.resource look → ⊥)
+      → IsWrongLine sys steps n w.trail.reading.line.items text
   last_limit n is over =
       wrong_here t form takings w a line rest text at steps n (ap (λ (r : Refusal). r.number) is) (inr (inl (line, soon, inl (refl, over, ap (λ (r : Refusal). r.finding) is))))
 
   -- some resource had used more than the steps in some tick
   pub last_kept :
       (e : Bool) (k : ℕ) (event : List ℕ) → Watches sys form steps takings k event e → (KeepSteps sys steps look → ⊥) → (error : WalkError)
-      → (e ≡ true → error ≡ Refused (record { number = k; finding = why.NoStep }))
-      → Refuses (λ n. IsWrongLine sys steps n text) error
-  last_kept true k event many over error is =
-      of_refusal (λ n. IsWrongLine sys steps n text) error (record { number = k; finding = why.NoStep }) (is refl)
+      → (e ≡ true → error ≡ Refused (record { number = k; finding = why.NoStep })) → (lent : List ℕ) → (e ≡ true → lent ≡ event)
+      → Refuses (λ n. IsWrongLine sys steps n lent text) error
+  last_kept true k event many over error is lent at_event =
+      of_refusal (λ n. IsWrongLine sys steps n lent text) error (record { number = k; finding = why.NoStep }) (is refl)
+      (subst (λ (u : List ℕ). IsWrongLine sys steps (record { number = k; finding = why.NoStep }) u text) (sym (at_event refl))
       (too_many_wrong sys form at.names steps takings w a.text.items a.last.items rest text at.stands k event many (line ∷ rows) (All-cons (IsLineOf sys) line rows at.is.line (λ n d h. (ahead.each n d h).line)) line.key.tick line.key.resource
-      (at.is.line.range.tick, at.is.line.belongs.resource) rest whole (λ front z e none. absurd (cc)))
-  last_kept false k event kept over error is = absurd (over kept)
+      (at.is.line.range.tick, at.is.line.belongs.resource) rest whole (λ front z e none. absurd (cc))))
+  last_kept false k event kept over error is lent at_event = absurd (over kept)
 
   -- the next line, or one after it, is not that of the taking
   pub last_fails :
-      (n : Refusal) (new : Reading) (left : List ℕ) → FailsBy (IsTaking sys steps less) (IsUnstarted sys steps less line) sys form line w.trail.reading new (Some a.text.items) (Some left) n → IsWrongLine sys steps n text
+      (n : Refusal) (new : Reading) (left : List ℕ) → FailsBy (IsTaking sys steps less) (IsUnstarted sys steps less line) sys form line w.trail.reading new (Some a.text.items) (Some left) n → IsWrongLine sys steps n new.line.items text
   last_fails n new left (inl none) =
-      wrong_here t form takings w a line rest text at steps n none.number_is
-      (inr (inl (line, soon, inr (inl (refl, begins_nothing t form takings w a line rest text at (IsTaking sys steps less) (IsUnstarted sys steps less) n.finding none.none none.found)))))
+      subst (λ (r : Reading). IsWrongLine sys steps n r.line.items text) (sym none.same)
+      (wrong_here t form takings w a line rest text at steps n none.number_is
+      (inr (inl (line, soon, inr (inl (refl, begins_nothing t form takings w a line rest text at (IsTaking sys steps less) (IsUnstarted sys steps less) n.finding none.none none.found))))))
   last_fails n new left (inr fails) =
       wrong_after t form takings w a line rest text at rows ahead fails.passed new left fails.reads
       (own_of t form takings w a line rest text at (IsTaking sys steps less) new (Some a.text.items) (Some left) n fails) steps n fails.number_is
@@ -91,7 +94,8 @@ module _ (t : PortTable) (form : Form) (takings : List Taking) (w : Walk) (a : A
       → (IsAlone between.trail.reading.line.items (Some a.text.items) → IsAlone done.trail.reading.line.items (Some b.text.items)) → (n : Refusal) → n.number ≡ done.trail.reading.number
       → IsEndFound stop (done.trail.reading.line.items ≡ steps_stop sys (line_of sys line)) n.finding
       → (done.trail.reading.line.items ≡ steps_stop sys (line_of sys line)
-      → (goes.taking.stop ≡ Some Steps) ⊎ ((goes.taking.stop ≡ None) × (left_at steps line.key.tick (goes.taking.after.steps line.key.resource) ≡ 0)) → ⊥) → IsWrongLine sys steps n text
+      → (goes.taking.stop ≡ Some Steps) ⊎ ((goes.taking.stop ≡ None) × (left_at steps line.key.tick (goes.taking.after.steps line.key.resource) ≡ 0)) → ⊥)
+      → IsWrongLine sys steps n done.trail.reading.line.items text
   last_goes types stop between done b same goes alone n number found other =
       let x = goes.taking in
       let all = reads_first t form takings w a line rest text at x goes.first_is done.trail.reading b.text.items goes.lines goes.lines_are

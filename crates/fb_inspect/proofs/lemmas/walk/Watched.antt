@@ -197,7 +197,7 @@ module _ (sys : System) (form : Form) (names : HasNames sys) (steps : ℕ) (taki
     formed_here [] is none f m event_text = stands.formed f m (record { line = event_text.line; is = ap (take_through 10) is ∙ sym (event_alone (texts_in others ++ after_lines)) ∙ event_text.is })
     formed_here (b ∷ bs) is none f m event_text = absurd (cc)
 
-    wrong : IsWrongLine sys steps (record { number = number; finding = why.NoStep }) text
+    wrong : IsWrongLine sys steps (record { number = number; finding = why.NoStep }) event text
     unfolding uses
     wrong =
         let count : length before ≡ length (all_lines many.before) = sym (length-map before (line_of sys)) ∙ ap length before_is in
@@ -206,7 +206,6 @@ module _ (sys : System) (form : Form) (names : HasNames sys) (steps : ℕ) (taki
         record {
           form = form;
           before = before;
-          line = event;
           at = record {
             are = record {
               each = front_all (IsLineOf sys) before (first ∷ others) each;
@@ -224,14 +223,14 @@ module _ (sys : System) (form : Form) (names : HasNames sys) (steps : ℕ) (taki
           wrong = inr (inr (refl, uses, refl));
         }
 
-  by_parts : (ks js : List Line) → stands.lines ≡ ks ++ js → map (line_of sys) ks ≡ all_lines many.before → map (line_of sys) js ≡ all_lines (many.taking ∷ many.later) → IsWrongLine sys steps (record { number = number; finding = why.NoStep }) text
+  by_parts : (ks js : List Line) → stands.lines ≡ ks ++ js → map (line_of sys) ks ≡ all_lines many.before → map (line_of sys) js ≡ all_lines (many.taking ∷ many.later) → IsWrongLine sys steps (record { number = number; finding = why.NoStep }) event text
   by_parts ks [] parts front back = absurd (cc)
   by_parts ks (j ∷ js) parts front back = wrong ks j js parts front (first_of j js back)
     where
       first_of : (j : Line) (js : List Line) → line_of sys j ∷ map (line_of sys) js ≡ (many.taking.first ∷ map (emission_line many.taking.first) many.taking.emits) ++ all_lines many.later → line_of sys j ≡ many.taking.first
       first_of j js e = cc
 
-  pub too_many_wrong : IsWrongLine sys steps (record { number = number; finding = why.NoStep }) text
+  pub too_many_wrong : IsWrongLine sys steps (record { number = number; finding = why.NoStep }) event text
   too_many_wrong =
       let all = split_map (line_of sys) stands.lines (all_lines many.before) (all_lines (many.taking ∷ many.later))
       (stands.lines_are ∙ ap all_lines many.parts ∙ all_append many.before (many.taking ∷ many.later)) in

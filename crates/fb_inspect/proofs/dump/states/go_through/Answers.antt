@@ -1,9 +1,10 @@
-use Rattle.fb_inspect.proofs.lemmas.Common.{◌≡◌, List, ℕ, Bool, true, sym, subst, system_of, is_unended, BeginsText}
+use Rattle.fb_inspect.proofs.lemmas.Common.{◌≡◌, List, ℕ, Bool, true, sym, subst, system_of, is_unended, BeginsText, IfErr, IsWrongFor, Refuses}
 use Rattle.fb_wave.proofs.lemmas.Handing.{on_ok}
 use Rattle.fb_inspect.proofs.lemmas.dump.Ending.{cut_done, cut_none, cut_part, front_none, shown_cut}
 use Rattle.fb_inspect.proofs.lemmas.walk.UpToRefusal.{well_opens}
 use Rattle.fb_inspect.proofs.lemmas.reactions.Placed.{err_any, err_then}
 use Rattle.fb_inspect.proofs.lemmas.results.Refused.{err_none}
+use Rattle.fb_wave.specs.declared.current_line.CurrentLine.{CurrentLine}
 use Rattle.fb_inspect.proofs.dump.states.go_through.Goals as goal
 
 pub returns-then-is_severed-clause-whole : goal.returns-then-is_severed-clause-whole
@@ -56,5 +57,6 @@ returns-clause-refused g c = λ rest text few names known told.
     let sys = system_of fixed.table.now.system.now in
     let walk = c.args.wave.now.walk in
     let own = subst (λ (e : Bool). BeginsText sys fixed.form walk.trail.reading.line.items e rest text) (sym c.in_ok-ahead.ensures.watched) told in
-    c.go-gone.ensures.refused rest text few names known
-    (well_opens sys fixed.form c.args.terms.steps walk c.in_ok-ahead.ahead rest text c.requires.begins.look c.requires.first c.requires.next c.in_ok-ahead.ensures.empty own) told.is
+    subst (λ (l : CurrentLine). IfErr c.go-gone.result (Refuses (λ n. IsWrongFor sys c.args.terms.steps n l.text.items text))) (sym c.lend.ensures.line)
+    (c.go-gone.ensures.refused rest text few names known
+    (well_opens sys fixed.form c.args.terms.steps walk c.in_ok-ahead.ahead rest text c.requires.begins.look c.requires.first c.requires.next c.in_ok-ahead.ensures.empty own) told.is)

@@ -1,6 +1,7 @@
 use Rattle.fb_inspect.proofs.lemmas.Common.{◌≡◌, subst, sym, ◌∙◌, IfSome, ◌≤◌, Inputs, system_of, HasNames, most, IsWrongAt, IsWrongFor, OfRefusal, Refuses, InspectError}
 use Rattle.fb_inspect.proofs.lemmas.reactions.Placed.{err_any, no_table, of_table}
 use Rattle.fb_inspect.specs.Faults.{error_of_walk}
+use Rattle.fb_wave.specs.declared.current_line.CurrentLine.{CurrentLine}
 use Rattle.fb_inspect.specs.Refusals.{IsNamesFault}
 use Rattle.fb_inspect.specs.declared.error.InspectError.TheVariants as error
 use Rattle.fb_wave.proofs.lemmas.Handing.{on_passed}
@@ -92,19 +93,20 @@ returns-clause-found g c = λ names few.
     let sys = system_of c.args.system.now in
     let steps = c.args.terms.steps in
     let input = g.R.Read.remaining c.args.input.now in
-    let wrong = subst (λ (s : Inputs). HasNames (system_of s) → steps ≤ most → Refuses (λ refusal. IfSome input (IsWrongFor (system_of s) steps refusal)) c.in-Err.error) (of_table _ c.in-Some.table _ c.in-Some.is c.in_ok-table.ensures.system ∙ c.in_ok-ports.ensures) c.in-Err.ensures.refused in
-    subst (OfRefusal (λ n. IfSome input (IsWrongFor sys steps (record { number = n; finding = c.keep.new.self.finding })))) (sym c.keep.ensures.error)
-    (walk_found sys steps input c.in-Err.error c.keep.new.self.finding (wrong names few) c.keep.ensures.found)
+    let wrong = subst (λ (s : Inputs). HasNames (system_of s) → steps ≤ most → Refuses (λ refusal. IfSome input (IsWrongFor (system_of s) steps refusal c.write_with.new.refused.current.text.items)) c.in-Err.error) (of_table _ c.in-Some.table _ c.in-Some.is c.in_ok-table.ensures.system ∙ c.in_ok-ports.ensures) c.in-Err.ensures.refused in
+    subst (λ (r : CurrentLine). OfRefusal (λ n. IfSome input (IsWrongFor sys steps (record { number = n; finding = c.keep.new.self.finding }) r.text.items)) c.keep.result) (sym c.keep.ensures.current)
+    (subst (OfRefusal (λ n. IfSome input (IsWrongFor sys steps (record { number = n; finding = c.keep.new.self.finding }) c.write_with.new.refused.current.text.items))) (sym c.keep.ensures.error)
+    (walk_found sys steps input c.in-Err.error c.keep.new.self.finding c.write_with.new.refused.current.text.items (wrong names few) c.keep.ensures.found))
 
 pub returns-clause-refused : goal.returns-clause-refused
 returns-clause-refused g c = λ names few.
     let sys = system_of c.args.system.now in
     let steps = c.args.terms.steps in
     let input = g.R.Read.remaining c.args.input.now in
-    let wrong = subst (λ (s : Inputs). HasNames (system_of s) → steps ≤ most → Refuses (λ refusal. IfSome input (IsWrongFor (system_of s) steps refusal)) c.in-Err.error) (of_table _ c.in-Some.table _ c.in-Some.is c.in_ok-table.ensures.system ∙ c.in_ok-ports.ensures) c.in-Err.ensures.refused in
+    let wrong = subst (λ (s : Inputs). HasNames (system_of s) → steps ≤ most → Refuses (λ refusal. IfSome input (IsWrongFor (system_of s) steps refusal c.write_with.new.refused.current.text.items)) c.in-Err.error) (of_table _ c.in-Some.table _ c.in-Some.is c.in_ok-table.ensures.system ∙ c.in_ok-ports.ensures) c.in-Err.ensures.refused in
     subst (OfRefusal (λ n. IfSome input (IsWrongAt sys steps n))) (sym c.keep.ensures.error)
-    (found_wrong sys steps input c.keep.new.self.finding (error_of_walk c.in-Err.error)
-    (walk_found sys steps input c.in-Err.error c.keep.new.self.finding (wrong names few) c.keep.ensures.found))
+    (found_wrong sys steps input c.keep.new.self.finding c.write_with.new.refused.current.text.items (error_of_walk c.in-Err.error)
+    (walk_found sys steps input c.in-Err.error c.keep.new.self.finding c.write_with.new.refused.current.text.items (wrong names few) c.keep.ensures.found))
 
 pub returns-clause-names : goal.returns-clause-names
 returns-clause-names g c = subst (IsNamesFault (system_of c.args.system.now)) (sym c.keep.ensures.error) (walk_names (system_of c.args.system.now) c.in-Err.error)

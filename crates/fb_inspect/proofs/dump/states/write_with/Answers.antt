@@ -48,7 +48,7 @@ returns-clause-refused g c = λ names few.
     let steps = c.args.terms.steps in
     let form = c.in_ok-form.form in
     let line_is : c.in_ok-form.reading.line.items ≡ c.in_ok-wave.wave.walk.trail.reading.line.items = sym (ap (λ (r : Reading). r.line.items) c.in_ok-wave.ensures.reading_is) in
-    err_known c.go_through.result (g.R.Read.remaining c.args.input.now) (λ n. IsWrongFor sys steps n)
+    err_known c.go_through.result (g.R.Read.remaining c.args.input.now) (λ n. IsWrongFor sys steps n c.go_through.new.refused.current.text.items)
     (λ text known.
     let begins = text_begins sys form c.in_ok-form.reading.line.items false text (g.R.Read.remaining c.args.input.now) (g.R.Read.remaining c.first_reading.new.input) names known
     c.in_ok-form.ensures.read c.in_ok-form.ensures.first c.in_ok-form.ensures.form refl in

@@ -128,13 +128,15 @@ returns-in-End-2-clause-stands g c = λ rest text few names known well.
     let sys = system_of fixed.table.now.system.now in
     let seen = last_look (opening_look sys) well.takings in
     wrong_end sys fixed.form c.args.terms.steps c.args.self.now c.args.ahead.now rest text names well c.in-End.end c.in-End.ensures.value
-    (λ can may. c.may_end.ensures.other sys seen well.on.stands.look can c.if-may_end.false may) c.refusal_of_end.result c.refusal_of_end.ensures.back c.refusal_of_end.ensures.none c.refusal_of_end.ensures.other
+    (λ can may. c.may_end.ensures.other sys seen well.on.stands.look can c.if-may_end.false may) c.refusal_of_end.result c.refusal_of_end.new.self.trail.reading.line
+    (λ set stops. (c.refusal_of_end.ensures.back set stops, c.refusal_of_end.ensures.back_at set stops)) (λ none. (c.refusal_of_end.ensures.none none, c.refusal_of_end.ensures.here none))
+    (λ other. (c.refusal_of_end.ensures.other other, c.refusal_of_end.ensures.stays other))
 
 pub returns-in-Bad-clause-stands : goal.returns-in-Bad-clause-stands
 returns-in-Bad-clause-stands g c = λ rest text few names known well.
     let fixed = c.args.fixed.now in
     let sys = system_of fixed.table.now.system.now in
-    of_refusal (λ n. IsWrongLine sys c.args.terms.steps n text) c.refusal.result (record { number = c.args.self.now.trail.reading.number; finding = why.Line }) c.refusal.ensures
+    of_refusal (λ n. IsWrongLine sys c.args.terms.steps n c.args.self.now.trail.reading.line.items text) c.refusal.result (record { number = c.args.self.now.trail.reading.number; finding = why.Line }) c.refusal.ensures
     (bad_line sys fixed.form c.args.terms.steps c.args.self.now c.args.ahead.now rest text names well c.in-Bad.ensures.value)
 
 pub returns-in_err-advance_by_event-in-Event-clause-goes : goal.returns-in_err-advance_by_event-in-Event-clause-goes

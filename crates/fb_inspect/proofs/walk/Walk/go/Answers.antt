@@ -200,7 +200,7 @@ returns-in_err-advance-clause-refused g c = λ what rest text few names starts k
     let before = c.loop.invariant.1 what rest text few names starts known begins in
     let q = err_from_is_err_and c.from_residual.result c.from_residual.ensures.1 in
     rw (q.1, q.2)
-    (refused_then c.in_err-advance.field-0.0 (λ n. IsWrongLine sys c.args.terms.steps n text) (λ n. IsWrongFor sys c.args.terms.steps n text) (c.in_err-advance.ensures.stands before.0 text few names before.1 before.2) (λ n wrong. inl wrong))
+    (refused_then c.in_err-advance.field-0.0 (λ n. IsWrongLine sys c.args.terms.steps n c.advance.new.self.trail.reading.line.items text) (λ n. IsWrongFor sys c.args.terms.steps n c.advance.new.self.trail.reading.line.items text) (c.in_err-advance.ensures.stands before.0 text few names before.1 before.2) (λ n wrong. inl wrong))
 
 pub returns-in_err-flush_much-in-Taken-clause-refused :
     goal.returns-in_err-flush_much-in-Taken-clause-refused
@@ -222,7 +222,7 @@ returns-in-Ended-clause-refused g c = λ what rest text few names starts known b
     let next = subst (λ (s : Step). HasAdvanced i.library.blocks first sys fixed.form what steps c.advance.new.self (Some text) r old mid s) c.in-Ended.is
     (c.in_ok-advance.ensures.goes first what (Some text) old mid (c.loop.invariant.0 what (Some text) starts read)) in
     err_joined c.and.result c.finish.result _ _ c.and.ensures
-    (err_refused c.finish.result (λ n. IsRefusalAfter c.advance.new.self.trail.reading.number n × IfSome r (λ rest. 0 < length rest)) (λ n. IsWrongFor sys steps n text) c.finish.ensures.refused
+    (err_refused c.finish.result (λ n. IsRefusalAfter c.advance.new.self.trail.reading.number n × IfSome r (λ rest. 0 < length rest)) (λ n. IsWrongFor sys steps n c.finish.new.self.trail.reading.line.items text) c.finish.ensures.refused
     (λ n over. inr (after_last i.library.blocks first sys fixed.form what steps c.advance.new.self c.in-Ended.field-0 text r old mid n.number next over.0.0 over.1, over.0.1)))
 
 pub returns-in-CutOff-clause-refused : goal.returns-in-CutOff-clause-refused

@@ -49,7 +49,7 @@ returns-in_err-stop-clause-stands c = λ takings rest text rows at watches ahead
     let new = c.take_from_ahead.new.self.trail.reading in
     let q = err_from_is_err_and c.from_residual-in_err-stop.result c.from_residual-in_err-stop.ensures.1 in
     rw (q.1, q.2)
-    (refused_then c.in_err-stop.field-0.0 (λ n. (left : List ℕ) × FailsBy (IsTaking sys fixed.limit look) (IsUnstarted sys fixed.limit look line) sys fixed.form line old new (Some w.text.items) (Some left) n) (λ n. IsWrongLine sys c.args.steps n text)
+    (refused_then c.in_err-stop.field-0.0 (λ n. (left : List ℕ) × FailsBy (IsTaking sys fixed.limit look) (IsUnstarted sys fixed.limit look line) sys fixed.form line old new (Some w.text.items) (Some left) n) (λ n. IsWrongLine sys c.args.steps n new.line.items text)
     (c.in_err-stop.ensures.refused look at2.names at2.plain at2.stands.look)
     (λ n fails.
     wrong_freely fixed.table.now fixed.form takings c.args.self.now w line rest text at2 c.args.steps n rows new fails.0 ahead2
@@ -65,7 +65,7 @@ returns-then-is_for_steps-clause-stands c = λ takings rest text rows at watches
     let at2 = at_ahead sys fixed.form takings c.args.self.now c.args.ahead.now w line rest text c.watch.ensures.text c.watch.ensures.last at in
     let ahead2 = ahead_ahead sys fixed.form c.args.ahead.now w line rows rest c.watch.ensures.text c.watch.ensures.last ahead in
     let is = c.is_for_steps.ensures.steps c.if-is_for_steps.true in
-    of_refusal (λ n. IsWrongLine sys c.args.steps n text) c.refusal.result (record { number = c.take_from_ahead.new.self.trail.reading.number; finding = why.Stops c.in-Some.reason }) c.refusal.ensures
+    of_refusal (λ n. IsWrongLine sys c.args.steps n c.take_from_ahead.new.self.trail.reading.line.items text) c.refusal.result (record { number = c.take_from_ahead.new.self.trail.reading.number; finding = why.Stops c.in-Some.reason }) c.refusal.ensures
     (freely_stop fixed.table.now fixed.form takings c.args.self.now w line rest text at2 rows ahead2
     (λ basic kind is. far basic kind (ap (λ (v : Vec ℕ). v.items) (sym c.watch.ensures.last) ∙ is))
     fixed.table.now.system.now.library.blocks fixed.limit c.requires.limit c.take_from_ahead.new.self c.take_from_ahead.new.ahead c.in_ok-stop.stop
@@ -80,7 +80,7 @@ returns-then-not-is_stop-clause-stands c = λ takings rest text rows at watches 
     let w = c.watch.new.self in
     let at2 = at_ahead sys fixed.form takings c.args.self.now c.args.ahead.now w line rest text c.watch.ensures.text c.watch.ensures.last at in
     let ahead2 = ahead_ahead sys fixed.form c.args.ahead.now w line rows rest c.watch.ensures.text c.watch.ensures.last ahead in
-    of_refusal (λ n. IsWrongLine sys c.args.steps n text) c.refusal-then-not-is_stop.result (record { number = c.take_from_ahead.new.self.trail.reading.number; finding = why.Stops c.in-Some.reason })
+    of_refusal (λ n. IsWrongLine sys c.args.steps n c.take_from_ahead.new.self.trail.reading.line.items text) c.refusal-then-not-is_stop.result (record { number = c.take_from_ahead.new.self.trail.reading.number; finding = why.Stops c.in-Some.reason })
     c.refusal-then-not-is_stop.ensures
     (freely_stop fixed.table.now fixed.form takings c.args.self.now w line rest text at2 rows ahead2
     (λ basic kind is. far basic kind (ap (λ (v : Vec ℕ). v.items) (sym c.watch.ensures.last) ∙ is))

@@ -36,6 +36,7 @@ returns-then-not-keep_steps-clause-stands c = λ takings rest text rows few at w
     let sys = system_of fixed.table.now.system.now in
     last_kept fixed.table.now fixed.form takings c.args.self.now c.args.ahead.now c.args.line.now rest text at rows ahead c.args.steps near c.args.ahead.now.watched.is_excess c.args.ahead.now.watched.number
     c.args.ahead.now.watched.text.items watches (c.keep_steps.ensures.more sys (last_look (opening_look sys) takings) at.stands.look c.if-not-keep_steps.true) c.refusal_for_steps.result c.refusal_for_steps.ensures.back
+    c.refusal_for_steps.new.self.trail.reading.line.items (λ set. ap (λ (v : Vec ℕ). v.items) (c.refusal_for_steps.ensures.back_at set))
 
 pub returns-then-not-limit-clause-stands : goal.returns-then-not-limit-clause-stands
 returns-then-not-limit-clause-stands c = λ takings rest text rows few at watches ahead near.
@@ -47,10 +48,11 @@ returns-then-not-limit-clause-stands c = λ takings rest text rows few at watche
     let own = element_at old l.key.resource (subst (λ (n : ℕ). l.key.resource < n) (sym at.stands.look.counts) at.is.line.belongs.resource) in
     let less = c.limit.ensures.more c.if-not-limit.true few own.0 own.1 in
     let same : left_at most l.key.tick (look.steps l.key.resource) ≡ left_at most l.key.tick (left_of own.0) = ap (left_at most l.key.tick) (at.stands.look.lefts l.key.resource own.0 own.1) in
-    of_refusal (λ n. IsWrongLine sys c.args.steps n text) c.refusal.result (record { number = c.limit.new.self.trail.reading.number; finding = why.NoStep }) c.refusal.ensures
+    of_refusal (λ n. IsWrongLine sys c.args.steps n c.limit.new.self.trail.reading.line.items text) c.refusal.result (record { number = c.limit.new.self.trail.reading.number; finding = why.NoStep }) c.refusal.ensures
+    (subst (λ (r : Trail). IsWrongLine sys c.args.steps (record { number = c.limit.new.self.trail.reading.number; finding = why.NoStep }) r.reading.line.items text) (sym c.limit.ensures.trail)
     (last_limit fixed.table.now fixed.form takings c.args.self.now c.args.ahead.now l rest text at rows ahead c.args.steps near (record { number = c.limit.new.self.trail.reading.number; finding = why.NoStep })
     (ap (λ (r : Trail). record { number = r.reading.number; finding = why.NoStep }) c.limit.ensures.trail)
-    (λ kept. absurd (omega (arith, less, same, kept))))
+    (λ kept. absurd (omega (arith, less, same, kept)))))
 
 pub returns-in_err-stop-clause-stands : goal.returns-in_err-stop-clause-stands
 returns-in_err-stop-clause-stands c = λ takings rest text rows few at watches ahead near.
@@ -67,7 +69,7 @@ returns-in_err-stop-clause-stands c = λ takings rest text rows few at watches a
     let q = err_from_is_err_and c.from_residual.result c.from_residual.ensures.1 in
     rw (q.1, q.2)
     (refused_then c.in_err-stop.field-0.0
-    (λ n. (left : List ℕ) × FailsBy T (IsUnstarted sys c.args.steps less l) sys fixed.form l c.limit.new.self.trail.reading new (Some c.args.ahead.now.text.items) (Some left) n) (λ n. IsWrongLine sys c.args.steps n text)
+    (λ n. (left : List ℕ) × FailsBy T (IsUnstarted sys c.args.steps less l) sys fixed.form l c.limit.new.self.trail.reading new (Some c.args.ahead.now.text.items) (Some left) n) (λ n. IsWrongLine sys c.args.steps n new.line.items text)
     (c.in_err-stop.ensures.refused less at.names at.plain is_look)
     (λ n fails.
     last_fails fixed.table.now fixed.form takings c.args.self.now c.args.ahead.now l rest text at rows ahead c.args.steps near n new fails.0
@@ -86,7 +88,7 @@ returns-then-not-is_stop-clause-stands c = λ takings rest text rows few at watc
     let read = c.take_from_ahead.new.self.trail.reading in
     let other = no_stop_text sys fixed.form at.names at.apart l.key.tick read.line.items read.next l.key.tick l.key.resource Steps c.in_ok-stop.ensures.next (omega arith)
     (at.is.line.range.tick, at.is.line.belongs.resource) (c.is_stop.ensures.other c.if-not-is_stop.true) in
-    of_refusal (λ n. IsWrongLine sys c.args.steps n text) c.refusal-then-not-is_stop.result (record { number = read.number; finding = c.found_by.result }) c.refusal-then-not-is_stop.ensures
+    of_refusal (λ n. IsWrongLine sys c.args.steps n read.line.items text) c.refusal-then-not-is_stop.result (record { number = read.number; finding = c.found_by.result }) c.refusal-then-not-is_stop.ensures
     (last_goes fixed.table.now fixed.form takings c.args.self.now c.args.ahead.now l rest text at rows ahead c.args.steps near fixed.table.now.system.now.library.blocks c.in_ok-stop.stop c.limit.new.self
     c.take_from_ahead.new.self c.take_from_ahead.new.ahead c.limit.ensures.trail (c.in_ok-stop.ensures.goes less (Some []) is_look) c.in_ok-stop.ensures.alone (record { number = read.number; finding = c.found_by.result }) refl
     (end_found c.in_ok-stop.stop (read.line.items ≡ steps_stop sys (line_of sys l)) c.found_by.result why.Unmade c.found_by.ensures.stopped c.found_by.ensures.other (λ unmade. inr (unmade, other))) (λ is out. other is))
@@ -104,7 +106,7 @@ returns-then-not-has_run_out-clause-stands c = λ takings rest text rows few at 
     let goes = c.in_ok-stop.ensures.goes less (Some []) is_look in
     let read = c.take_from_ahead.new.self.trail.reading in
     let here = subst (λ (n : Next). IsNext sys fixed.form l.key.tick read.line.items n) (c.is_stop.ensures.stop c.if-not-is_stop.false) c.in_ok-stop.ensures.next in
-    of_refusal (λ n. IsWrongLine sys c.args.steps n text) c.refusal-then-not-has_run_out.result (record { number = read.number; finding = c.found_by-then-not-has_run_out.result })
+    of_refusal (λ n. IsWrongLine sys c.args.steps n read.line.items text) c.refusal-then-not-has_run_out.result (record { number = read.number; finding = c.found_by-then-not-has_run_out.result })
     c.refusal-then-not-has_run_out.ensures
     (last_goes fixed.table.now fixed.form takings c.args.self.now c.args.ahead.now l rest text at rows ahead c.args.steps near fixed.table.now.system.now.library.blocks c.in_ok-stop.stop c.limit.new.self
     c.take_from_ahead.new.self c.take_from_ahead.new.ahead c.limit.ensures.trail goes c.in_ok-stop.ensures.alone (record { number = read.number; finding = c.found_by-then-not-has_run_out.result }) refl

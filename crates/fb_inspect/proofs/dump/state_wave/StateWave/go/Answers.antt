@@ -151,7 +151,8 @@ returns-in_err-advance-clause-refused g c = λ rest text few names known well be
     let before = c.loop.invariant.1 rest text few names known well in
     let q = err_from_is_err_and c.from_residual.result c.from_residual.ensures.1 in
     rw (q.1, q.2)
-    (refused_then c.in_err-advance.field-0.0 (λ n. IsWrongLine sys c.args.terms.steps n text) (λ n. IsWrongFor sys c.args.terms.steps n text) (c.in_err-advance.ensures.stands before.0 text few names before.1 before.2) (λ n wrong. inl wrong))
+    (refused_then c.in_err-advance.field-0.0 (λ n. IsWrongLine sys c.args.terms.steps n c.advance.new.self.walk.trail.reading.line.items text)
+    (λ n. IsWrongFor sys c.args.terms.steps n c.advance.new.self.walk.trail.reading.line.items text) (c.in_err-advance.ensures.stands before.0 text few names before.1 before.2) (λ n wrong. inl wrong))
 
 pub returns-in_err-flush_much-in-Taken-clause-refused :
     goal.returns-in_err-flush_much-in-Taken-clause-refused
@@ -169,7 +170,7 @@ returns-in-Ended-clause-refused g c = λ rest text few names known well begins.
     let r = unread c.advance.new.ahead (g.R.Read.remaining c.advance.new.input) in
     let read = subst (λ (o : Option (List ℕ)). Consumes (Some text) o c.args.self.now.walk.trail.reading.line.items) (sym known) begins in
     let next = subst (HasGoneOn sys fixed.form steps c.advance.new.self (Some text) r old mid) c.in-Ended.is (c.in_ok-advance.ensures.goes (Some text) old mid (c.loop.invariant.0 (Some text) read)) in
-    err_refused c.finish.result (λ n. IsRefusalAfter c.advance.new.self.walk.trail.reading.number n × IfSome r (λ left. 0 < length left)) (λ n. IsWrongFor sys steps n text) c.finish.ensures.refused
+    err_refused c.finish.result (λ n. IsRefusalAfter c.advance.new.self.walk.trail.reading.number n × IfSome r (λ left. 0 < length left)) (λ n. IsWrongFor sys steps n c.finish.new.self.walk.trail.reading.line.items text) c.finish.ensures.refused
     (λ n over. inr (after_last sys fixed.form steps c.advance.new.self c.in-Ended.end text r old mid n.number next over.0.0 over.1, over.0.1))
 
 pub returns-in-CutOff-clause-refused : goal.returns-in-CutOff-clause-refused
