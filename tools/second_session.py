@@ -14,6 +14,7 @@ import interpreter
 from interpreter import Stop, System
 
 MOST_TICK, MOST_BYTES, MOST_BREAKS = 10**12, 65_536, 100
+LEAST_NUMBER, GREATEST_NUMBER = -(2**127), 2**127 - 1
 STOPPED = "! the run has stopped\n"
 NAME = re.compile(r"[A-Za-z_]\w*")
 WORDS_OF = {
@@ -98,6 +99,10 @@ class Session(System):
             if not (value.upper() in ("TRUE", "FALSE") or re.fullmatch(r"-?[0-9]+", value)):
                 self.wrong(14, f'the word "{word}": its value is neither a number nor TRUE or FALSE')
             settings.append((name.upper(), interpreter.value_in(value)))
+            if settings[-1][1] > GREATEST_NUMBER:
+                self.wrong(14, f'the word "{word}": its value is over the greatest number, {GREATEST_NUMBER}')
+            if settings[-1][1] < LEAST_NUMBER:
+                self.wrong(14, f'the word "{word}": its value is under the least number, {LEAST_NUMBER}')
         if int(tick) > MOST_TICK:
             self.wrong(15, f'the tick "{tick}" is over 1,000,000,000,000')
         return int(tick), *(it.upper() for it in names), settings
