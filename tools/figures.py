@@ -3,7 +3,7 @@
 - Each amount of time or memory, and each factor of speed, has a date in its paragraph, or in the one before or after its table: it
   was measured then.
 - The rows of README's table of speed are those of bench/README.md, rounded, with the same commit and date.
-- The minutes of the gate are those of a row of bench/README.md with the same date.
+- The minutes of the gate are those of a row of bench/README.md with the same date, and those of the install are those there.
 - Numbers of crates, stored cases and wrong implementations are those that there are.
 - The kit is the one that NOTICE names."""
 
@@ -25,6 +25,7 @@ TABLE = re.compile(r"^\| application \| ticks \|(.*)\|\n\|[-|]+\|\n((?:\|.*\|\n)
 MEASURED = re.compile(r"at\s+commit\s+([0-9a-f]{8})\s+on\s+(20\d\d-\d\d-\d\d)")
 OF_GATE = re.compile(r"took\s+(\d+)\s+minutes\s+on\s+four\s+processors\s+\((20\d\d-\d\d-\d\d)\)")
 ROW_OF_GATE = re.compile(r"^\| [0-9a-f]{8} \| (20\d\d-\d\d-\d\d) \| (\d+) \|", re.M)
+INSTALL = re.compile(r"(\d+)\s+minutes\s+on\s+four\s+processors\s+and\s+(\d+)\s+on\s+two")
 KIT = re.compile(r"rattle-kit-\w+")
 
 
@@ -75,6 +76,8 @@ def speed_faults():
 def faults():
     """Returns the faults of all figures."""
     found, known, kits = [*speed_faults()], counts(), set(KIT.findall(text_of("NOTICE")))
+    of_page, source = (INSTALL.findall(text_of(it)) for it in ("README.md", SPEED))
+    found += [] if of_page and of_page == source else [f"README.md: the minutes of the install are {of_page}, where bench/README.md has {source}"]
     gates = {(minutes, date) for date, minutes in ROW_OF_GATE.findall(text_of(SPEED))}
     for page in PAGES:
         text = text_of(page)

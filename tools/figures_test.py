@@ -10,6 +10,7 @@ import figures
 CHANGES = (
     ("README.md", r"(\| `?compute`?.* \| 200 \| )\d", r"\g<1>7"),
     ("README.md", r"took \d+ minutes", "took 1 minutes"),
+    ("README.md", r"\d+(\s+minutes\s+on\s+four\s+processors\s+and)", r"1\1"),
     ("README.md", r"at commit \w{8}", "at commit 00000000"),
     ("README.md", r"best of seven", "best of six"),
     ("README.md", r"20\d\d-\d\d-\d\d", "lately"),
