@@ -13,6 +13,7 @@
   definition like `HasTaken`. If a page says in which file a definition is, it is there.
 - So does every name like `module::item` in the comments of sources.
 - The synopsis of docs/FORMATS.md has the commands, options and arguments of docs/HELP.md, and names the commands with --why.
+- Each link of a page leads to a file and a heading that there are, and so does each section that a page names as in: README.md, "Install".
 - README.md has at most 2,000 words, each entry of docs/DECISIONS.md at most 80, each row of docs/maintain/PROOFS.md at most 100.
 - The version of CHANGELOG.md is that of the program, of the Python package and of the files for VS Code.
 - The figures of README.md and CONTRIBUTING.md are those of their sources, or have a date (tools/figures.py).
@@ -248,6 +249,31 @@ def synopsis_faults():
     return faults
 
 
+def headings(page):
+    """Returns the headings of a page, in small letters."""
+    return [it.lower() for it in re.findall(r"^#+ (.*)$", re.sub(r"```.*?```", "", text_of(page), flags=re.S), re.M)]
+
+
+def link_faults(page):
+    """Returns the links of a page, and the sections of other pages that it names, that lead nowhere."""
+    text, faults, here = re.sub(r"```.*?```", "", text_of(page), flags=re.S), [], os.path.dirname(page)
+    for target, mark in re.findall(r"\]\((?!https?:)([^)\s#]*)(?:#([^)\s]+))?\)", text):
+        place = os.path.normpath(os.path.join(here, target)) if target else page
+        is_there = os.path.exists(f"{TOP}/{place}")
+        marks = [re.sub(r"[^\w -]", "", it).replace(" ", "-") for it in headings(place)] if is_there and mark else [mark]
+        faults += [] if is_there and mark in marks else [f"{page}: the link to {target}#{mark} leads nowhere"]
+    for name, section in re.findall(r"((?:[\w-]+/)*[A-Z_]+\.md),\s+\"([^\"]+)\"", text):
+        found = next((it for it in (f"{folder}{name}" for folder in ("", "docs/", "docs/maintain/", "docs/notes/")) if os.path.exists(f"{TOP}/{it}")), None)
+        if not found or not any(" ".join(section.lower().split()) in it for it in [*headings(found), *bold_texts(found)]):
+            faults.append(f"{page}: {name} has no section {section}")
+    return faults
+
+
+def bold_texts(page):
+    """Returns the texts in bold of a page, in small letters: entries of lists are named by them."""
+    return [" ".join(it.lower().split()) for it in re.findall(r"\*\*(.*?)\*\*", text_of(page), re.S)]
+
+
 def length_faults():
     """Returns the faults of README.md, docs/DECISIONS.md and docs/maintain/PROOFS.md if they have more words than they may."""
     page, entries = "docs/DECISIONS.md", re.split(r"\n(?=- \*\*|## )", text_of("docs/DECISIONS.md"))
@@ -279,7 +305,7 @@ def main():
     texts = [it for it in glob.glob(f"{TOP}/python/**/*.py", recursive=True) + glob.glob(f"{TOP}/examples/xml/**/*.*", recursive=True) if os.path.isfile(it)]
     known |= {word for it in texts for word in re.findall(r"[A-Z]\w+", text_of(os.path.relpath(it, TOP)))}
     for page in pages:
-        faults += name_faults(page)
+        faults += name_faults(page) + link_faults(page)
         # (names of XML and of Python are none of ours)
         if page not in ("docs/IMPORT.md", "docs/PYTHON.md"):
             faults += definition_name_faults(page, known)
