@@ -78,13 +78,14 @@ IsWaveFailure wave.Read failure = failure ≡ File
 IsWaveFailure (wave.Write n) failure = failure ≡ Write n
 IsWaveFailure wave.Names failure = ⊥
 
-abbrev pub failure_of_inspection : InspectError → Failure
-failure_of_inspection (inspect.Refused line) = Refused (Trace line)
-failure_of_inspection inspect.Unknown = Refused (Numbered 21)
-failure_of_inspection inspect.Memory = Memory
-failure_of_inspection inspect.Read = File
-failure_of_inspection (inspect.Write n) = Write n
-failure_of_inspection inspect.Names = Memory
+-- why such a trace is not inspected
+abbrev pub IsInspectionFailure : InspectError → Failure → Type 0
+IsInspectionFailure (inspect.Refused line) failure = failure ≡ Refused (Trace line)
+IsInspectionFailure inspect.Unknown failure = failure ≡ Refused (Numbered 21)
+IsInspectionFailure inspect.Memory failure = failure ≡ Memory
+IsInspectionFailure inspect.Read failure = failure ≡ File
+IsInspectionFailure (inspect.Write n) failure = failure ≡ Write n
+IsInspectionFailure inspect.Names failure = ⊥
 
 abbrev pub failure_of_rules : RulesError → Failure
 failure_of_rules e = numbered_input (rules.number_of e)

@@ -3,7 +3,7 @@ use Rattle.std.specs.Prelude.{◌≡◌, ◌⊎◌, ℕ, List, map, Option, Some
 use Rattle.std.specs.Char.{to_ascii_uppercase}
 use Rattle.clap.specs.Words.{Text}
 use Rattle.fb_types.specs.Headline.{Inputs, system_of}
-use Rattle.fb_inspect.specs.Inspections.{IsShownBy, ShowsFront}
+use Rattle.fb_inspect.specs.Inspections.{IsShownBy, ShowsRead}
 use Rattle.fb_inspect.specs.Selections.{Selection}
 use Rattle.fb_inspect.specs.declared.filter.EventFilter.{EventFilter}
 use Rattle.fb_wave.specs.declared.truncation.Cut.{Cut}
@@ -57,14 +57,15 @@ selection_of x = record { only = paths_of x; events = events_of x }
 
 -- ---- What is written
 
--- The inputs are accepted, and the writer got the first bytes of what is shown of takings of their system.
-abbrev pub InspectsFront : Given → Inspect → (old new : Held) → Type 0
-InspectsFront given x old new = (i : Inputs) × Declares given i × ShowsFront (system_of i) (selection_of x) x.steps old new
+-- The inputs are accepted, and the writer got the first bytes of what is shown of takings of their system: those of the lines with
+-- which the trace begins.
+abbrev pub InspectsFront : Given → Inspect → (trace : Held) → (old new : Held) → Type 0
+InspectsFront given x trace old new = (i : Inputs) × Declares given i × ShowsRead (system_of i) (selection_of x) x.steps trace old new
 
 -- The inputs are accepted, the writer got such bytes, and the refusal is that of a line that is wrong, or of an unknown instance.
 abbrev pub RefusesInside : Given → Inspect → (trace : Held) → (old new : Held) → RefusalLine → Type 0
 RefusesInside given x trace old new refusal =
-    (i : Inputs) × Declares given i × ShowsFront (system_of i) (selection_of x) x.steps old new × IsRefusalIn i x.steps trace refusal
+    (i : Inputs) × Declares given i × ShowsRead (system_of i) (selection_of x) x.steps trace old new × IsRefusalIn i (selection_of x).only x.steps trace refusal
 
 -- a trace of what the inputs declare is read, of which these bytes are known, and it is written with what happens inside the blocks
 abbrev pub Inspects : Given → Inspect → (trace : Held) → (old new : Held) → End → Type 0
@@ -79,9 +80,9 @@ Inspects given x trace old new (Ok Unmet) = ⊥
 Inspects given x trace old new (Ok Same) = ⊥
 Inspects given x trace old new (Ok Different) = ⊥
 Inspects given x trace old new (Err (Refused refusal)) = (IsRefused given refusal × (new ≡ old)) ⊎ RefusesInside given x trace old new refusal
-Inspects given x trace old new (Err File) = InspectsFront given x old new
-Inspects given x trace old new (Err (Write n)) = InspectsFront given x old new
-Inspects given x trace old new (Err Memory) = (new ≡ old) ⊎ InspectsFront given x old new
+Inspects given x trace old new (Err File) = InspectsFront given x trace old new
+Inspects given x trace old new (Err (Write n)) = InspectsFront given x trace old new
+Inspects given x trace old new (Err Memory) = (new ≡ old) ⊎ InspectsFront given x trace old new
 Inspects given x trace old new (Err (Line message)) = ⊥
 Inspects given x trace old new (Err BadOption) = ⊥
 Inspects given x trace old new (Err (RefusedTrace text)) = ⊥

@@ -4,20 +4,23 @@ use Rattle.fb_types.specs.Headline.{Inputs, system_of}
 use Rattle.fb_sim.specs.Given.{Given}
 use Rattle.fb_sim.specs.Serial.{Declares}
 use Rattle.fb_wave.specs.declared.truncation.Cut.{Cut}
-use Rattle.fb_inspect.specs.StateWaves.{IsShownWith, WritesFront}
+use Rattle.fb_inspect.specs.StateWaves.{IsShownWith, WritesRead}
 use Rattle.fbsim_command.specs.Outcomes.{End, Held, IsRefused}
-use Rattle.fbsim_command.specs.WrongLines.{IsRefusalIn}
+use Rattle.fbsim_command.specs.WrongLines.{IsWrongIn}
 use Rattle.fbsim_command.specs.declared.failure.RefusalLine.{RefusalLine}
+use Rattle.fbsim_command.specs.declared.failure.RefusalLine.TheVariants.{Trace}
 use Rattle.fbsim_command.specs.declared.failure.Failure.TheVariants.{Refused, RefusedTrace, File, Write, Memory, Line, BadOption}
 use Rattle.fbsim_command.specs.declared.statuses.Done.TheVariants.{Helped, Explained, Accepted, Shown, Ended, Stopped, Met, Unmet, Same, Different}
 
--- The inputs are accepted, and the writer got the first bytes of the dump of takings of their system.
-abbrev pub StatesFront : Given → (steps : ℕ) → (old new : Held) → Type 0
-StatesFront given steps old new = (i : Inputs) × Declares given i × WritesFront (system_of i) steps old new
+-- The inputs are accepted, and the writer got the first bytes of the dump of takings of their system: those of the lines with which the
+-- trace begins.
+abbrev pub StatesFront : Given → (steps : ℕ) → (trace : Held) → (old new : Held) → Type 0
+StatesFront given steps trace old new = (i : Inputs) × Declares given i × WritesRead (system_of i) steps trace old new
 
 -- The inputs are accepted, the writer got such bytes, and the refusal is that of a line that is wrong.
 abbrev pub RefusesStates : Given → (steps : ℕ) → (trace : Held) → (old new : Held) → RefusalLine → Type 0
-RefusesStates given steps trace old new refusal = (i : Inputs) × Declares given i × WritesFront (system_of i) steps old new × IsRefusalIn i steps trace refusal
+RefusesStates given steps trace old new refusal =
+    (i : Inputs) × Declares given i × WritesRead (system_of i) steps trace old new × ((line : ℕ) × (refusal ≡ Trace line) × IsWrongIn i steps trace line)
 
 -- a trace of what the inputs declare is read, of which these bytes are known, and its dump is written with the inside of basic blocks
 abbrev pub DumpsStates : Cut → (steps : ℕ) → Given → (trace : Held) → (old new : Held) → End → Type 0
@@ -32,9 +35,9 @@ DumpsStates may steps given trace old new (Ok Unmet) = ⊥
 DumpsStates may steps given trace old new (Ok Same) = ⊥
 DumpsStates may steps given trace old new (Ok Different) = ⊥
 DumpsStates may steps given trace old new (Err (Refused refusal)) = (IsRefused given refusal × (new ≡ old)) ⊎ RefusesStates given steps trace old new refusal
-DumpsStates may steps given trace old new (Err File) = StatesFront given steps old new
-DumpsStates may steps given trace old new (Err (Write n)) = StatesFront given steps old new
-DumpsStates may steps given trace old new (Err Memory) = (new ≡ old) ⊎ StatesFront given steps old new
+DumpsStates may steps given trace old new (Err File) = StatesFront given steps trace old new
+DumpsStates may steps given trace old new (Err (Write n)) = StatesFront given steps trace old new
+DumpsStates may steps given trace old new (Err Memory) = (new ≡ old) ⊎ StatesFront given steps trace old new
 DumpsStates may steps given trace old new (Err (Line message)) = ⊥
 DumpsStates may steps given trace old new (Err BadOption) = ⊥
 DumpsStates may steps given trace old new (Err (RefusedTrace text)) = ⊥

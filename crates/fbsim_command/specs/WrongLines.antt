@@ -1,24 +1,25 @@
--- What the refusal of a line of a trace says of the line (this project's own).
-use Rattle.std.specs.Prelude.{◌≡◌, ◌≤◌, ℕ, IfSome}
+-- What the refusal of a trace says: of the line, or of a path (this project's own).
+use Rattle.std.specs.Prelude.{◌≡◌, ◌≤◌, ℕ, List, Contains, IfSome}
 use Rattle.fb_types.specs.Headline.{Inputs, system_of}
-use Rattle.fb_wave.specs.Named.{HasNames}
+use Rattle.fb_types.specs.Names.{Name}
 use Rattle.fb_inspect.specs.Refusals.{IsWrongAt}
+use Rattle.fb_inspect.specs.refused.LineFaults.{IsNoInstance}
 use Rattle.fb_inspect.specs.walk.Looks.{most}
 use Rattle.fbsim_command.specs.Outcomes.{Held}
 use Rattle.fbsim_command.specs.declared.failure.RefusalLine.{RefusalLine}
 use Rattle.fbsim_command.specs.declared.failure.RefusalLine.TheVariants.{Numbered, Syntax, Trace}
 
 -- The line of this number is not what the reactions of the blocks give after the lines before it, or the text ends too early.
--- What is declared has names, and the limit of steps is one that a call may have.
+-- The limit of steps is one that a call may have.
 abbrev pub IsWrongIn : Inputs → (steps : ℕ) → (trace : Held) → (line : ℕ) → Type 0
-IsWrongIn i steps trace line = HasNames (system_of i) → steps ≤ most → IfSome trace (IsWrongAt (system_of i) steps line)
+IsWrongIn i steps trace line = steps ≤ most → IfSome trace (IsWrongAt (system_of i) steps line)
 
--- The same of inputs that were read: they have names.
-abbrev pub IsWrongOf : Inputs → (steps : ℕ) → (trace : Held) → (line : ℕ) → Type 0
-IsWrongOf i steps trace line = steps ≤ most → IfSome trace (IsWrongAt (system_of i) steps line)
+-- No instance has one of the paths that are to be shown.
+abbrev pub HasNoPath : Inputs → (only : List Name) → Type 0
+HasNoPath i only = (path : Name) × Contains only path × IsNoInstance (system_of i) path
 
 -- A trace is refused for a line that is wrong, or an instance that is to be shown is unknown.
-abbrev pub IsRefusalIn : Inputs → (steps : ℕ) → (trace : Held) → RefusalLine → Type 0
-IsRefusalIn i steps trace (Trace line) = IsWrongOf i steps trace line
-IsRefusalIn i steps trace (Numbered n) = n ≡ 21
-IsRefusalIn i steps trace (Syntax line) = ⊥
+abbrev pub IsRefusalIn : Inputs → (only : List Name) → (steps : ℕ) → (trace : Held) → RefusalLine → Type 0
+IsRefusalIn i only steps trace (Trace line) = IsWrongIn i steps trace line
+IsRefusalIn i only steps trace (Numbered n) = (n ≡ 21) × HasNoPath i only
+IsRefusalIn i only steps trace (Syntax line) = ⊥

@@ -1,6 +1,7 @@
 //! What traces cover.
 
 ghost use Rattle.std.specs.Prelude.{◌≡◌, ◌++◌, IfErr, IfOk, IfSome, OnOk, codes, decimal, map, option_map, string_bytes, true};
+ghost use Rattle.fb_wave.specs.OfSystem.{HasNames};
 ghost use Rattle.fbsim_command.specs.declared.coverage.Gleaned.{Gleaned};
 ghost use Rattle.fbsim_command.specs.Covering as spec;
 ghost use Rattle.fbsim_command.specs.WrongLines.{IsWrongIn};
@@ -150,6 +151,7 @@ fn cover_one<S: Streams>(
     note: &mut Option<String>,
     source: &mut S,
 ) -> Result<Gleaned, Failure>
+    requires { HasNames system.now }
     ensures covered { IfOk result (GoesThrough S.opens system.now coverage.now name.now source.old source.new gleaned) }
     ensures stopped { IfErr result (IsStopped S.opens (IsWrongIn system.now coverage.now.steps) (are_several coverage.now) name.now source.old source.new) }
     ensures noted { NotesTrace coverage.now (option_map string_bytes note.old) → NotesTrace coverage.now (option_map string_bytes note.new) }
@@ -177,8 +179,12 @@ fn cover_one<S: Streams>(
             *note = note_of_unread(alloc, coverage, name);
             Err(Failure::File)
         }
-        // No path is given, nothing is written, and no text gives ports that are written alike.
-        Err(_) => Err(Failure::Memory),
+        Err(InspectError::Memory) => Err(Failure::Memory),
+        // What is written is dropped, so no writer fails.
+        Err(InspectError::Write(_)) => Err(Failure::Memory),
+        // The system has names, and no path is given.
+        Err(InspectError::Names) => unreachable!(),
+        Err(InspectError::Unknown) => unreachable!(),
     }
 }
 
@@ -190,6 +196,7 @@ fn cover_all<S: Streams>(
     note: &mut Option<String>,
     source: &mut S,
 ) -> Result<Gleaned, Failure>
+    requires { HasNames system.now }
     ensures covered { IfOk result (AreGoneThrough S.opens system.now coverage.now source.old source.new) }
     ensures stopped { IfErr result (AreStopped S.opens system.now coverage.now source.old source.new) }
     ensures noted { NotesTrace coverage.now (option_map string_bytes note.old) → NotesTrace coverage.now (option_map string_bytes note.new) }
@@ -245,6 +252,7 @@ fn report<S: Streams>(
     note: &mut Option<String>,
     source: &mut S,
 ) -> Result<(Vec<u8>, bool), Failure>
+    requires { HasNames system.now }
     ensures report { IfOk result (λ r. (gleaned : Gleaned) × AreGoneThrough S.opens system.now coverage.now source.old source.new gleaned
         × (r.0.items ≡ coverage_text system.now coverage.now gleaned) × (r.1 ≡ spec.is_too_little system.now coverage.now.least gleaned.marks)) }
     ensures stopped { IfErr result (AreStopped S.opens system.now coverage.now source.old source.new) }

@@ -1,8 +1,9 @@
 //! Why a call of the program does not do what is asked, and how that is reported.
 
 ghost use Rattle.std.specs.Prelude.{◌≡◌};
-ghost use Rattle.fbsim_command.specs.Failures.{failure_of, failure_of_check, failure_of_inspection, failure_of_read, failure_of_input, failure_of_refusal, failure_of_rules, failure_of_source, failure_of_part, IsWaveFailure};
+ghost use Rattle.fbsim_command.specs.Failures.{failure_of, failure_of_check, failure_of_read, failure_of_input, failure_of_refusal, failure_of_rules, failure_of_source, failure_of_part, IsInspectionFailure, IsWaveFailure};
 ghost use Rattle.fbsim_command.specs.declared.failure.Failure.TheVariants.{Memory};
+ghost use Rattle.fb_inspect.specs.declared.error.InspectError.TheVariants as inspection;
 ghost use Rattle.fb_wave.specs.declared.error.WaveError.TheVariants as wave;
 
 use crate::sources::SourceFault;
@@ -127,22 +128,6 @@ impl From<PartFault> for Failure {
     }
 }
 
-impl From<InspectError> for Failure {
-    ghost from_gives = { λ error failure. failure ≡ failure_of_inspection error };
-
-    fn from(error: InspectError) -> Failure {
-        match error {
-            InspectError::Refused(line) => Failure::Refused(RefusalLine::Trace(line)),
-            InspectError::Unknown => Failure::Refused(RefusalLine::Numbered(21)),
-            InspectError::Memory => Failure::Memory,
-            InspectError::Read => Failure::File,
-            InspectError::Write(written) => Failure::Write(written),
-            // Only a declaration that no text gives has two ports that are written alike.
-            InspectError::Names => Failure::Memory,
-        }
-    }
-}
-
 impl From<RulesError> for Failure {
     ghost from_gives = { λ error failure. failure ≡ failure_of_rules error };
 
@@ -176,6 +161,21 @@ pub(crate) fn failure_of_wave(error: WaveError) -> Failure
         WaveError::Read => Failure::File,
         WaveError::Write(written) => Failure::Write(written),
         WaveError::Names => unreachable!(),
+    }
+}
+
+/// The failure for which a trace of what was read is not inspected, or not as a whole. Whatever was read has names.
+pub(crate) fn failure_of_inspection(error: InspectError) -> Failure
+    requires { error ≡ inspection.Names → ⊥ }
+    ensures { IsInspectionFailure error result }
+{
+    match error {
+        InspectError::Refused(line) => Failure::Refused(RefusalLine::Trace(line)),
+        InspectError::Unknown => Failure::Refused(RefusalLine::Numbered(21)),
+        InspectError::Memory => Failure::Memory,
+        InspectError::Read => Failure::File,
+        InspectError::Write(written) => Failure::Write(written),
+        InspectError::Names => unreachable!(),
     }
 }
 

@@ -1,13 +1,15 @@
 //! What happens inside the blocks of a trace.
 
 ghost use Rattle.std.specs.Prelude.{◌≡◌, IfErr, IfOk, IfSome, OnErr, OnOk, map, option_map, string_bytes};
-ghost use Rattle.fb_inspect.specs.OfSystem.{IsShownBy, ShowsFront};
+ghost use Rattle.fb_inspect.specs.OfSystem.{IsPathFault, IsShownBy, ShowsRead};
 ghost use Rattle.fb_inspect.specs.Refusals.{OfRefusal};
+ghost use Rattle.fb_inspect.specs.declared.error.InspectError.TheVariants as error;
+ghost use Rattle.fb_wave.specs.OfSystem.{HasNames};
 ghost use Rattle.fbsim_command.specs.WrongLines.{IsWrongIn};
 ghost use Rattle.fbsim_command.specs.InsideNotes.{NotesInside};
 ghost use Rattle.fbsim_command.specs.Inspecting.{Inspects, ShowsInsides, cut_of, events_of, selection_of, upper};
 
-use crate::failure::Failure;
+use crate::failure::{Failure, failure_of_inspection};
 use crate::inside_notes::{note_of_gone, note_of_open};
 use crate::line_notes::note_of_wave;
 use crate::notes::{note_of_file, note_of_trace_end};
@@ -55,7 +57,7 @@ fn filter_of(inspect: &Inspect<'_>) -> EventFilter
     }
 }
 
-/// Goes through a trace of a system.
+/// Goes through a trace of a system that has names.
 fn go<R: BufRead, W: Write>(
     alloc: Global,
     system: &System,
@@ -64,9 +66,12 @@ fn go<R: BufRead, W: Write>(
     trace: &mut R,
     out: &mut W,
 ) -> Result<(), InspectError>
+    requires { HasNames system.now }
     ensures whole { OnOk result (IfSome (R.remaining trace.old) (λ text. IsShownBy (cut_of inspect.now) system.now (selection_of inspect.now) inspect.now.steps text (W.contents out.old) (W.contents out.new))) }
-    ensures fault { OnErr result (ShowsFront system.now (selection_of inspect.now) inspect.now.steps (W.contents out.old) (W.contents out.new)) }
+    ensures fault { OnErr result (ShowsRead system.now (selection_of inspect.now) inspect.now.steps (R.remaining trace.old) (W.contents out.old) (W.contents out.new)) }
     ensures refused { IfErr result (OfRefusal (IsWrongIn system.now inspect.now.steps (R.remaining trace.old))) }
+    ensures names { IfErr result (λ e. e ≡ error.Names → ⊥) }
+    ensures paths { IfErr result (IsPathFault system.now (selection_of inspect.now).only) }
 {
     let only = paths_of(alloc, inspect.only.as_slice())?;
     let inspection = Inspection {
@@ -103,7 +108,7 @@ fn write_inspected<R: BufRead, W: Write>(
     discard(system);
     match gone {
         Ok(()) => (Ok(Done::Shown), note),
-        Err(error) => (Err(Failure::from(error)), note),
+        Err(error) => (Err(failure_of_inspection(error)), note),
     }
 }
 

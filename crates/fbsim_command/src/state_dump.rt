@@ -4,7 +4,7 @@ ghost use Rattle.std.specs.Prelude.{option_map, string_bytes};
 ghost use Rattle.fbsim_command.specs.InsideNotes.{NotesInside};
 ghost use Rattle.fbsim_command.specs.StateDumping.{DumpsStates};
 
-use crate::failure::Failure;
+use crate::failure::{Failure, failure_of_inspection};
 use crate::inside_notes::note_of_gone;
 use crate::statuses::Done;
 use fb_inspect::{RefusedLine, Terms, write_states};
@@ -36,6 +36,6 @@ pub(crate) fn dump_states<R: BufRead, W: Write>(
     discard(system);
     match gone {
         Ok(()) => (Ok(Done::Shown), note),
-        Err(error) => (Err(Failure::from(error)), note),
+        Err(error) => (Err(failure_of_inspection(error)), note),
     }
 }

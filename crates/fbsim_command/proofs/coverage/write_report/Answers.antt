@@ -1,5 +1,9 @@
 use Rattle.fbsim_command.proofs.lemmas.calls.CoverageCalls.{may-stop, refused, reported, unreported, unwritten, written}
+use Rattle.fbsim_command.proofs.lemmas.names.ReadNames.{read-names}
 use Rattle.fbsim_command.proofs.coverage.write_report.Goals as goal
+
+pub report-reported-requires : goal.report-reported-requires
+report-reported-requires g c = read-names c.args.inputs.now c.in_ok-system.system c.in_ok-system.ensures.system
 
 pub returns-in_err-system-clause-written : goal.returns-in_err-system-clause-written
 returns-in_err-system-clause-written g c =

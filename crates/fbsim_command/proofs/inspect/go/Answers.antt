@@ -1,12 +1,13 @@
-use Rattle.fbsim_command.proofs.lemmas.Common.{◌≡◌, ◌≤◌, Bor, List, map, subst, ap, ◌∙◌, IfSome, OnErr, OnOk, system_of, Cut, IsWrongIn}
+use Rattle.fbsim_command.proofs.lemmas.Common.{◌≡◌, ◌≤◌, Bor, List, map, subst, ap, ◌∙◌, IfErr, IfSome, OnErr, OnOk, system_of, Cut, IsWrongIn}
 use Rattle.clap.specs.Words.{Text}
-use Rattle.fb_inspect.specs.Inspections.{IsShownBy, ShowsFront}
+use Rattle.fb_inspect.specs.Inspections.{IsShownBy, ShowsRead}
 use Rattle.fb_inspect.specs.Selections.{Selection}
 use Rattle.fb_inspect.specs.declared.filter.EventFilter.{EventFilter}
 use Rattle.fb_inspect.proofs.lemmas.walk.Ended.{front_none}
 use Rattle.fbsim_command.specs.Inspecting.{cut_of, selection_of, upper}
-use Rattle.fbsim_command.proofs.lemmas.calls.Inspecting.{no_refusal, on_err_any, wrong_so}
-use Rattle.fb_inspect.specs.Refusals.{IsWrongAt}
+use Rattle.fbsim_command.proofs.lemmas.calls.Inspecting.{memory_is_known, memory_is_named, memory_only, no_names, no_refusal, on_err_any, wrong_so}
+use Rattle.fb_inspect.specs.Refusals.{IsPathFault, IsWrongAt}
+use Rattle.fb_inspect.specs.declared.error.InspectError.TheVariants as inspection
 use Rattle.fb_inspect.specs.walk.Looks.{most}
 use Rattle.fb_wave.specs.Named.{HasNames}
 use Rattle.fbsim_command.proofs.inspect.go.Goals as goal
@@ -14,7 +15,7 @@ use Rattle.fbsim_command.proofs.inspect.go.Goals as goal
 pub returns-in_err-only-clause-fault : goal.returns-in_err-only-clause-fault
 returns-in_err-only-clause-fault g c =
     let none = front_none (system_of c.args.system.now) (selection_of c.args.inspect.now) c.args.inspect.now.steps (g.R.Read.remaining c.args.trace.now) (g.W.Write.contents c.args.out.now) in
-    on_err_any c.from_residual.result _ none.front
+    on_err_any c.from_residual.result _ none
 
 abbrev uppers : List (Bor Text) → List Text
 uppers texts = map (λ t. upper t.now) texts
@@ -36,8 +37,8 @@ returns-clause-fault g c =
     let x = c.args.inspect.now in
     let old = g.W.Write.contents c.args.out.now in
     let new = g.W.Write.contents c.inspect.new.out in
-    subst (λ (what : Selection). OnErr c.inspect.result (ShowsFront (system_of c.args.system.now) what x.steps old new))
-    (selects (c.as_slice-2.ensures.value ∙ c.in_ok-only.ensures ∙ ap uppers c.as_slice.ensures.value) c.filter_of.ensures) c.inspect.ensures.fault
+    subst (λ (what : Selection). OnErr c.inspect.result (ShowsRead (system_of c.args.system.now) what x.steps (g.R.Read.remaining c.args.trace.now) old new))
+    (selects (c.as_slice-2.ensures.value ∙ c.in_ok-only.ensures ∙ ap uppers c.as_slice.ensures.value) c.filter_of.ensures) c.inspect.ensures.read
 
 pub returns-in_err-only-clause-refused : goal.returns-in_err-only-clause-refused
 returns-in_err-only-clause-refused g c =
@@ -47,4 +48,21 @@ pub returns-clause-refused : goal.returns-clause-refused
 returns-clause-refused g c =
     let sys = system_of c.args.system.now in
     let steps = c.args.inspect.now.steps in
-    wrong_so (HasNames sys) (steps ≤ most) (λ n. IfSome (g.R.Read.remaining c.args.trace.now) (IsWrongAt sys steps n)) c.inspect.result c.inspect.ensures.refused
+    wrong_so (HasNames sys) (steps ≤ most) (λ n. IfSome (g.R.Read.remaining c.args.trace.now) (IsWrongAt sys steps n)) c.inspect.result c.requires c.inspect.ensures.refused
+
+pub returns-in_err-only-clause-names : goal.returns-in_err-only-clause-names
+returns-in_err-only-clause-names g c = memory_only c.from_residual.result (λ e. e ≡ inspection.Names → ⊥) c.from_residual.ensures.1 memory_is_named
+
+pub returns-in_err-only-clause-paths : goal.returns-in_err-only-clause-paths
+returns-in_err-only-clause-paths g c =
+    let sys = system_of c.args.system.now in
+    let only = (selection_of c.args.inspect.now).only in
+    memory_only c.from_residual.result (IsPathFault sys only) c.from_residual.ensures.1 (memory_is_known sys only)
+
+pub returns-clause-names : goal.returns-clause-names
+returns-clause-names g c = no_names (HasNames (system_of c.args.system.now)) c.requires c.inspect.result c.inspect.ensures.names
+
+pub returns-clause-paths : goal.returns-clause-paths
+returns-clause-paths g c =
+    subst (λ (only : List Text). IfErr c.inspect.result (IsPathFault (system_of c.args.system.now) only)) (c.as_slice-2.ensures.value ∙ c.in_ok-only.ensures ∙ ap uppers c.as_slice.ensures.value)
+    c.inspect.ensures.paths

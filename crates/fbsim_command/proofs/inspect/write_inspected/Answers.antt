@@ -1,7 +1,10 @@
-use Rattle.fbsim_command.proofs.lemmas.Common.{Err, string_bytes, subst, sym, IfErr, IfSome, OnErr, OnOk, system_of, OfRefusal, IsWrongIn, Failure}
-use Rattle.fb_inspect.specs.Inspections.{IsShownBy, ShowsFront}
+use Rattle.fbsim_command.proofs.lemmas.Common.{◌≡◌, Err, string_bytes, subst, sym, IfErr, IfSome, OnErr, OnOk, system_of, OfRefusal, IsWrongIn, Failure}
+use Rattle.fb_inspect.specs.Inspections.{IsShownBy, ShowsRead}
+use Rattle.fb_inspect.specs.Refusals.{IsPathFault}
+use Rattle.fb_inspect.specs.declared.error.InspectError.TheVariants as inspection
 use Rattle.fbsim_command.specs.Inspecting.{Inspects, cut_of, selection_of}
 use Rattle.fbsim_command.proofs.lemmas.calls.Inspecting.{inspects_front, inspects_none, line_noted_inside, none_noted_inside}
+use Rattle.fbsim_command.proofs.lemmas.names.ReadNames.{read-names}
 use Rattle.fbsim_command.proofs.inspect.write_inspected.Goals as goal
 
 pub returns-in-Err-clause-inspected : goal.returns-in-Err-clause-inspected
@@ -24,6 +27,12 @@ pub returns-in-Ok-gone-clause-noted : goal.returns-in-Ok-gone-clause-noted
 returns-in-Ok-gone-clause-noted g c =
     none_noted_inside string_bytes c.args.inspect.now.why c.go-gone.result _ c.in-Ok-gone.field-0 c.note_of_gone-note.result c.in-Ok-gone.is c.note_of_gone-note.ensures
 
+pub go-gone-requires : goal.go-gone-requires
+go-gone-requires g c = read-names c.args.inputs.now c.in-Ok.system c.in-Ok.ensures.system
+
+pub failure_of_inspection-requires : goal.failure_of_inspection-requires
+failure_of_inspection-requires g c = subst (λ r. IfErr r (λ e. e ≡ inspection.Names → ⊥)) c.in-Err-gone.is c.go-gone.ensures.names
+
 pub returns-clause-inspected : goal.returns-clause-inspected
 returns-clause-inspected g c =
     let x = c.args.inspect.now in
@@ -31,13 +40,12 @@ returns-clause-inspected g c =
     let old = g.W.Write.contents c.args.out.now in
     let new = g.W.Write.contents c.go-gone.new.out in
     let trace = g.R.Read.remaining c.args.trace.now in
-    let e = c.in-Err-gone.error in
-    subst (λ (f : Failure). Inspects c.args.inputs.now x trace old new (Err f)) (sym c.from-in-Err-gone.ensures)
-    (inspects_front c.args.inputs.now x trace old new c.in-Ok.system c.in-Ok.ensures.system e
-    (subst (λ r. OnErr r (ShowsFront sys (selection_of x) x.steps old new)) c.in-Err-gone.is c.go-gone.ensures.fault)
-    (subst (λ r. IfErr r (OfRefusal (IsWrongIn c.in-Ok.system x.steps trace))) c.in-Err-gone.is c.go-gone.ensures.refused))
+    inspects_front c.args.inputs.now x trace old new c.in-Ok.system c.in-Ok.ensures.system c.in-Err-gone.error c.failure_of_inspection.result c.failure_of_inspection.ensures
+    (subst (λ r. OnErr r (ShowsRead sys (selection_of x) x.steps trace old new)) c.in-Err-gone.is c.go-gone.ensures.fault)
+    (subst (λ r. IfErr r (OfRefusal (IsWrongIn c.in-Ok.system x.steps trace))) c.in-Err-gone.is c.go-gone.ensures.refused)
+    (subst (λ r. IfErr r (IsPathFault sys (selection_of x).only)) c.in-Err-gone.is c.go-gone.ensures.paths)
 
 pub returns-clause-noted : goal.returns-clause-noted
 returns-clause-noted g c =
-    line_noted_inside string_bytes c.args.inspect.now.why c.go-gone.result c.in-Err-gone.error c.from-in-Err-gone.result c.note_of_gone-note.result c.in-Err-gone.is
-    c.from-in-Err-gone.ensures c.note_of_gone-note.ensures
+    line_noted_inside string_bytes c.args.inspect.now.why c.go-gone.result c.in-Err-gone.error c.failure_of_inspection.result c.note_of_gone-note.result c.in-Err-gone.is
+    c.failure_of_inspection.ensures c.note_of_gone-note.ensures

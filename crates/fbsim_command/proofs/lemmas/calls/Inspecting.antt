@@ -1,27 +1,29 @@
 -- How a call that inspects a trace ends.
-use Rattle.fbsim_command.proofs.lemmas.Common.{◌≡◌, ◌≤◌, ◌⊎◌, ℕ, Bool, List, Option, Some, None, Result, Ok, Err, codes, option_map, ◌++◌, inl, inr, refl, sym, ap, subst, ◌∙◌, IfErr, IfSome, IsTrue, OnErr, Inputs, system_of, IsErrAnd, OfRefusal, ReadError, Given, Declares, IsRefusal, IsRightly, RunError, failure_of, failure_of_source, numbered_input, Notes, NotesOf, End, Held, IsWrongIn, EndsIn, Reading, AreRead, IsUnread, Opening, Failure, Task, SourceFault, Part}
+use Rattle.fbsim_command.proofs.lemmas.Common.{◌≡◌, ◌≤◌, ◌⊎◌, ℕ, Bool, List, Option, Some, None, Result, Ok, Err, codes, option_map, ◌++◌, inl, inr, refl, sym, ap, subst, ◌∙◌, IfErr, IfSome, IsTrue, OnErr, Inputs, system_of, IsErrAnd, OfRefusal, ReadError, Given, Declares, IsRefusal, IsRightly, RunError, failure_of, failure_of_source, numbered_input, Notes, NotesOf, End, Held, IsWrongIn, EndsIn, Reading, AreRead, IsUnread, Opening, Failure, Refused, File, Write, Memory, Task, SourceFault, Part}
 use Rattle.fb_types.proofs.Common.{decimal}
-use Rattle.fb_inspect.specs.Refusals.{IsWrongAt}
+use Rattle.fb_types.specs.Names.{Name}
+use Rattle.fb_types.specs.Systems.{System}
+use Rattle.fb_inspect.specs.Refusals.{IsPathFault, IsWrongAt}
 use Rattle.fb_inspect.specs.walk.Looks.{most}
 use Rattle.fb_wave.specs.Named.{HasNames}
 use Rattle.fb_read.specs.declared.error.ReadError.TheVariants as read
 use Rattle.fb_check.specs.Refusals as check
 use Rattle.fb_inputs.specs.Refusals as input
-use Rattle.fb_inspect.specs.Inspections.{ShowsFront}
+use Rattle.fb_inspect.specs.Inspections.{ShowsRead}
 use Rattle.fb_inspect.specs.declared.error.InspectError.{InspectError}
 use Rattle.fb_inspect.specs.declared.error.InspectError.TheVariants as inspection
 use Rattle.fb_sim.specs.declared.outcome.Refusal as sim
 use Rattle.fb_sim.specs.declared.outcome.Refusal.TheVariants as of
 use Rattle.fb_sim.specs.declared.outcome.RunError.TheVariants as run
 use Rattle.clap.specs.Words.{Text}
-use Rattle.fbsim_command.specs.Failures.{failure_of_inspection}
+use Rattle.fbsim_command.specs.Failures.{IsInspectionFailure}
 use Rattle.fbsim_command.specs.InsideNotes.{IsOpenNote, NotesInside, SaysLine}
 use Rattle.fbsim_command.specs.Inspecting.{Inspects, ShowsInsides, files_of, selection_of}
 use Rattle.fbsim_command.specs.Notes.{IsFileNote, NotesRest}
 use Rattle.fbsim_line.specs.declared.inspect_line.Inspect.{Inspect}
 use Rattle.fbsim_command.proofs.lemmas.notes.NotedLines.{noted_so}
 use Rattle.fbsim_command.specs.declared.join.FileLines.{FileLines}
-use Rattle.fbsim_command.proofs.lemmas.names.ReadNames.{read-names}
+use Rattle.fbsim_command.specs.declared.failure.RefusalLine.TheVariants.{Numbered, Trace}
 
 -- whatever the call answers
 pub on_err_any : {A E : Type 0} (r : Result A E) (P : Type 0) → P → OnErr r P
@@ -56,31 +58,62 @@ inspects_none given x trace old run.Failed is = absurd is
 
 -- a beginning is written where the trace is refused, or where reading it, writing or memory fails
 pub inspects_front :
-    (given : Given) (x : Inspect) (trace old new : Held) (i : Inputs) → Declares given i → (e : InspectError) → ShowsFront (system_of i) (selection_of x) x.steps old new
-    → OfRefusal (IsWrongIn i x.steps trace) e → Inspects given x trace old new (Err (failure_of_inspection e))
-inspects_front given x trace old new i is (inspection.Refused line) front wrong = inr (i, is, front, wrong (read-names given i is))
-inspects_front given x trace old new i is inspection.Names front wrong = inr (i, is, front)
-inspects_front given x trace old new i is inspection.Unknown front wrong = inr (i, is, front, refl)
-inspects_front given x trace old new i is inspection.Memory front wrong = inr (i, is, front)
-inspects_front given x trace old new i is inspection.Read front wrong = (i, is, front)
-inspects_front given x trace old new i is (inspection.Write n) front wrong = (i, is, front)
+    (given : Given) (x : Inspect) (trace old new : Held) (i : Inputs) → Declares given i → (e : InspectError) (f : Failure) → IsInspectionFailure e f
+    → ShowsRead (system_of i) (selection_of x) x.steps trace old new → OfRefusal (IsWrongIn i x.steps trace) e → IsPathFault (system_of i) (selection_of x).only e → Inspects given x trace old new (Err f)
+inspects_front given x trace old new i is e f reported front wrong unknown = by e reported wrong unknown
+  where
+    to : (g : Failure) → f ≡ g → Inspects given x trace old new (Err g) → Inspects given x trace old new (Err f)
+    to g same it = subst (λ (h : Failure). Inspects given x trace old new (Err h)) (sym same) it
 
--- a line that is refused is wrong, under the premises of the call below
+    by : (e : InspectError) → IsInspectionFailure e f → OfRefusal (IsWrongIn i x.steps trace) e → IsPathFault (system_of i) (selection_of x).only e → Inspects given x trace old new (Err f)
+    by (inspection.Refused line) reported wrong unknown = to (Refused (Trace line)) reported (inr (i, is, front, wrong))
+    by inspection.Names reported wrong unknown = absurd reported
+    by inspection.Unknown reported wrong unknown = to (Refused (Numbered 21)) reported (inr (i, is, front, (refl, unknown refl)))
+    by inspection.Memory reported wrong unknown = to Memory reported (inr (i, is, front))
+    by inspection.Read reported wrong unknown = to File reported (i, is, front)
+    by (inspection.Write n) reported wrong unknown = to (Write n) reported (i, is, front)
+
+-- ---- Names and lines
+
+-- names are not at fault in a system that has them
+pub no_names : {A : Type 0} (H : Type 0) → H → (r : Result A InspectError) → IfErr r (λ e. e ≡ inspection.Names → H → ⊥) → IfErr r (λ e. e ≡ inspection.Names → ⊥)
+no_names H has (Ok x) is = tt
+no_names H has (Err e) is = λ same. is same has
+
+-- no names and no path are at fault where memory runs out
+pub memory_only : {A : Type 0} (r : Result A InspectError) (P : InspectError → Type 0) → IsErrAnd r (λ e. e ≡ inspection.Memory) → P inspection.Memory → IfErr r P
+memory_only (Ok x) P bad p = absurd bad
+memory_only (Err e) P is p = subst P (sym is) p
+
+pub memory_is_named : inspection.Memory ≡ inspection.Names → ⊥
+memory_is_named same = absurd cc
+
+pub memory_is_known : (i : System) (only : List Name) → IsPathFault i only inspection.Memory
+memory_is_known i only = λ same. absurd cc
+
+-- a line that is refused is wrong, under the premise of the call below
 pub wrong_so :
-    {A : Type 0} (H L : Type 0) (W : ℕ → Type 0) (r : Result A InspectError) → (H → L → IfErr r (OfRefusal W)) → IfErr r (OfRefusal (λ n. H → L → W n))
-wrong_so H L W (Ok x) is = tt
-wrong_so H L W (Err (inspection.Refused n)) is = is
-wrong_so H L W (Err inspection.Names) is = tt
-wrong_so H L W (Err inspection.Unknown) is = tt
-wrong_so H L W (Err inspection.Memory) is = tt
-wrong_so H L W (Err inspection.Read) is = tt
-wrong_so H L W (Err (inspection.Write n)) is = tt
+    {A : Type 0} (H L : Type 0) (W : ℕ → Type 0) (r : Result A InspectError) → H → (H → L → IfErr r (OfRefusal W)) → IfErr r (OfRefusal (λ n. L → W n))
+wrong_so H L W (Ok x) has is = tt
+wrong_so H L W (Err (inspection.Refused n)) has is = is has
+wrong_so H L W (Err inspection.Names) has is = tt
+wrong_so H L W (Err inspection.Unknown) has is = tt
+wrong_so H L W (Err inspection.Memory) has is = tt
+wrong_so H L W (Err inspection.Read) has is = tt
+wrong_so H L W (Err (inspection.Write n)) has is = tt
 
 -- the line for which a walk refuses a trace is wrong
 pub wrong-covered :
-    {A : Type 0} (i : Inputs) (steps : ℕ) (trace : Held) (r : Result A InspectError) (line : ℕ) → r ≡ Err (inspection.Refused line)
+    {A : Type 0} (i : Inputs) (steps : ℕ) (trace : Held) (r : Result A InspectError) (line : ℕ) → HasNames (system_of i) → r ≡ Err (inspection.Refused line)
     → (HasNames (system_of i) → steps ≤ most → IfErr r (OfRefusal (λ n. IfSome trace (IsWrongAt (system_of i) steps n)))) → IsWrongIn i steps trace line
-wrong-covered {A} i steps trace r line is wrong = λ names few. subst (λ (s : Result A InspectError). IfErr s (OfRefusal (λ n. IfSome trace (IsWrongAt (system_of i) steps n)))) is (wrong names few)
+wrong-covered {A} i steps trace r line names is wrong = λ few. subst (λ (s : Result A InspectError). IfErr s (OfRefusal (λ n. IfSome trace (IsWrongAt (system_of i) steps n)))) is (wrong names few)
+
+-- a walk of a system that has names does not end for them
+pub never_names : {A : Type 0} (H : Type 0) (r : Result A InspectError) → H → r ≡ Err inspection.Names → IfErr r (λ e. e ≡ inspection.Names → H → ⊥) → ⊥
+never_names {A} H r has is says = subst (λ (s : Result A InspectError). IfErr s (λ e. e ≡ inspection.Names → H → ⊥)) is says refl has
+
+pub never_unknown : {A : Type 0} (r : Result A InspectError) → r ≡ Err inspection.Unknown → IfErr r (λ e. e ≡ inspection.Unknown → ⊥) → ⊥
+never_unknown {A} r is says = subst (λ (s : Result A InspectError). IfErr s (λ e. e ≡ inspection.Unknown → ⊥)) is says refl
 
 -- a failure of memory is no refusal
 pub no_refusal : {A : Type 0} (r : Result A InspectError) (W : ℕ → Type 0) → IsErrAnd r (λ e. e ≡ inspection.Memory) → IfErr r (OfRefusal W)
@@ -99,14 +132,14 @@ says_line bytes why front line words (Some n) asked is = (asked, record { words 
 -- what is said of a refused line
 pub line_noted_inside :
     {U S : Type 0} (bytes : S → Text) (why : Bool) (gone : Result U InspectError) (e : InspectError) (failure : Failure) (note : Option S) → gone ≡ Err e
-    → failure ≡ failure_of_inspection e → IfSome note (λ n. IsTrue why × ((line : ℕ) × (gone ≡ Err (inspection.Refused line)) × SaysLine (codes "trace") line (bytes n)))
+    → IsInspectionFailure e failure → IfSome note (λ n. IsTrue why × ((line : ℕ) × (gone ≡ Err (inspection.Refused line)) × SaysLine (codes "trace") line (bytes n)))
     → NotesInside why (Err failure) (option_map bytes note)
 line_noted_inside bytes why gone e failure None is reported noted = tt
 line_noted_inside {U = U} bytes why gone e failure (Some n) is reported noted =
     let line : ℕ = noted.1.0 in
     let both : ◌≡◌ {A = Result U InspectError} (Err e) (Err (inspection.Refused line)) = sym is ∙ noted.1.1 in
     let same : e ≡ inspection.Refused line = cc in
-    (noted.0, (line, ap (λ (f : Failure). Err f) (reported ∙ ap failure_of_inspection same), noted.1.2))
+    (noted.0, (line, ap (λ (f : Failure). Err f) (subst (λ (z : InspectError). IsInspectionFailure z failure) same reported), noted.1.2))
 
 -- nothing is said of a trace that is gone through
 pub none_noted_inside :

@@ -1,5 +1,5 @@
 -- How a call for waveforms with the inside of basic blocks ends where there are none, or no whole ones.
-use Rattle.fbsim_command.proofs.lemmas.Common.{◌≡◌, ℕ, Option, Some, None, Err, inl, inr, refl, Inputs, system_of, ReadError, Given, Declares, IsRefusal, IsRightly, RunError, Cut, failure_of, numbered_input, Held, OfRefusal, IsWrongIn}
+use Rattle.fbsim_command.proofs.lemmas.Common.{◌≡◌, ℕ, Option, Some, None, Err, inl, inr, refl, sym, subst, Inputs, system_of, ReadError, Given, Declares, IsRefusal, IsRightly, RunError, Cut, failure_of, numbered_input, Held, OfRefusal, IsWrongIn, Failure, Refused, File, Write, Memory}
 use Rattle.fb_read.specs.declared.error.ReadError.TheVariants as read
 use Rattle.fb_check.specs.Refusals as check
 use Rattle.fb_inputs.specs.Refusals as input
@@ -8,10 +8,10 @@ use Rattle.fb_inspect.specs.declared.error.InspectError.TheVariants as inspectio
 use Rattle.fb_sim.specs.declared.outcome.Refusal as sim
 use Rattle.fb_sim.specs.declared.outcome.Refusal.TheVariants as of
 use Rattle.fb_sim.specs.declared.outcome.RunError.TheVariants as run
-use Rattle.fb_inspect.specs.StateWaves.{WritesFront}
-use Rattle.fbsim_command.specs.Failures.{failure_of_inspection}
+use Rattle.fb_inspect.specs.StateWaves.{WritesRead}
+use Rattle.fbsim_command.specs.Failures.{IsInspectionFailure}
 use Rattle.fbsim_command.specs.StateDumping.{DumpsStates}
-use Rattle.fbsim_command.proofs.lemmas.names.ReadNames.{read-names}
+use Rattle.fbsim_command.specs.declared.failure.RefusalLine.TheVariants.{Trace}
 
 -- nothing is written where the inputs are refused
 pub states_none : (may : Cut) (steps : ℕ) (given : Given) (trace old : Held) (error : RunError) → IsRefusal given error → DumpsStates may steps given trace old old (Err (failure_of error))
@@ -41,11 +41,17 @@ states_none may steps given trace old run.Failed is = absurd is
 
 -- a beginning is written where the trace is refused, or where reading it, writing or memory fails
 pub states_front :
-    (may : Cut) (steps : ℕ) (given : Given) (trace old new : Held) (i : Inputs) → Declares given i → (e : InspectError) → WritesFront (system_of i) steps old new
-    → OfRefusal (IsWrongIn i steps trace) e → DumpsStates may steps given trace old new (Err (failure_of_inspection e))
-states_front may steps given trace old new i is (inspection.Refused line) front wrong = inr (i, is, front, wrong (read-names given i is))
-states_front may steps given trace old new i is inspection.Names front wrong = inr (i, is, front)
-states_front may steps given trace old new i is inspection.Unknown front wrong = inr (i, is, front, refl)
-states_front may steps given trace old new i is inspection.Memory front wrong = inr (i, is, front)
-states_front may steps given trace old new i is inspection.Read front wrong = (i, is, front)
-states_front may steps given trace old new i is (inspection.Write n) front wrong = (i, is, front)
+    (may : Cut) (steps : ℕ) (given : Given) (trace old new : Held) (i : Inputs) → Declares given i → (e : InspectError) (f : Failure) → IsInspectionFailure e f → WritesRead (system_of i) steps trace old new
+    → OfRefusal (IsWrongIn i steps trace) e → (e ≡ inspection.Unknown → ⊥) → DumpsStates may steps given trace old new (Err f)
+states_front may steps given trace old new i is e f reported front wrong unknown = by e reported wrong unknown
+  where
+    to : (g : Failure) → f ≡ g → DumpsStates may steps given trace old new (Err g) → DumpsStates may steps given trace old new (Err f)
+    to g same it = subst (λ (h : Failure). DumpsStates may steps given trace old new (Err h)) (sym same) it
+
+    by : (e : InspectError) → IsInspectionFailure e f → OfRefusal (IsWrongIn i steps trace) e → (e ≡ inspection.Unknown → ⊥) → DumpsStates may steps given trace old new (Err f)
+    by (inspection.Refused line) reported wrong unknown = to (Refused (Trace line)) reported (inr (i, is, front, (line, refl, wrong)))
+    by inspection.Names reported wrong unknown = absurd reported
+    by inspection.Unknown reported wrong unknown = absurd (unknown refl)
+    by inspection.Memory reported wrong unknown = to Memory reported (inr (i, is, front))
+    by inspection.Read reported wrong unknown = to File reported (i, is, front)
+    by (inspection.Write n) reported wrong unknown = to (Write n) reported (i, is, front)

@@ -1,11 +1,13 @@
-use Rattle.fbsim_command.proofs.lemmas.Common.{Err, string_bytes, subst, sym, ◌≤◌, IfErr, IfSome, OnErr, OnOk, system_of, OfRefusal, IsWrongIn, Failure}
+use Rattle.fbsim_command.proofs.lemmas.Common.{◌≡◌, Err, string_bytes, subst, sym, ◌≤◌, IfErr, IfSome, OnErr, OnOk, system_of, OfRefusal, IsWrongIn, Failure}
 use Rattle.fb_wave.specs.Named.{HasNames}
 use Rattle.fb_inspect.specs.Refusals.{IsWrongAt}
 use Rattle.fb_inspect.specs.walk.Looks.{most}
-use Rattle.fb_inspect.specs.StateWaves.{IsShownWith, WritesFront}
+use Rattle.fb_inspect.specs.declared.error.InspectError.TheVariants as inspection
+use Rattle.fb_inspect.specs.StateWaves.{IsShownWith, WritesRead}
 use Rattle.fbsim_command.specs.StateDumping.{DumpsStates}
-use Rattle.fbsim_command.proofs.lemmas.calls.Inspecting.{line_noted_inside, none_noted_inside, wrong_so}
+use Rattle.fbsim_command.proofs.lemmas.calls.Inspecting.{line_noted_inside, no_names, none_noted_inside, wrong_so}
 use Rattle.fbsim_command.proofs.lemmas.calls.StateWaveCalls.{states_front, states_none}
+use Rattle.fbsim_command.proofs.lemmas.names.ReadNames.{read-names}
 use Rattle.fbsim_command.proofs.state_dump.dump_states.Goals as goal
 
 pub returns-in-Err-clause-dumped : goal.returns-in-Err-clause-dumped
@@ -29,6 +31,12 @@ pub returns-in-Ok-gone-clause-noted : goal.returns-in-Ok-gone-clause-noted
 returns-in-Ok-gone-clause-noted g c =
     none_noted_inside string_bytes c.args.why c.write_states-gone.result _ c.in-Ok-gone.field-0 c.note_of_gone-note.result c.in-Ok-gone.is c.note_of_gone-note.ensures
 
+pub failure_of_inspection-requires : goal.failure_of_inspection-requires
+failure_of_inspection-requires g c =
+    let sys = system_of c.in-Ok.system in
+    subst (λ r. IfErr r (λ e. e ≡ inspection.Names → ⊥)) c.in-Err-gone.is
+    (no_names (HasNames sys) (read-names c.args.inputs.now c.in-Ok.system c.in-Ok.ensures.system) c.write_states-gone.result c.write_states-gone.ensures.names)
+
 pub returns-clause-dumped : goal.returns-clause-dumped
 returns-clause-dumped g c =
     let t = c.args.terms in
@@ -36,14 +44,14 @@ returns-clause-dumped g c =
     let old = g.W.Write.contents c.args.out.now in
     let new = g.W.Write.contents c.write_states-gone.new.out in
     let trace = g.R.Read.remaining c.args.trace.now in
-    let e = c.in-Err-gone.error in
-    subst (λ (f : Failure). DumpsStates t.cut t.steps c.args.inputs.now trace old new (Err f)) (sym c.from-in-Err-gone.ensures)
-    (states_front t.cut t.steps c.args.inputs.now trace old new c.in-Ok.system c.in-Ok.ensures.system e
-    (subst (λ r. OnErr r (WritesFront sys t.steps old new)) c.in-Err-gone.is c.write_states-gone.ensures.fault)
+    let names = read-names c.args.inputs.now c.in-Ok.system c.in-Ok.ensures.system in
+    states_front t.cut t.steps c.args.inputs.now trace old new c.in-Ok.system c.in-Ok.ensures.system c.in-Err-gone.error c.failure_of_inspection.result c.failure_of_inspection.ensures
+    (subst (λ r. OnErr r (WritesRead sys t.steps trace old new)) c.in-Err-gone.is c.write_states-gone.ensures.read)
     (subst (λ r. IfErr r (OfRefusal (IsWrongIn c.in-Ok.system t.steps trace))) c.in-Err-gone.is
-    (wrong_so (HasNames sys) (t.steps ≤ most) (λ n. IfSome trace (IsWrongAt sys t.steps n)) c.write_states-gone.result c.write_states-gone.ensures.refused)))
+    (wrong_so (HasNames sys) (t.steps ≤ most) (λ n. IfSome trace (IsWrongAt sys t.steps n)) c.write_states-gone.result names c.write_states-gone.ensures.refused))
+    (subst (λ r. IfErr r (λ e. e ≡ inspection.Unknown → ⊥)) c.in-Err-gone.is c.write_states-gone.ensures.paths)
 
 pub returns-clause-noted : goal.returns-clause-noted
 returns-clause-noted g c =
-    line_noted_inside string_bytes c.args.why c.write_states-gone.result c.in-Err-gone.error c.from-in-Err-gone.result c.note_of_gone-note.result c.in-Err-gone.is c.from-in-Err-gone.ensures
+    line_noted_inside string_bytes c.args.why c.write_states-gone.result c.in-Err-gone.error c.failure_of_inspection.result c.note_of_gone-note.result c.in-Err-gone.is c.failure_of_inspection.ensures
     c.note_of_gone-note.ensures
