@@ -1,5 +1,8 @@
 //! Lines of commands.
 
+ghost use Rattle.std.specs.Prelude.{IfErr};
+ghost use Rattle.fbsim_session.specs.Talks.{IsNoWrite};
+
 use crate::talking::TalkFault;
 use std::io::{BufRead, Read};
 
@@ -22,7 +25,9 @@ pub(crate) enum Line {
 ///
 /// # Errors
 /// That of the reader, or out of memory.
-pub(crate) fn next_line<R: BufRead>(input: &mut R, line: &mut Vec<u8>) -> Result<Line, TalkFault> {
+pub(crate) fn next_line<R: BufRead>(input: &mut R, line: &mut Vec<u8>) -> Result<Line, TalkFault>
+    ensures { IfErr result IsNoWrite }
+{
     line.clear();
     let most = MOST_BYTES as u64 + 1;
     if input.by_ref().take(most).read_until(b'\n', line)? == 0 {

@@ -1,11 +1,12 @@
 //! One command after another.
 
-ghost use Rattle.std.specs.Prelude.{◌≡◌, ◌≤◌, ◌^◌, IfOk};
+ghost use Rattle.std.specs.Prelude.{◌≡◌, ◌≤◌, ◌^◌};
 ghost use Rattle.fb_types.specs.EventPorts.{ArePortsOfKinds};
 ghost use Rattle.fb_session.specs.Pasts.{Past, StandsBy};
 ghost use Rattle.fb_session.specs.declared.stage.Stage.TheVariants as going;
 ghost use Rattle.fbsim_session.specs.Commands.{IsWithin};
-ghost use Rattle.fbsim_session.specs.Talks.{Arrives, Concludes, Flushes, HasTold, IsFaultOf, IsTold, Leads, Opening, Sends, Stays, Talks};
+ghost use Rattle.fbsim_session.specs.Talks.{Arrives, Concludes, Flushes, HasTold, IsFaultOf, IsTold, Leads, Opening, Sends, Stays, Talks, count_of, spoken};
+ghost use Rattle.fb_trace.specs.Progress.{bounded};
 
 use crate::answer::{
     HELP, STOPPED, Sign, in_upper, put_fault, put_line, put_no_instance, put_no_pattern, put_row,
@@ -47,6 +48,10 @@ impl From<AllocError> for TalkFault {
 }
 
 impl From<io::Error> for TalkFault {
+    ghost use Rattle.fbsim_session.specs.Talks.{IsNoWrite};
+
+    ghost from_gives = { λ _ e. IsNoWrite e };
+
     fn from(error: io::Error) -> TalkFault {
         if error.kind() == io::ErrorKind::OutOfMemory {
             TalkFault::Memory
@@ -166,8 +171,8 @@ impl Console<'_, '_> {
         line: &mut Vec<u8>,
         out: &mut W,
     ) -> Result<Outcome, TalkFault>
-        requires told { IsTold (W.contents out.old) self.old.session }
-        ensures { (x : Opening) → HasTold x (W.contents out.old) self.old.session → Concludes x (W.contents out.new) result }
+        requires told { IsTold (W.contents out.old) (spoken self.old) }
+        ensures { (x : Opening) → HasTold x (W.contents out.old) (spoken self.old) → Concludes x (W.contents out.new) result }
     {
         self.list_rows(out)?;
         for _ in 0..u64::MAX {
@@ -182,7 +187,7 @@ impl Console<'_, '_> {
 
     /// Answers each row of the system, as if it had been given.
     fn list_rows<W: Write>(&mut self, out: &mut W) -> Result<(), TalkFault>
-        ensures { (x : Opening) → HasTold x (W.contents out.old) self.old.session → Leads x (W.contents out.new) self.new.session result }
+        ensures { (x : Opening) → HasTold x (W.contents out.old) (spoken self.old) → Leads x (W.contents out.new) (spoken self.new) result }
     {
         let system = self.system;
         for (row, stimulus) in system.stimuli().iter().enumerate() {
@@ -200,8 +205,8 @@ impl Console<'_, '_> {
         line: &mut Vec<u8>,
         out: &mut W,
     ) -> Result<Option<Outcome>, TalkFault>
-        requires told { IsTold (W.contents out.old) self.old.session }
-        ensures { (x : Opening) → HasTold x (W.contents out.old) self.old.session → Arrives x (W.contents out.new) self.new.session result }
+        requires told { IsTold (W.contents out.old) (spoken self.old) }
+        ensures { (x : Opening) → HasTold x (W.contents out.old) (spoken self.old) → Arrives x (W.contents out.new) (spoken self.new) result }
     {
         match next_line(input, line) {
             Ok(Line::Whole) => self.obey(line.as_slice(), out),
@@ -220,8 +225,8 @@ impl Console<'_, '_> {
 
     /// Does what a line asks for, and answers. `Some` is the end of the session.
     fn obey<W: Write>(&mut self, line: &[u8], out: &mut W) -> Result<Option<Outcome>, TalkFault>
-        requires told { IsTold (W.contents out.old) self.old.session }
-        ensures { (x : Opening) → HasTold x (W.contents out.old) self.old.session → Arrives x (W.contents out.new) self.new.session result }
+        requires told { IsTold (W.contents out.old) (spoken self.old) }
+        ensures { (x : Opening) → HasTold x (W.contents out.old) (spoken self.old) → Arrives x (W.contents out.new) (spoken self.new) result }
     {
         match command_of(line) {
             Command::End(tick) => self.end(tick, out),
@@ -233,29 +238,25 @@ impl Console<'_, '_> {
         }
     }
 
-    /// Does what a command asks for. `obey` ends the session, so `end` is an error here.
+    /// Does what a command asks for, unless it ends the session.
     fn perform<W: Write>(&mut self, command: Command<'_>, out: &mut W) -> Result<Reply, TalkFault>
-        requires told { IsTold (W.contents out.old) self.old.session }
+        requires told { IsTold (W.contents out.old) (spoken self.old) }
         requires within { IsWithin command }
-        ensures { (x : Opening) → HasTold x (W.contents out.old) self.old.session → Leads x (W.contents out.new) self.new.session result }
+        ensures { (x : Opening) → HasTold x (W.contents out.old) (spoken self.old) → Leads x (W.contents out.new) (spoken self.new) result }
     {
         match command {
-            Command::Give(tick, event, values) => self.give([tick, event, values]),
             Command::Until(tick) => self.until(tick, out),
             Command::Next => self.next(out),
-            Command::Break(pattern) => self.set_break(pattern),
-            Command::Clear(number) => self.clear_break(number),
-            Command::Show(path) => self.show(path),
-            Command::Peek => self.peek(),
-            Command::Help => Ok(Reply::Help),
-            Command::Wrong(usage) => self.error(usage.words()),
-            Command::End(_) => self.error(Usage::End.words()),
+            command => {
+                let reply = self.reply_to(command)?;
+                Ok(reply)
+            }
         }
     }
 
     /// Writes an answer, and flushes it.
     fn answer<W: Write>(&mut self, reply: Reply, out: &mut W) -> Result<(), TalkFault>
-        ensures { (x : Opening) → HasTold x (W.contents out.old) self.old.session → Leads x (W.contents out.new) self.new.session result }
+        ensures { (x : Opening) → HasTold x (W.contents out.old) (spoken self.old) → Leads x (W.contents out.new) (spoken self.new) result }
     {
         match reply {
             Reply::Line(sign) => self.send(sign, out),
@@ -266,7 +267,7 @@ impl Console<'_, '_> {
 
     /// Answers by the lines of the help.
     fn help<W: Write>(&mut self, out: &mut W) -> Result<(), TalkFault>
-        ensures { (x : Opening) → HasTold x (W.contents out.old) self.old.session → Leads x (W.contents out.new) self.new.session result }
+        ensures { (x : Opening) → HasTold x (W.contents out.old) (spoken self.old) → Leads x (W.contents out.new) (spoken self.new) result }
     {
         for line in HELP {
             self.put(line)?;
@@ -277,7 +278,7 @@ impl Console<'_, '_> {
 
     /// Writes the words in the buffer as one line, and flushes it.
     fn send<W: Write>(&mut self, sign: Sign, out: &mut W) -> Result<(), TalkFault>
-        ensures sends { Sends (W.contents out.old) (W.contents out.new) result }
+        ensures sends { Sends (spoken self.old) (spoken self.new) (W.contents out.old) (W.contents out.new) result }
         ensures same { self.new.session ≡ self.old.session }
     {
         put_line(&mut self.reply, sign, self.text.as_slice())?;
@@ -291,8 +292,8 @@ impl Console<'_, '_> {
 
     /// Flushes what was written.
     fn flush<W: Write>(&mut self, out: &mut W) -> Result<(), TalkFault>
-        ensures flushes { Flushes (W.contents out.old) (W.contents out.new) result }
-        ensures same { self.new.session ≡ self.old.session }
+        ensures flushes { Flushes (spoken self.old) (W.contents out.old) (W.contents out.new) result }
+        ensures same { spoken self.new ≡ spoken self.old }
     {
         match out.flush() {
             Ok(()) => Ok(()),
@@ -302,38 +303,38 @@ impl Console<'_, '_> {
 
     /// Takes the events below a tick, and says how far it came.
     fn until<W: Write>(&mut self, tick: u64, out: &mut W) -> Result<Reply, TalkFault>
-        requires told { IsTold (W.contents out.old) self.old.session }
+        requires told { IsTold (W.contents out.old) (spoken self.old) }
         requires most { tick ≤ 10 ^ 12 }
-        ensures { (x : Opening) → HasTold x (W.contents out.old) self.old.session → Leads x (W.contents out.new) self.new.session result }
+        ensures { (x : Opening) → HasTold x (W.contents out.old) (spoken self.old) → Leads x (W.contents out.new) (spoken self.new) result }
     {
         let Stage::Running = self.session.stage() else {
-            return self.error(STOPPED);
+            return Ok(self.error(STOPPED)?);
         };
         match self.session.until(tick, out) {
-            Ok(end) => self.say_until(tick, end),
+            Ok(end) => Ok(self.say_until(tick, end)?),
             Err(fault) => Err(self.failed(fault)),
         }
     }
 
     /// Takes the least event, and says at which tick.
     fn next<W: Write>(&mut self, out: &mut W) -> Result<Reply, TalkFault>
-        requires told { IsTold (W.contents out.old) self.old.session }
-        ensures { (x : Opening) → HasTold x (W.contents out.old) self.old.session → Leads x (W.contents out.new) self.new.session result }
+        requires told { IsTold (W.contents out.old) (spoken self.old) }
+        ensures { (x : Opening) → HasTold x (W.contents out.old) (spoken self.old) → Leads x (W.contents out.new) (spoken self.new) result }
     {
         let Stage::Running = self.session.stage() else {
-            return self.error(STOPPED);
+            return Ok(self.error(STOPPED)?);
         };
         match self.session.next(out) {
-            Ok(next) => self.say_next(next),
+            Ok(next) => Ok(self.say_next(next)?),
             Err(fault) => Err(self.failed(fault)),
         }
     }
 
     /// Ends the session at a tick, unless that is below the least one.
     fn end<W: Write>(&mut self, tick: u64, out: &mut W) -> Result<Option<Outcome>, TalkFault>
-        requires told { IsTold (W.contents out.old) self.old.session }
+        requires told { IsTold (W.contents out.old) (spoken self.old) }
         requires most { tick ≤ 10 ^ 12 }
-        ensures { (x : Opening) → HasTold x (W.contents out.old) self.old.session → Arrives x (W.contents out.new) self.new.session result }
+        ensures { (x : Opening) → HasTold x (W.contents out.old) (spoken self.old) → Arrives x (W.contents out.new) (spoken self.new) result }
     {
         let least = self.session.reached();
         if tick < least {
@@ -348,7 +349,7 @@ impl Console<'_, '_> {
 
     /// Says where a resource has stopped, if one has: the line of the stop stands already.
     fn say_stop<W: Write>(&mut self, out: &mut W) -> Result<(), TalkFault>
-        ensures leads { (x : Opening) → HasTold x (W.contents out.old) self.old.session → Leads x (W.contents out.new) self.new.session result }
+        ensures leads { (x : Opening) → HasTold x (W.contents out.old) (spoken self.old) → Leads x (W.contents out.new) (spoken self.new) result }
         ensures same { self.new.session ≡ self.old.session }
     {
         let Stage::Stopped(mark) = self.session.stage() else {
@@ -360,8 +361,8 @@ impl Console<'_, '_> {
 
     /// The end of input: an end at the least tick, but at least at 1.
     fn end_of_input<W: Write>(&mut self, out: &mut W) -> Result<Outcome, TalkFault>
-        requires told { IsTold (W.contents out.old) self.old.session }
-        ensures { (x : Opening) → HasTold x (W.contents out.old) self.old.session → Concludes x (W.contents out.new) result }
+        requires told { IsTold (W.contents out.old) (spoken self.old) }
+        ensures { (x : Opening) → HasTold x (W.contents out.old) (spoken self.old) → Concludes x (W.contents out.new) result }
     {
         let tick = self.session.reached().max(1);
         self.finish(tick, out)
@@ -369,10 +370,10 @@ impl Console<'_, '_> {
 
     /// Takes what is left below a tick, and writes it with the last line. After a stop nothing is written.
     fn finish<W: Write>(&mut self, tick: u64, out: &mut W) -> Result<Outcome, TalkFault>
-        requires told { IsTold (W.contents out.old) self.old.session }
+        requires told { IsTold (W.contents out.old) (spoken self.old) }
         requires least { self.old.session.reached ≤ tick }
         requires most { tick ≤ 10 ^ 12 }
-        ensures { (x : Opening) → HasTold x (W.contents out.old) self.old.session → Concludes x (W.contents out.new) result }
+        ensures { (x : Opening) → HasTold x (W.contents out.old) (spoken self.old) → Concludes x (W.contents out.new) result }
     {
         match self.session.stage() {
             Stage::Stopped(mark) => Ok(Outcome::Stop(mark)),
@@ -383,11 +384,11 @@ impl Console<'_, '_> {
 
     /// Takes what is left below a tick, and writes it with the last line.
     fn write_rest<W: Write>(&mut self, tick: u64, out: &mut W) -> Result<Outcome, TalkFault>
-        requires told { IsTold (W.contents out.old) self.old.session }
+        requires told { IsTold (W.contents out.old) (spoken self.old) }
         requires running { self.old.session.stage ≡ going.Running }
         requires least { self.old.session.reached ≤ tick }
         requires most { tick ≤ 10 ^ 12 }
-        ensures { (x : Opening) → HasTold x (W.contents out.old) self.old.session → Concludes x (W.contents out.new) result }
+        ensures { (x : Opening) → HasTold x (W.contents out.old) (spoken self.old) → Concludes x (W.contents out.new) result }
     {
         match self.session.end(tick, out) {
             Ok(End::Over(outcome)) => {
@@ -403,13 +404,15 @@ impl Console<'_, '_> {
 // What writes nothing.
 impl Console<'_, '_> {
     /// The bytes of the trace and of the answers.
-    fn written(&self) -> u128 {
+    fn written(&self) -> u128
+        ensures { result ≡ bounded (count_of (spoken self.now)) }
+    {
         self.session.written().saturating_add(self.answered)
     }
 
     /// Why the session is over, with the count of all bytes.
     fn failed(&self, fault: SessionFault) -> TalkFault
-        ensures { IsFaultOf fault result }
+        ensures { IsFaultOf (spoken self.now) fault result }
     {
         match fault {
             SessionFault::Memory => TalkFault::Memory,
@@ -419,30 +422,30 @@ impl Console<'_, '_> {
 
     /// Puts words in place of what is in the buffer.
     fn put(&mut self, words: &[u8]) -> Result<(), AllocError>
-        ensures { self.new.session ≡ self.old.session }
+        ensures { spoken self.new ≡ spoken self.old }
     {
         self.text.clear();
         put_all(&mut self.text, &[words])
     }
 
     /// An answer by these words.
-    fn words(&mut self, sign: Sign, words: &[u8]) -> Result<Reply, TalkFault>
-        ensures { self.new.session ≡ self.old.session }
+    fn words(&mut self, sign: Sign, words: &[u8]) -> Result<Reply, AllocError>
+        ensures { spoken self.new ≡ spoken self.old }
     {
         self.put(words)?;
         Ok(Reply::Line(sign))
     }
 
     /// An answer that something is wrong.
-    fn error(&mut self, words: &[u8]) -> Result<Reply, TalkFault>
-        ensures { self.new.session ≡ self.old.session }
+    fn error(&mut self, words: &[u8]) -> Result<Reply, AllocError>
+        ensures { spoken self.new ≡ spoken self.old }
     {
         self.words(Sign::Error, words)
     }
 
     /// An answer by a number after words.
-    fn number(&mut self, sign: Sign, before: &[u8], number: u64) -> Result<Reply, TalkFault>
-        ensures { self.new.session ≡ self.old.session }
+    fn number(&mut self, sign: Sign, before: &[u8], number: u64) -> Result<Reply, AllocError>
+        ensures { spoken self.new ≡ spoken self.old }
     {
         self.put(before)?;
         put_number(self.alloc, &mut self.text, number)?;
@@ -450,8 +453,8 @@ impl Console<'_, '_> {
     }
 
     /// The answer to `until`.
-    fn say_until(&mut self, tick: u64, end: Until) -> Result<Reply, TalkFault>
-        ensures { self.new.session ≡ self.old.session }
+    fn say_until(&mut self, tick: u64, end: Until) -> Result<Reply, AllocError>
+        ensures { spoken self.new ≡ spoken self.old }
     {
         match end {
             Until::At => self.number(Sign::Answer, b"at ", tick),
@@ -463,8 +466,8 @@ impl Console<'_, '_> {
         }
     }
 
-    fn say_break(&mut self, number: u64, at: u64) -> Result<Reply, TalkFault>
-        ensures { self.new.session ≡ self.old.session }
+    fn say_break(&mut self, number: u64, at: u64) -> Result<Reply, AllocError>
+        ensures { spoken self.new ≡ spoken self.old }
     {
         self.put(b"break ")?;
         put_number(self.alloc, &mut self.text, number)?;
@@ -474,8 +477,8 @@ impl Console<'_, '_> {
     }
 
     /// The answer to `next`.
-    fn say_next(&mut self, next: Next) -> Result<Reply, TalkFault>
-        ensures { self.new.session ≡ self.old.session }
+    fn say_next(&mut self, next: Next) -> Result<Reply, AllocError>
+        ensures { spoken self.new ≡ spoken self.old }
     {
         match next {
             Next::Took(tick) => self.number(Sign::Answer, b"took ", tick),
@@ -485,9 +488,29 @@ impl Console<'_, '_> {
         }
     }
 
-    fn give(&mut self, fields: [&[u8]; 3]) -> Result<Reply, TalkFault>
+    /// The answer to a command that takes no events. Those that do, and `end`, are errors here: `perform` and `obey` do
+    /// them.
+    fn reply_to(&mut self, command: Command<'_>) -> Result<Reply, AllocError>
         requires { (p : Past) × StandsBy self.old.session p }
-        ensures { Stays self.old.session self.new.session }
+        ensures { Stays (spoken self.old) (spoken self.new) }
+    {
+        match command {
+            Command::Give(tick, event, values) => self.give([tick, event, values]),
+            Command::Break(pattern) => self.set_break(pattern),
+            Command::Clear(number) => self.clear_break(number),
+            Command::Show(path) => self.show(path),
+            Command::Peek => self.peek(),
+            Command::Help => Ok(Reply::Help),
+            Command::Wrong(usage) => self.error(usage.words()),
+            Command::Until(_) => self.error(Usage::Until.words()),
+            Command::Next => self.error(Usage::Next.words()),
+            Command::End(_) => self.error(Usage::End.words()),
+        }
+    }
+
+    fn give(&mut self, fields: [&[u8]; 3]) -> Result<Reply, AllocError>
+        requires { (p : Past) × StandsBy self.old.session p }
+        ensures { Stays (spoken self.old) (spoken self.new) }
     {
         let [tick, event, values] = fields;
         let given = self.session.give(tick, event, values);
@@ -499,8 +522,8 @@ impl Console<'_, '_> {
         &mut self,
         fields: [&[u8]; 3],
         given: Result<GivenAnswer, GiveFault>,
-    ) -> Result<Reply, TalkFault>
-        ensures { self.new.session ≡ self.old.session }
+    ) -> Result<Reply, AllocError>
+        ensures { spoken self.new ≡ spoken self.old }
     {
         match given {
             Ok(given) => {
@@ -515,16 +538,16 @@ impl Console<'_, '_> {
         }
     }
 
-    fn set_break(&mut self, pattern: &[u8]) -> Result<Reply, TalkFault>
-        ensures { Stays self.old.session self.new.session }
+    fn set_break(&mut self, pattern: &[u8]) -> Result<Reply, AllocError>
+        ensures { Stays (spoken self.old) (spoken self.new) }
     {
         let set = self.session.set_break(pattern);
         self.say_set(pattern, set)
     }
 
     /// The answer to `break`.
-    fn say_set(&mut self, pattern: &[u8], set: Result<u64, BreakFault>) -> Result<Reply, TalkFault>
-        ensures { self.new.session ≡ self.old.session }
+    fn say_set(&mut self, pattern: &[u8], set: Result<u64, BreakFault>) -> Result<Reply, AllocError>
+        ensures { spoken self.new ≡ spoken self.old }
     {
         match set {
             Ok(number) => self.number(Sign::Answer, b"break ", number),
@@ -534,12 +557,12 @@ impl Console<'_, '_> {
                 put_no_pattern(self.alloc, &mut self.text, pattern)?;
                 Ok(Reply::Line(Sign::Error))
             }
-            Err(BreakFault::Memory) => Err(TalkFault::Memory),
+            Err(BreakFault::Memory) => Err(AllocError),
         }
     }
 
-    fn clear_break(&mut self, number: u64) -> Result<Reply, TalkFault>
-        ensures { Stays self.old.session self.new.session }
+    fn clear_break(&mut self, number: u64) -> Result<Reply, AllocError>
+        ensures { Stays (spoken self.old) (spoken self.new) }
     {
         if let Stage::Stopped(_) = self.session.stage() {
             return self.error(STOPPED);
@@ -549,8 +572,8 @@ impl Console<'_, '_> {
     }
 
     /// The answer to `clear`.
-    fn say_cleared(&mut self, number: u64, is_found: bool) -> Result<Reply, TalkFault>
-        ensures { self.new.session ≡ self.old.session }
+    fn say_cleared(&mut self, number: u64, is_found: bool) -> Result<Reply, AllocError>
+        ensures { spoken self.new ≡ spoken self.old }
     {
         if is_found {
             self.number(Sign::Answer, b"cleared ", number)
@@ -559,9 +582,9 @@ impl Console<'_, '_> {
         }
     }
 
-    fn show(&mut self, path: &[u8]) -> Result<Reply, TalkFault>
+    fn show(&mut self, path: &[u8]) -> Result<Reply, AllocError>
         requires { (p : Past) × StandsBy self.old.session p }
-        ensures { self.new.session ≡ self.old.session }
+        ensures { spoken self.new ≡ spoken self.old }
     {
         let path = in_upper(self.alloc, path)?;
         match self.session.show(path.as_slice())? {
@@ -573,9 +596,9 @@ impl Console<'_, '_> {
         }
     }
 
-    fn peek(&mut self) -> Result<Reply, TalkFault>
+    fn peek(&mut self) -> Result<Reply, AllocError>
         requires { (p : Past) × StandsBy self.old.session p }
-        ensures { self.new.session ≡ self.old.session }
+        ensures { spoken self.new ≡ spoken self.old }
     {
         if let Stage::Stopped(_) = self.session.stage() {
             return self.error(STOPPED);

@@ -1,11 +1,12 @@
 -- Pieces one after another, and the bytes that a writer got of them.
-use Rattle.fb_types.proofs.Common.{◌≡◌, ◌⊎◌, ℕ, ◌+◌, List, [], ◌∷◌, ◌++◌, length, take, Option, Some, None, Err, refl, sym, ap, ◌∙◌, subst, arith, append_assoc, append-nil, suc, Appends, Appends-trans, All-nil, All-push, IsTrace, Each}
+use Rattle.fb_types.proofs.Common.{◌≡◌, ◌⊎◌, ℕ, ◌+◌, ◌≤◌, List, [], ◌∷◌, ◌++◌, length, take, Option, Some, None, Err, refl, sym, ap, ◌∙◌, subst, arith, append_assoc, append-nil, length-append, suc, Appends, Appends-trans, All-nil, All-push, IsTrace, Each}
 use Rattle.std.specs.Io.KnownBytes.{Keeps}
 use Rattle.fb_trace.specs.End.{ending_of}
+use Rattle.fb_trace.specs.Progress.{bounded}
 use Rattle.fb_trace.specs.declared.last.Outcome.{Outcome}
 use Rattle.fb_session.specs.Pasts.{with_rows}
 use Rattle.fb_sim_machine.proofs.lemmas.JoinedRuns.{each_append}
-use Rattle.fbsim_session.specs.Talks.{all_of, Answer, AreFront, AreWhole, Ends, Fails, Flushes, IsAnswer, IsBegun, IsWell, Opening, Piece, Sends, Text, text_in, told_in, told_of}
+use Rattle.fbsim_session.specs.Talks.{all_of, Answer, AreFront, AreWhole, Ends, Fails, Flushes, IsAnswer, IsBegun, IsNoWrite, IsWell, Opening, Piece, Sends, Spoken, Text, count_of, text_in, told_in, told_of}
 use Rattle.fbsim_session.specs.declared.talking.TalkFault.{TalkFault}
 use Rattle.fbsim_session.specs.declared.talking.TalkFault.TheVariants.{Memory, Read, Write}
 
@@ -97,38 +98,59 @@ front_whole g ps o f = record {
 -- ---- Faults after pieces that are a beginning
 
 -- all bytes of pieces, and nothing more
-written_all : (g : Opening) (new : Option Text) (ps : List Piece) (n : ℕ) → AreFront g ps → Appends g.start new (all_of ps) → Fails g new (Write n)
-written_all g new ps n f got =
-    (ps, [], length (all_of ps), f, subst (λ (x : Text). Appends g.start new x) (sym (ap (take (length (all_of ps))) (append-nil (all_of ps)) ∙ take_whole (all_of ps))) got)
-
-pub fails_still : (g : Opening) (now new : Option Text) (ps : List Piece) → AreFront g ps → Appends g.start now (all_of ps) → (e : TalkFault) → Keeps now new → Fails g new e
-fails_still g now new ps f got Memory k = (ps, f, kept_more g.start now new (all_of ps) got k)
-fails_still g now new ps f got Read k = (ps, f, kept_more g.start now new (all_of ps) got k)
-fails_still g now new ps f got (Write n) k = written_all g new ps n f (kept_more g.start now new (all_of ps) got k)
-
-pub fails_flush : (g : Opening) (now new : Option Text) (ps : List Piece) → AreFront g ps → Appends g.start now (all_of ps) → (e : TalkFault) → Flushes now new (Err e) → Fails g new e
-fails_flush g now new ps f got Memory x = absurd x
-fails_flush g now new ps f got Read x = absurd x
-fails_flush g now new ps f got (Write n) k = fails_still g now new ps f got (Write n) k
-
-pub fails_sent : (g : Opening) (now new : Option Text) (ps : List Piece) → AreFront g ps → Appends g.start now (all_of ps) → (e : TalkFault) → Sends now new (Err e) → Fails g new e
-fails_sent g now new ps f got Memory x = (ps, f, none_more g.start now new (all_of ps) got x)
-fails_sent g now new ps f got Read x = absurd x
-fails_sent g now new ps f got (Write n) x = (
-  ps ++ Answer x.0 ∷ [],
+written_all : (g : Opening) (new : Option Text) (ps : List Piece) (n : ℕ) → AreFront g ps → Appends g.start new (all_of ps) → n ≡ bounded (length (all_of ps)) → Fails g new (Write n)
+written_all g new ps n f got counted = (
+  ps,
   [],
-  length (all_of ps) + x.1,
-  front_answered g ps x.0 x.2 f,
-  got_part g.start now new ps (Answer x.0) [] x.1 got (subst (λ (z : Text). Appends now new (take x.1 z)) (sym (append-nil x.0)) x.3),
+  length (all_of ps),
+  f,
+  subst (λ (x : Text). Appends g.start new x) (sym (ap (take (length (all_of ps))) (append-nil (all_of ps)) ∙ take_whole (all_of ps))) got,
+  subst (λ (x : Text). length (all_of ps) ≤ length x) (sym (append-nil (all_of ps))) (omega arith),
+  counted,
 )
+
+pub fails_still : (g : Opening) (now new : Option Text) (ps : List Piece) → AreFront g ps → Appends g.start now (all_of ps) → (e : TalkFault) → IsNoWrite e → Keeps now new → Fails g new e
+fails_still g now new ps f got Memory other k = (ps, f, kept_more g.start now new (all_of ps) got k)
+fails_still g now new ps f got Read other k = (ps, f, kept_more g.start now new (all_of ps) got k)
+fails_still g now new ps f got (Write n) other k = absurd other
+
+pub fails_flush : (g : Opening) (now new : Option Text) (ps : List Piece) → AreFront g ps → Appends g.start now (all_of ps) → (t : Spoken) → bounded (count_of t) ≡ bounded (length (all_of ps))
+    → (e : TalkFault) → Flushes t now new (Err e) → Fails g new e
+fails_flush g now new ps f got t counted Memory x = absurd x
+fails_flush g now new ps f got t counted Read x = absurd x
+fails_flush g now new ps f got t counted (Write n) x = written_all g new ps n f (kept_more g.start now new (all_of ps) got x.0) (x.1 ∙ counted)
+
+-- the bytes of the trace and of the answers, with those of one answer more
+pub count_on : (w a n k : ℕ) → bounded (w + a) ≡ bounded n → bounded (w + bounded (a + k)) ≡ bounded (n + k)
+count_on w a n k counted = omega (arith, counted)
+
+pub length_more : (ps : List Piece) (p : Piece) → length (all_of (ps ++ p ∷ [])) ≡ length (all_of ps) + length (text_in p)
+length_more ps p = ap (λ (x : Text). length x) (all_more ps p) ∙ length-append (all_of ps) (text_in p)
+
+pub fails_sent : (g : Opening) (now new : Option Text) (ps : List Piece) → AreFront g ps → Appends g.start now (all_of ps) → (t u : Spoken) → bounded (count_of t) ≡ bounded (length (all_of ps))
+    → (e : TalkFault) → Sends t u now new (Err e) → Fails g new e
+fails_sent g now new ps f got t u counted Memory x = (ps, f, none_more g.start now new (all_of ps) got x)
+fails_sent g now new ps f got t u counted Read x = absurd x
+fails_sent g now new ps f got t u counted (Write n) x =
+    let more : length (all_of (ps ++ Answer x.0 ∷ [])) ≡ length (all_of ps) + length x.0 = length_more ps (Answer x.0) in
+    let le : x.1 ≤ length x.0 = x.4 in (
+      ps ++ Answer x.0 ∷ [],
+      [],
+      length (all_of ps) + x.1,
+      front_answered g ps x.0 x.2 f,
+      got_part g.start now new ps (Answer x.0) [] x.1 got (subst (λ (z : Text). Appends now new (take x.1 z)) (sym (append-nil x.0)) x.3),
+      subst (λ (z : Text). length (all_of ps) + x.1 ≤ length z) (sym (append-nil (all_of (ps ++ Answer x.0 ∷ [])))) (omega (arith, more, le)),
+      x.5 ∙ count_on t.session.written t.answered (length (all_of ps)) x.1 counted,
+    )
 
 -- ---- After the end
 
 pub ends_flushed : (g : Opening) (now new : Option Text) (o : Outcome) → Ends g now o → Keeps now new → Ends g new o
 ends_flushed g now new o e k = (e.0, e.1, kept_more g.start now new (all_of e.0) e.2 k)
 
-pub ends_failed : (g : Opening) (now new : Option Text) (o : Outcome) → Ends g now o → (e : TalkFault) → Flushes now new (Err e) → Fails g new e
-ends_failed g now new o x e f = fails_flush g now new x.0 (front_whole g x.0 o x.1) x.2 e f
+pub ends_failed : (g : Opening) (now new : Option Text) (o : Outcome) (x : Ends g now o) (t : Spoken) → bounded (count_of t) ≡ bounded (length (all_of x.0)) → (e : TalkFault)
+    → Flushes t now new (Err e) → Fails g new e
+ends_failed g now new o x t counted e f = fails_flush g now new x.0 (front_whole g x.0 o x.1) x.2 t counted e f
 
 -- ---- The line of an answer
 

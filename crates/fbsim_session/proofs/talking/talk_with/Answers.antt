@@ -7,4 +7,4 @@ returns-in_err-judge g c =
     let i = c.args.system.now in
     let o = c.args.options in
     let good : AreGood i = record { accepted = c.facts.ensures.accepted; limits = c.facts.ensures.limits } in
-    concludes_lost (record { inputs = i; steps = o.steps; form = o.form; start = g.W.Write.contents c.args.out.now }) good c.from_residual.result _ c.from_residual.ensures.1
+    concludes_lost (record { inputs = i; steps = o.steps; form = o.form; start = g.W.Write.contents c.args.out.now }) good c.from_residual.result c.from_residual.ensures.1

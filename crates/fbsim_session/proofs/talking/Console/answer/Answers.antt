@@ -2,7 +2,7 @@ use Rattle.fbsim_session.proofs.lemmas.Telling.{leads_as, leads_flushed, leads_s
 use Rattle.fbsim_session.proofs.talking.Console.answer.Goals as goal
 
 pub returns-in-Line : goal.returns-in-Line
-returns-in-Line g c = λ x h. leads_as x _ _ _ c.send.result c.send.ensures.same (leads_sent x _ _ h _ c.send.result c.send.ensures.sends)
+returns-in-Line g c = λ x h. leads_sent x _ _ h _ _ c.send.result c.send.ensures.sends
 
 pub returns-in-Written : goal.returns-in-Written
 returns-in-Written g c = λ x h. leads_as x _ _ _ c.flush.result c.flush.ensures.same (leads_flushed x _ _ h _ c.flush.result c.flush.ensures.flushes)

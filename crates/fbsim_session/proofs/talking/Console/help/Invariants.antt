@@ -1,5 +1,5 @@
-use Rattle.fbsim_session.specs.Talks.{HasTold, Opening}
+use Rattle.fbsim_session.specs.Talks.{HasTold, Opening, spoken}
 use Rattle.fbsim_session.proofs.talking.Console.help.Given as goal
 
 abbrev pub invariant-loop-line : goal.invariant-loop-line
-invariant-loop-line g l = (x : Opening) → HasTold x (g.W.Write.contents l.fn.out) l.fn.self.session → HasTold x (g.W.Write.contents l.out) l.self.session
+invariant-loop-line g l = (x : Opening) → HasTold x (g.W.Write.contents l.fn.out) (spoken l.fn.self) → HasTold x (g.W.Write.contents l.out) (spoken l.self)
