@@ -116,6 +116,18 @@ def crowd(count):
     return f"APPLICATION A FBS{blocks} END_FBS END_APPLICATION\n".encode()
 
 
+def crowd_wave(count):
+    """Returns the dump of this many blocks in which nothing happens: each has two event inputs and an event output."""
+    lines = ["$timescale 1 ms $end", "$scope module MAIN $end"]
+    for block in range(count):
+        lines.append(f"$scope module M{block} $end")
+        for number, port in enumerate(("EI1", "EI2", "EO"), 3 * block):
+            lines += [f"$var event 1 e{number} {port} $end", f"$var reg 64 n{number} {port}_count $end"]
+        lines.append("$upscope $end")
+    lines += ["$upscope $end", "$enddefinitions $end", "#0", "$dumpvars", *(f"b0 n{number}" for number in range(3 * count)), "$end", "#1", ""]
+    return "\n".join(lines).encode()
+
+
 def chain():
     """Returns a declaration in which one event goes from block to block, and its trace, which has lines of each block."""
     blocks = "".join(f"M{i} : E_MERGE;\n" for i in range(LINKS))
@@ -150,6 +162,7 @@ FILES |= {
     "strange_trace": TO_8.replace(b"6 MAIN", b"6 NONE"),
     "long_trace": LONG_TRACE,
     "no_trace": b"",
+    "still_trace": b"end 1\n",
 }
 FILES |= {
     "cycle_plan": b"[[resource]]\ndevice = \"D\"\nname = \"MAIN\"\ninstances = [\"S\", \"C\"]\n",
@@ -361,6 +374,9 @@ CALLS = [
     Call(["wave", "cycle", "-"], 0, out=WAVE_TO_8, given=KEYED_TO_8),
     Call(["wave", "cycle", "stopped_trace"], 0, out=WAVE_STOPPED),
     Call(["wave", "cycle", "long_trace"], 0, out=LONG_WAVE),
+    Call(["wave", "crowd", "still_trace"], 0, out=crowd_wave(4096)),
+    Call(["wave", "--states", "crowd", "still_trace"], 0, out=crowd_wave(4096)),
+    Call(["inspect", "crowd", "still_trace"], 0, out=b"end 1\n"),
     Call(["wave", "cycle", "trace_pipe"], 0, out=LONG_WAVE),
     Call(["wave", "pipe", "-"], 0, out=LONG_WAVE, given=LONG_TRACE),
     # A text that is no trace is refused with its line, but after the declaration and the deployment.
