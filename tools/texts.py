@@ -4,15 +4,18 @@ that fails.
 
 The texts are the literals in the code of crates/*/src, without contracts and tests. Each place at which the code of the program refers to
 one is changed by itself, in a copy: it then refers to other bytes, so another text of the same length is printed. If no case fails, a
-byte of the text is changed where it stands, and so it is with texts that the compiler put into instructions or copies in parts. Of the
-cases whose expected output has the text, those are run that have most of the other texts of its file, until one fails. The cases are
-those of cases/*.toml, the calls of tools/calls.py, docs/HELP.md and the explanations.
+byte of the text is changed where it stands, and then where the function has it among the numbers of its instructions, by which it
+compares. So it is with texts that the compiler put into instructions or copies in parts. The cases are those of cases/*.toml, the calls
+of tools/calls.py, docs/HELP.md and the explanations. Each of them is first run with break points at all these places (reached.c). For a
+place those are run that come by there, until one fails: first those that print the text, and most of the other texts of its file.
 
-It lists the texts that no case shows, and those that are changed and no case fails, and counts those without a place: they have three
-bytes or fewer. Most of what it lists is no gap: a text that the program compares by numbers in its instructions, and a short one that
-many outputs have, so that the right case is not among those that are run. So ./gate does not run it. With files it is about the texts of
-these alone. --list runs nothing: it lists the texts that no case shows. Without --program it takes the program that ./simulate built.
-tools/texts_test.py tests this, in ./gate."""
+It lists the texts whose place no case reaches, and those that are changed and no case fails, and counts those without a place: they have
+three bytes or fewer. What it lists is no gap where
+- a write fails, or memory runs out: calls with that are left out here, and tools/narrow.py and tools/refuse.py make them
+- no input reaches the place: it is there because the type of a value has more than its callers give
+- one byte of a text is compared, which is a number in an instruction that other numbers look like
+So ./gate does not run it. With files it is about the texts of these alone. --list runs nothing: it lists the texts that no case shows.
+Without --program it takes the program that ./simulate built. tools/texts_test.py tests this, in ./gate."""
 
 import bisect
 import glob
@@ -32,11 +35,13 @@ import calls
 import cases
 import unbuilt
 from kit import TOP, rt
-from program import Room
+from program import SECONDS, Room
 
 PROGRAM = "fbsim"
 # The most cases that are run for one change before the text counts as shown by none.
 MOST_TRIED = 150
+# The instruction that stops a program at a place (int3).
+BREAK = 0xCC
 # Outputs over this many bytes are traces, whose texts shorter ones have too.
 MOST_SHOWN = 20_000
 # Cases with more steps than this in a tick take seconds.
@@ -47,6 +52,8 @@ TELLING = 4
 HOLDING = (".rodata", ".data.rel.ro")
 # The least bytes of a text that is looked for among the numbers of instructions, and the most that one of these has.
 LEAST, WORD = 4, 8
+# The least bytes of a text that is looked for in comparisons with a number of two bytes, and the beginning of such an instruction.
+SHORTEST, COMPARISON = 2, rb"\x66(?:\x3d|\x81[\xf8-\xff]|\x81[\x38-\x3f]|\x81[\x78-\x7f].)"
 # Crates that print nothing, or only for tests.
 SILENT = ("fb_tests",)
 
@@ -80,12 +87,15 @@ class Literal(NamedTuple):
 
 
 class Use(NamedTuple):
-    """A place of the program that refers to a text: the function's symbol, the literal, and the changes of the program that show whether a
-    case fails, each as an offset and the bytes that are written there."""
+    """A place of the program that refers to a text: the function's symbol, the literal, the changes of the program that show whether a
+    case fails, each as an offset and the bytes that are written there, the address in the code at which a run that uses the text comes by,
+    and whether it is sure."""
 
     symbol: str
     literal: Literal
     changes: list
+    passed: int
+    is_sure: bool
 
 
 # ---- The texts of the sources.
@@ -200,6 +210,15 @@ class Elf:
         at = bisect.bisect_right(self.begins, address) - 1
         return self.symbols[at][1] if at >= 0 else ""
 
+    def begin(self, address):
+        """Returns where the function begins that an address is in."""
+        at = bisect.bisect_right(self.begins, address) - 1
+        return self.begins[at] if at >= 0 else 0
+
+    def is_code(self, address):
+        begin, _, size = self.sections[".text"]
+        return begin <= address < begin + size
+
     def offset(self, address):
         """Returns the offset of an address at which a text may stand, or None."""
         for name in HOLDING:
@@ -303,6 +322,7 @@ def uses_of(data, literals):
     found = list(elf.references())
     found += tables(elf, found, known)
     starts = {it[0] for it in found}
+    passing = passes(elf, found)
     uses = []
     for target, where, place, form in found:
         texts = texts_at(elf, target, known)
@@ -315,8 +335,8 @@ def uses_of(data, literals):
                 continue
             number = struct.unpack_from(form, data, place)[0] + shifted(elf, target, len(best.text))
             # (a reference may be read by no code any more, which then has the bytes themselves)
-            changes = [(place, struct.pack(form, number)), changed_byte(best.text, elf.offset(target))]
-            uses.append(Use(symbol, best, changes))
+            changes = [(place, struct.pack(form, number)), changed_byte(best.text, elf.offset(target)), *compared(elf, best.text, where)]
+            uses.append(Use(symbol, best, changes, *passing(where)))
     referred = {it.literal.text for it in uses}
     for text in by_text.keys() - referred:
         uses += copies(elf, by_text[text])
@@ -341,8 +361,36 @@ def copies(elf, them):
         for it in re.finditer(sought, elf.data[offset : offset + size], re.S):
             symbol = elf.symbol(begin + it.start()) if name == ".text" else ""
             own = [one for one in them if symbol.startswith(module_of(one.path))] or them
-            found.append(Use(symbol, own[0], [changed_byte(text, offset + it.start())]))
+            passed = elf.begin(begin + it.start()) if name == ".text" else 0
+            found.append(Use(symbol, own[0], [changed_byte(text, offset + it.start())], passed, bool(passed)))
     return found
+
+
+def compared(elf, text, where):
+    """Returns the changes of a text where the function at an address has it among the numbers of its instructions, and compares by them."""
+    if len(text) < SHORTEST or not elf.is_code(where):
+        return []
+    begin, offset, _ = elf.sections[".text"]
+    first = elf.begin(where)
+    last = elf.begins[bisect.bisect_right(elf.begins, where)] if where < elf.begins[-1] else where
+    code = elf.data[first - begin + offset : last - begin + offset]
+    part = next(text[:size] for size in (WORD, LEAST, SHORTEST) if len(text) >= size)
+    sought = COMPARISON + re.escape(part) if len(part) < LEAST else re.escape(part)
+    return [changed_byte(text, first - begin + offset + it.end() - len(part)) for it in re.finditer(sought, code, re.S)]
+
+
+def passes(elf, references):
+    """Returns a function from the address of a reference to the address in the code at which a run comes by that uses it, and whether that is
+    sure. It is itself, or for one in constants the reference to the nearest constants before it, which are mostly the array that it is in."""
+    rows = sorted((target, where) for target, where, *_ in references if elf.is_code(where))
+
+    def passed(where):
+        if elf.is_code(where):
+            return where, True
+        at = bisect.bisect_right(rows, (where, sys.maxsize)) - 1
+        return (rows[at][1], False) if at >= 0 else (0, False)
+
+    return passed
 
 
 # ---- The cases that show them.
@@ -403,6 +451,69 @@ def oracles():
     return [it for it in [*stored, *made, *printed_texts()] if len(it.shown) <= MOST_SHOWN]
 
 
+def watched(program, elf, addresses, folder):
+    """Makes a copy of a program with break points at these addresses, in a folder. Returns it, and the settings for reached.c."""
+    begin, offset, size = elf.sections[".text"]
+    whole, copy = f"{folder}/whole", f"{folder}/{PROGRAM}"
+    shutil.copyfile(program, whole)
+    os.chmod(whole, 0o644)
+    data = bytearray(elf.data)
+    for it in addresses:
+        data[it - begin + offset] = BREAK
+    with open(copy, "wb") as it:
+        it.write(data)
+    os.chmod(copy, 0o755)
+    return copy, [f"REACHED_WHOLE={whole}", f"REACHED_BEGIN={begin}", f"REACHED_AT={offset}", f"REACHED_SIZE={size}"]
+
+
+def taken(path):
+    """Returns the addresses that reached.c noted in a file, which is then gone."""
+    if not os.path.exists(path):
+        return set()
+    with open(path, "rb") as it:
+        came = it.read()
+    os.remove(path)
+    return {it for (it,) in struct.iter_unpack("<q", came)}
+
+
+class WatchedRoom(Room):
+    """A room whose program notes which places it reaches."""
+
+    def __init__(self, program, settings):
+        super().__init__(program)
+        self.noted = f"{self.folder}/reached"
+        self.watching = [*settings, f"REACHED_FILE={self.noted}", self.before("reached")]
+
+    def run(self, command, given=b"", settings=(), seconds=SECONDS):
+        return super().run(command, given, [*settings, *self.watching], seconds)
+
+
+class Watched:
+    """Rooms for cases and for calls with a program that has break points at some addresses."""
+
+    def __init__(self, program, elf, addresses):
+        self.kept = tempfile.TemporaryDirectory(prefix="watched-")
+        os.chmod(self.kept.name, 0o755)
+        copy, settings = watched(program, elf, addresses, self.kept.name)
+        self.cases, self.calls = WatchedRoom(copy, settings), calls.Prepared(copy)
+
+    def __enter__(self):
+        self.cases.__enter__()
+        prepared = self.calls.__enter__()
+        self.words = [*(prepared.drop or []), "env", *self.cases.watching, prepared.program]
+        return self
+
+    def __exit__(self, *given):
+        self.cases.__exit__(*given)
+        self.calls.__exit__(*given)
+        self.kept.cleanup()
+
+    def reached(self, oracle):
+        """Returns the addresses that a run of an oracle reaches."""
+        oracle.holds(self)
+        return taken(self.cases.noted)
+
+
 class Rooms:
     """Copies of a program, for cases and for calls, in which the same bytes are changed."""
 
@@ -427,9 +538,10 @@ class Rooms:
 
 
 class Ranking:
-    """Which oracles show which texts. A set of texts is a number with a bit for each."""
+    """Which oracles show which texts, and which places they reach. A set of texts is a number with a bit for each."""
 
-    def __init__(self, literals, found):
+    def __init__(self, literals, found, reached):
+        self.reached = reached
         texts = sorted({it.text for it in literals})
         self.found, self.bits = found, {text: 1 << at for at, text in enumerate(texts)}
         self.shown = [sum(bit for text, bit in self.bits.items() if text in it.shown) for it in found]
@@ -439,14 +551,20 @@ class Ranking:
                 self.of_file[it.path] |= self.bits[it.text]
                 self.of_function[it.path, it.function] |= self.bits[it.text]
 
-    def order(self, literal):
-        """Returns the oracles that show a text, or all if none does. Those that show most of the texts of its function and its file come
-        first."""
+    def order(self, use):
+        """Returns the oracles that come by where a text is used, or all if it is not sure where that is. Those that show the text come first,
+        then those that come by, and of these those that show most of the texts of its function and its file."""
+        literal = use.literal
         bit = self.bits[literal.text]
         own, near = self.of_function[literal.path, literal.function], self.of_file[literal.path]
-        fit = [at for at, texts in enumerate(self.shown) if texts & bit] or range(len(self.found))
-        score = lambda at: (-(self.shown[at] & own).bit_count(), -(self.shown[at] & near).bit_count(), self.found[at].size)
-        return [self.found[at] for at in heapq.nsmallest(MOST_TRIED, fit, key=score)]
+        fit = [at for at, places in enumerate(self.reached) if use.passed in places or not use.is_sure]
+
+        def rank(at):
+            texts = self.shown[at]
+            is_other = use.passed not in self.reached[at]
+            return not texts & bit, is_other, -(texts & own).bit_count(), -(texts & near).bit_count(), self.found[at].size
+
+        return [self.found[at] for at in heapq.nsmallest(MOST_TRIED, fit, key=rank)]
 
 
 def is_noticed(rooms, data, use, order):
@@ -470,50 +588,54 @@ def is_change_noticed(rooms, data, change, order):
     return NOTICED[change]
 
 
-class Work(NamedTuple):
-    """What a process needs to try the uses: the rooms, of which it takes one, the program's bytes, the uses, and which oracles show what."""
-
-    rooms: list
-    free: object
-    data: bytes
-    uses: list
-    ranking: Ranking
-
-
 class Worker:
     """The room of this process, and the work that it does there."""
 
-    work, room = None, None
+    room, work = None, None
 
     @staticmethod
-    def begin(work):
-        Worker.work, Worker.room = work, work.rooms[work.free.get()]
+    def begin(rooms, free, work):
+        Worker.room, Worker.work = rooms[free.get()], work
 
     @staticmethod
-    def tried(number):
-        """Returns whether an oracle fails for a change, and whether one shows the text."""
-        work = Worker.work
-        use = work.uses[number]
-        order = work.ranking.order(use.literal)
-        return is_noticed(Worker.room, work.data, use, order), use.literal.text in order[0].shown
+    def did(number):
+        return Worker.work(Worker.room, number)
 
 
-def try_uses(rooms, data, uses, literals, found):
-    """Returns the uses that no oracle shows, and those that are changed and no oracle fails. Each of the rooms has one change at a time.
+def side_by_side(rooms, work, count):
+    """Returns what the work gives for each number below a count, in order, with a process for each of the rooms.
 
-    Each has a process of its own. A file that is written can't be run, and threads that start programs would hold it open for others."""
+    A file that is written can't be run, and threads that start programs would hold it open for others."""
     own = multiprocessing.get_context("fork")
-    work = Work(rooms, own.SimpleQueue(), data, uses, Ranking(literals, found))
+    free = own.SimpleQueue()
     for number in range(len(rooms)):
-        work.free.put(number)
-    unshown, survived = [], []
-    with own.Pool(len(rooms), Worker.begin, [work]) as pool:
-        for number, (noticed, is_shown) in enumerate(pool.imap(Worker.tried, range(len(uses)), 4)):
-            if not noticed:
-                (survived if is_shown else unshown).append(uses[number])
-            if number % 100 == 99:
-                print(f"texts: {number + 1} of {len(uses)}, {len(survived)} survived", file=sys.stderr, flush=True)
-    return unshown, survived
+        free.put(number)
+    with own.Pool(len(rooms), Worker.begin, [rooms, free, work]) as pool:
+        yield from pool.imap(Worker.did, range(count), 4)
+
+
+def places_reached(program, elf, uses, found):
+    """Returns for each oracle at which places of the code, where texts are used, it comes by."""
+    places = {it.passed for it in uses if it.passed}
+    with ExitStack() as kept:
+        rooms = [kept.enter_context(Watched(program, elf, places)) for _ in range(rt.processors())]
+        return list(side_by_side(rooms, lambda room, number: room.reached(found[number]), len(found)))
+
+
+def try_uses(rooms, data, uses, ranking):
+    """Returns the uses that no oracle reaches, and those that are changed and no oracle fails. Each of the rooms has one change at a time."""
+
+    def tried(room, number):
+        order = ranking.order(uses[number])
+        return is_noticed(room, data, uses[number], order), bool(order)
+
+    unreached, survived = [], []
+    for number, (noticed, is_reached) in enumerate(side_by_side(rooms, tried, len(uses))):
+        if not noticed:
+            (survived if is_reached else unreached).append(uses[number])
+        if number % 100 == 99:
+            print(f"texts: {number + 1} of {len(uses)}, {len(survived)} survived", file=sys.stderr, flush=True)
+    return unreached, survived
 
 
 def shown(use):
@@ -521,15 +643,15 @@ def shown(use):
     return f"{it.path}:{it.line}: {it.function}: {it.text.decode(errors='replace')!r}" + f" (in {use.symbol})" * (use.symbol != "")
 
 
-def report(literals, uses, unshown, survived):
-    """Prints what was found, and returns whether all is well."""
+def report(literals, uses, lacks, unshown, survived):
+    """Prints what was found, and returns whether all is well. The first of the two lists has the texts that all cases lack."""
     used = {it.literal.text for it in uses}
     inlined = {it.text for it in literals} - used
-    for name, them in (("no case shows", unshown), ("changed, and no case fails", survived)):
+    for name, them in ((lacks, unshown), ("changed, and no case fails", survived)):
         for it in sorted(set(map(shown, them))):
             print(f"{name}: {it}")
     print(f"texts: {len(uses)} places of {len(used)} texts, {len(inlined)} texts without a place")
-    print(f"texts: {len(unshown)} that no case shows, {len(survived)} that no case fails for")
+    print(f"texts: {len(unshown)} that {lacks}, {len(survived)} that no case fails for")
     return not unshown and not survived
 
 
@@ -546,18 +668,19 @@ def try_all(program, paths=()):
             # (the help has the name by which the program is called)
             called = f"{kept.enter_context(tempfile.TemporaryDirectory(prefix='texts-'))}/{PROGRAM}"
             shutil.copyfile(program, called)
+            ranking = Ranking(literals, found, places_reached(called, Elf(data), uses, found))
             rooms = [kept.enter_context(Rooms(called)) for _ in range(rt.processors())]
-            unshown, survived = try_uses(rooms, data, uses, literals, found)
+            unreached, survived = try_uses(rooms, data, uses, ranking)
     finally:
         cases.WAYS = ways
-    return report([it for it in literals if not paths or it.path in paths], uses, unshown, survived)
+    return report([it for it in literals if not paths or it.path in paths], uses, "no case reaches", unreached, survived)
 
 
 def list_unshown(paths):
     """Prints the texts that no case shows, of all files or of these. Returns whether there are none."""
     found, literals = oracles(), [it for it in all_literals() if not paths or it.path in paths]
-    unshown = [Use("", it, []) for it in literals if not any(it.text in oracle.shown for oracle in found)]
-    return report(literals, [Use("", it, []) for it in literals], unshown, [])
+    unshown = [Use("", it, [], 0, False) for it in literals if not any(it.text in oracle.shown for oracle in found)]
+    return report(literals, [Use("", it, [], 0, False) for it in literals], "no case shows", unshown, [])
 
 
 def main(given):

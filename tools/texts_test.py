@@ -9,8 +9,11 @@ import subprocess
 import sys
 import tempfile
 
+import program
 import texts
 from kit import rtlib
+
+LOADER = "/lib64/ld-linux-x86-64.so.2"
 
 SOURCE = r'''
 //! "no text": a note
@@ -99,10 +102,28 @@ def made(folder):
     """Returns the program's bytes."""
     with open(f"{folder}/stub.c", "w", encoding="utf-8") as it:
         it.write(PROGRAM)
-    words = [f"{rtlib.KIT}/toolchain/bin/clang", "-O2", "-fPIE", "-static-pie", "-ffreestanding", "-fno-builtin", "-nostdlib", "-fuse-ld=lld"]
-    subprocess.run([*words, "-o", f"{folder}/stub", f"{folder}/stub.c"], check=True)
+    # (code that is loaded before it calls the C library)
+    with open("/proc/self/maps", encoding="utf-8") as it:
+        library = next(row.split()[-1] for row in it if "/libc.so" in row or "/libc-" in row)
+    words = [f"{rtlib.KIT}/toolchain/bin/clang", "-O2", "-fPIE", "-pie", "-ffreestanding", "-fno-builtin", "-nostdlib", "-fuse-ld=lld"]
+    words += ["-Wl,--no-as-needed", f"-Wl,--dynamic-linker={LOADER}"]
+    subprocess.run([*words, "-o", f"{folder}/stub", f"{folder}/stub.c", library], check=True)
     with open(f"{folder}/stub", "rb") as it:
         return it.read()
+
+
+def reached(folder, data, uses, found):
+    """Returns for each oracle the places of the program that it reaches."""
+    library, noted = f"{folder}/reached.so", f"{folder}/reached"
+    with open(library, "wb") as it:
+        it.write(program.compiled("reached"))
+    copy, settings = texts.watched(f"{folder}/stub", texts.Elf(data), {it.passed for it in uses if it.passed}, folder)
+    around = {**os.environ, **dict(it.split("=", 1) for it in settings), "REACHED_FILE": noted, "LD_PRELOAD": library}
+    places = []
+    for one in found:
+        wrote = subprocess.run([copy], input=one.name.encode(), capture_output=True, check=True, env=around).stdout
+        places.append(texts.taken(noted) if wrote == one.shown else {"wrote otherwise"})
+    return places
 
 
 def oracle(numbers, looks_at):
@@ -122,11 +143,16 @@ def faults_of_program():
         found = [oracle("1", 99), oracle("12", 14), oracle("34", 99), oracle("5", 99)]
         if not all(it.holds(copy) for it in found):
             return ["the small program does not print what it should"]
-        unshown, survived = texts.try_uses([copy], data, uses, literals, found)
+        places = reached(folder, data, uses, found)
+        unreached, survived = texts.try_uses([copy], data, uses, texts.Ranking(literals, found, places))
         with open(copy.path, "rb") as it:
             is_whole = it.read() == data
-    came = ({it.literal.text for it in uses}, {it.literal.text for it in unshown}, {it.literal.text for it in survived}, is_whole)
-    expected = ({*TEXTS.values()}, {TEXTS["6"]}, {TEXTS["2"]}, True)
+    of = {text: {it.passed for it in uses if it.literal.text == text and it.is_sure} for text in TEXTS.values()}
+    by_oracle = [{text for text in TEXTS.values() if of[text] & it} for it in places]
+    five = TEXTS["5"]  # its place is the beginning of the function
+    came = ({it.literal.text for it in uses}, by_oracle, {it.literal.text for it in unreached}, {it.literal.text for it in survived}, is_whole)
+    by_numbers = [{TEXTS["1"], five}, {TEXTS["1"], TEXTS["2"], five}, {five}, {five}]
+    expected = ({*TEXTS.values()}, by_numbers, {TEXTS["6"]}, {TEXTS["2"]}, True)
     return [f"expected {it}; got {was}" for it, was in zip(expected, came) if it != was]
 
 
