@@ -120,11 +120,11 @@ fn push_unfit(text: &mut Text, block: &BasicType, site: Site) {
     }
 }
 
-/// Where a scan of a text is among its comments.
+/// Where a scan of a text is among its comments, which do not nest.
 #[derive(Clone, Copy)]
 struct Comments {
-    /// How many comments it is in that are in one another.
-    depth: usize,
+    /// Whether it is in a comment that ends with a mark.
+    is_marked: bool,
     /// Whether it is in a comment up to the end of a line.
     is_line: bool,
     /// Whether the next byte is the second one of a mark that begins or ends a comment.
@@ -133,7 +133,7 @@ struct Comments {
 
 /// A scan that is in no comment.
 const NO_COMMENT: Comments = Comments {
-    depth: 0,
+    is_marked: false,
     is_line: false,
     is_second: false,
 };
@@ -144,16 +144,17 @@ impl Comments {
         match rest {
             [byte, ..] if self.is_line => self.is_line = *byte != b'\n',
             _ if self.is_second => self.is_second = false,
+            [b'*', b')', ..] if self.is_marked => {
+                self.is_marked = false;
+                self.is_second = true;
+            }
+            _ if self.is_marked => {}
             [b'(', b'*', ..] => {
-                self.depth = self.depth.saturating_add(1);
+                self.is_marked = true;
                 self.is_second = true;
             }
-            [b'*', b')', ..] if self.depth > 0 => {
-                self.depth -= 1;
-                self.is_second = true;
-            }
-            [b'/', b'/', ..] if self.depth == 0 => self.is_line = true,
-            [byte, ..] => return self.depth > 0 || byte.is_ascii_whitespace(),
+            [b'/', b'/', ..] => self.is_line = true,
+            [byte, ..] => return byte.is_ascii_whitespace(),
             [] => {}
         }
         true
