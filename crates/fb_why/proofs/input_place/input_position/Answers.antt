@@ -1,4 +1,4 @@
-use Rattle.fb_types.proofs.Common.{◌≡◌, Option, Some, None, refl, sym, subst, inr, IfSome, option_map}
+use Rattle.fb_types.proofs.Common.{◌≡◌, Option, Some, None, refl, rules, sym, subst, inr, IfSome, option_map}
 use Rattle.std.proofs.Common.{Bor, List, ℕ}
 use Rattle.fb_check.specs.declared.location.Limit.TheVariants as limit
 use Rattle.fb_check.specs.declared.location.Location.TheVariants as at
@@ -30,3 +30,10 @@ pub returns-in_default : goal.returns-in_default
 returns-in_default c =
     subst (λ (o : Option InputPosition). IfSome o (IsInputPosition (option_map (λ (b : Bor (List ℕ)). b.now) c.args.deploy) c.args.location)) (sym c.position_of.ensures)
     (by_location (option_map (λ (b : Bor (List ℕ)). b.now) c.args.deploy) c.args.location)
+
+pub returns-in-Deployment-Shape-default-Further : goal.returns-in-Deployment-Shape-default-Further
+returns-in-Deployment-Shape-default-Further c =
+    let d = option_map (λ (b : Bor (List ℕ)). b.now) c.args.deploy in
+    let here = c.in-Deployment-Shape-default-Further in
+    let at : c.args.location ≡ found.Deployment (in_document.Shape here.table why.Further) = search rules in
+    subst (λ (l : FindingLocation). IsInputPosition d l c.further_position.result) (sym at) c.further_position.ensures
