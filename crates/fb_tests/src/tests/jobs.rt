@@ -1,18 +1,22 @@
-//! Jobs that also make the text of the lines that they give.
+//! Jobs of a round by themselves: the text of the lines that they give, and the order in which they run.
 
 ghost use Rattle.std.specs.Prelude.{◌≡◌, ◌^◌, ◌≤◌};
 ghost use Rattle.std.specs.List.{AllZip};
 ghost use Rattle.fb_window.specs.Jobs.{Does};
 ghost use Rattle.fb_window.specs.Reached.{KeepHorizon};
 
+use super::later_rounds::lines_in;
+use super::parts::all_belong;
 use super::rounds::{CAP, opened, system_of};
 use super::texts::{CYCLE_RUN, Run, TWO_STOPS};
+use super::writers::{ANY, with_room};
+use super::{ENOUGH, inputs_of, must, to};
 use fb_resource::WindowDone;
-use fb_sim::discard;
+use fb_sim::{Outcome, discard, run_serial};
 use fb_system::System;
-use fb_trace::MarkedText;
+use fb_trace::{MarkedText, write_lines};
 use fb_types::{Form, Line};
-use fb_window::{Core, Job};
+use fb_window::{Core, Job, Settled};
 use std::alloc::Global;
 use std::mem::forget;
 use std::process::Abort;
@@ -142,4 +146,124 @@ fn expect_texts<R: Abort>(rt: &R, alloc: Global, run: &Run, given: &[Given]) {
 fn jobs_make_the_text_of_their_lines(rt: HostRuntime) {
     expect_texts(&rt, rt.alloc(), &CYCLE_RUN, &CYCLE_GIVES);
     expect_texts(&rt, rt.alloc(), &TWO_STOPS, &TWO_STOPS_GIVE);
+}
+
+/// Three resources that have one round to the horizon: what the first one sends arrives later.
+static APART: Run = Run {
+    declaration: "APPLICATION A FBS\n\
+        S1 : E_RESTART; S2 : E_RESTART; S3 : E_RESTART; M : E_MERGE;\n\
+        C1 : E_CYCLE(DT := T#2ms); C2 : E_CYCLE(DT := T#3ms); C3 : E_CYCLE(DT := T#5ms);\n\
+        END_FBS\n\
+        EVENT_CONNECTIONS S1.COLD TO C1.START; S2.COLD TO C2.START; S3.COLD TO C3.START;\n\
+        C1.EO TO M.EI1; END_CONNECTIONS END_APPLICATION",
+    deploy: "resource = [\n\
+        { device = 'D', name = 'R1', instances = ['S1', 'C1'] },\n\
+        { device = 'D', name = 'R2', instances = ['S2', 'C2', 'M'] },\n\
+        { device = 'D', name = 'R3', instances = ['S3', 'C3'] },\n\
+        ]\n\
+        link = [{ from = 'R1', to = 'R2', latency = 40 }]\n",
+    stimuli: "",
+    horizon: 30,
+    steps: ENOUGH,
+    outcome: Outcome::End(30),
+};
+
+/// Two lines of each resource at tick 0, then 14 of the cycle of 2 ticks, 9 of that of 3, and 5 of that of 5.
+const APART_LINES: u32 = 34;
+
+/// Runs jobs, the last one first. What became of them comes in their order.
+fn run_falling<R: Abort>(rt: &R, alloc: Global, mut jobs: Vec<Job>) -> Vec<WindowDone>
+    ensures { AllZip Does jobs.items result.items }
+{
+    let Some(last) = jobs.pop() else {
+        forget(jobs);
+        return Vec::new(alloc);
+    };
+    let done = last.run(alloc);
+    let mut dones = run_falling(rt, alloc, jobs);
+    let Ok(()) = dones.push(done) else {
+        panic!(rt; "memory");
+    };
+    dones
+}
+
+/// Runs jobs, the first one first.
+fn run_rising<R: Abort>(rt: &R, alloc: Global, jobs: Vec<Job>) -> Vec<WindowDone>
+    ensures { AllZip Does jobs.items result.items }
+{
+    let mut texts = Vec::new(alloc);
+    let dones = run_jobs(rt, alloc, jobs, &mut texts);
+    forget(texts);
+    dones
+}
+
+/// Runs jobs in falling or in rising order.
+fn run_in_order<R: Abort>(rt: &R, alloc: Global, jobs: Vec<Job>, falls: bool) -> Vec<WindowDone>
+    ensures { AllZip Does jobs.items result.items }
+{
+    if falls {
+        run_falling(rt, alloc, jobs)
+    } else {
+        run_rising(rt, alloc, jobs)
+    }
+}
+
+/// The lines of a run that ends with its first round, whose jobs run in this order.
+fn only_round<R: Abort>(
+    rt: &R,
+    alloc: Global,
+    system: &System,
+    core: Core,
+    horizon: u64,
+    falls: bool,
+) -> Vec<Line>
+    requires early { horizon ≤ 10 ^ 12 }
+    requires system { core.system ≡ system.now }
+    requires clocks { KeepHorizon horizon core.resources.items }
+{
+    let bounds = core.bounds(horizon, CAP);
+    let Ok((away, jobs)) = core.jobs(alloc, system, bounds) else {
+        panic!(rt; "memory");
+    };
+    let dones = run_in_order(rt, alloc, jobs, falls);
+    let Ok(Settled::Ended(last, lines)) = away.settle(alloc, system, dones) else {
+        panic!(rt; "memory, or another round");
+    };
+    forget(last);
+    lines
+}
+
+/// The lines of a run are these bytes when the jobs of its only round run in this order.
+fn expect_lines<R: Abort>(rt: &R, alloc: Global, run: &Run, falls: bool, expected: &[u8]) {
+    assert!(rt; 1 <= run.steps && run.steps <= 10_000_000 && run.horizon <= 1_000_000_000_000);
+    let system = system_of(rt, alloc, run);
+    system.facts(); // for the prover: what holds of every accepted system
+    let core = opened(rt, alloc, &system, run.steps);
+    let lines = only_round(rt, alloc, &system, core, run.horizon, falls);
+    assert!(rt; all_belong(&system, lines.as_slice()));
+    let mut out = with_room(alloc, ANY, ANY);
+    let written = write_lines(&mut out, &system, Form::One, lines.as_slice());
+    assert!(rt; written.is_ok() && out.got.as_slice() == expected);
+    forget(lines);
+    discard(system);
+}
+
+#[test]
+fn jobs_in_either_order_give_the_lines_of_one_agenda(rt: HostRuntime) {
+    let alloc = rt.alloc();
+    let inputs = inputs_of(APART.declaration, APART.deploy, APART.stimuli);
+    let mut serial = with_room(alloc, ANY, ANY);
+    let ended = run_serial(
+        alloc,
+        &inputs,
+        to(APART.horizon, APART.steps, 1),
+        &mut serial,
+    );
+    assert!(rt; must(&rt, ended, "no run") == APART.outcome);
+    let Some(lines) = serial.got.as_slice().strip_suffix(b"end 30\n") else {
+        panic!(rt; "another end");
+    };
+    assert!(rt; lines_in(lines) == APART_LINES);
+    expect_lines(&rt, alloc, &APART, false, lines);
+    expect_lines(&rt, alloc, &APART, true, lines);
 }

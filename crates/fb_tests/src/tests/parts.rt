@@ -22,3 +22,5 @@ mod shared;
 mod shell_indexes;
 mod timers;
 mod wiring;
+
+pub use belonging::all_belong;

@@ -155,12 +155,15 @@ fn expect_marks(rt: &impl Abort, found: &[Mark], marks: &[(u64, usize)]) {
     }
 }
 
-/// The same messages, the last one first.
-pub fn turned(system: &System, mut sent: Vec<Message>) -> Vec<Message>
+/// The same messages, with `turns` the last one first.
+pub fn turned(system: &System, mut sent: Vec<Message>, turns: bool) -> Vec<Message>
     requires { All (IsMessage system.now) sent.items }
     ensures { All (IsMessage system.now) result.items }
 {
     let _system = system;
+    if !turns {
+        return sent;
+    }
     sent.reverse();
     sent
 }

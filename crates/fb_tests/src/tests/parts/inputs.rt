@@ -1,6 +1,6 @@
 //! What stimuli are read as, where no trace shows it: values that no type holds.
 
-use fb_inputs::read_stimuli;
+use fb_inputs::{read_row, read_stimuli};
 use fb_types::{Name, Setting, Value};
 use std::mem::forget;
 use std::process::Abort;
@@ -52,4 +52,20 @@ fn a_row_has_its_values(rt: HostRuntime) {
     assert!(rt; row.tick == 0 && is(&row.instance, b"D") && is(&row.event, b"START"));
     expect_settings(&rt, row.settings.as_slice());
     forget(stimuli);
+}
+
+/// A row by itself is read as the same row of a list.
+#[test]
+fn one_row_is_read_by_itself(rt: HostRuntime) {
+    let Ok(row) = read_row(rt.alloc(), b"104", b"D.START", b"A=TRUE B=-12") else {
+        panic!(rt; "no row");
+    };
+    let settings = row.settings.as_slice();
+    assert!(rt; row.tick == 104 && is(&row.instance, b"D") && is(&row.event, b"START"));
+    assert!(rt; settings.len() == 2);
+    expect_setting(&rt, &settings[0], b'A', Value::Bool(true));
+    expect_setting(&rt, &settings[1], b'B', Value::Whole(-12));
+    forget(row);
+    assert!(rt; read_row(rt.alloc(), b"104", b"D", b"").is_err());
+    assert!(rt; read_row(rt.alloc(), b"1000000000001", b"D.START", b"").is_err());
 }

@@ -3,13 +3,12 @@
 use super::chain::{
     ENOUGH, Ran, accepted, deliver_first, expect_text, handed, opened, run, turned,
 };
-use fb_types::{Form, Reason, StopMark};
+use fb_types::{Form, Message, Reason, StopMark};
 use std::alloc::Global;
 use std::mem::forget;
 use std::process::Abort;
 
-/// Two resources of which the first sends to the second. The messages are handed over in the other order than that in
-/// which they were sent.
+/// Two resources of which the first sends to the second.
 struct Talk {
     declaration: &'static str,
     deploy: &'static str,
@@ -17,6 +16,8 @@ struct Talk {
     sent_below: u64,
     taken_below: u64,
     stimuli: &'static str,
+    /// How many messages the second gets, and the tick at which they arrive.
+    inbox: (usize, u64),
     /// The least tick of the events of the second before it gets the messages, and with them. After its run there is
     /// none.
     alone: Option<u64>,
@@ -54,6 +55,7 @@ static LATCH: Talk = Talk {
     sent_below: 5,
     taken_below: 6,
     stimuli: "tick,event,values\n3,F.S,\n5,W.EI,\n",
+    inbox: (1, 5),
     alone: Some(5),
     with_messages: Some(5),
     // The stimulus of the tick of the arrival is taken first, and sees the value that was held before.
@@ -73,6 +75,7 @@ static SPLIT: Talk = Talk {
     sent_below: 1,
     taken_below: 2,
     stimuli: "tick,event,values\n0,P.EI,\n",
+    inbox: (2, 1),
     alone: None,
     with_messages: Some(1),
     trace: "1 R2 > M.EI1\n1 R2 < M.EO\n1 R2 > M.EI2\n1 R2 < M.EO\n",
@@ -89,6 +92,7 @@ static PASS: Talk = Talk {
         ]\n\
         link = [{ from = 'R1', to = 'R2', latency = 1 }]\n",
     stimuli: sixty!("tick,event,values\n", "0,A.EI1,\n"),
+    inbox: (60, 1),
     sent_below: 1,
     taken_below: 2,
     alone: None,
@@ -97,8 +101,17 @@ static PASS: Talk = Talk {
     marks: &[(1, 1500)],
 };
 
-/// What the first resource sends to the second one, whose lines go where those of the first were.
-fn expect_received(rt: &impl Abort, alloc: Global, talk: &Talk) {
+/// The messages of a link in the order in which they were sent.
+fn expect_inbox(rt: &impl Abort, inbox: &[Message], (count, arrives): (usize, u64)) {
+    assert!(rt; inbox.len() == count);
+    for (number, message) in inbox.iter().enumerate() {
+        assert!(rt; message.number == number as u128 && message.arrives == arrives);
+    }
+}
+
+/// What the first resource sends to the second one, whose lines go where those of the first were. The messages are handed
+/// over in the order in which they were sent, or in the other one.
+fn expect_received(rt: &impl Abort, alloc: Global, talk: &Talk, turns: bool) {
     let owned = accepted(rt, alloc, talk.declaration, talk.deploy, talk.stimuli);
     let system = &owned;
     let sender = opened(rt, alloc, system, 0);
@@ -110,7 +123,8 @@ fn expect_received(rt: &impl Abort, alloc: Global, talk: &Talk) {
         next: _,
     } = run(rt, sender, alloc, system, below, ENOUGH, Vec::new(alloc));
     assert!(rt; stop.is_none() && !lines.is_empty());
-    let inbox = handed(rt, alloc, system, turned(system, sent));
+    let inbox = handed(rt, alloc, system, turned(system, sent, turns));
+    expect_inbox(rt, inbox.as_slice(), talk.inbox);
     let receiver = opened(rt, alloc, system, 1);
     assert!(rt; receiver.next() == talk.alone);
     let receiver = deliver_first(rt, receiver, 1, system, inbox);
@@ -134,9 +148,17 @@ fn expect_received(rt: &impl Abort, alloc: Global, talk: &Talk) {
 /// that is refused ends the test. `tools/refuse.py` runs this with each request refused in turn.
 #[test]
 fn messages_come_after_out_of_memory(rt: HostRuntime) {
-    expect_received(&rt, rt.alloc(), &LATCH);
-    expect_received(&rt, rt.alloc(), &SPLIT);
-    expect_received(&rt, rt.alloc(), &PASS);
+    expect_received(&rt, rt.alloc(), &LATCH, true);
+    expect_received(&rt, rt.alloc(), &SPLIT, true);
+    expect_received(&rt, rt.alloc(), &PASS, true);
+}
+
+/// The order in which messages are handed over changes nothing.
+#[test]
+fn messages_come_as_they_were_sent(rt: HostRuntime) {
+    expect_received(&rt, rt.alloc(), &LATCH, false);
+    expect_received(&rt, rt.alloc(), &SPLIT, false);
+    expect_received(&rt, rt.alloc(), &PASS, false);
 }
 
 /// A resource that runs without end once it has begun: a looper, whose third, fifth, seventh and ninth steps emit.
