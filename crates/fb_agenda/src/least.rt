@@ -1,6 +1,6 @@
 //! What keeps the event that is taken.
 
-ghost use Rattle.std.specs.Prelude.{◌≡◌, IfSome};
+ghost use Rattle.std.specs.Prelude.{◌≡◌};
 ghost use Rattle.fb_types.specs.Keys.{local_key};
 ghost use Rattle.fb_types.specs.declared.run.Event.TheVariants.{Local};
 ghost use Rattle.fb_agenda.specs.LeastEvents.{taken};
@@ -54,21 +54,6 @@ impl Least {
         self.key.a = number;
         self.key.b = 0;
         self.hold_target(target);
-    }
-
-    /// The target of the event in `Least`, if the event and its key are those of a local event.
-    #[inline(always)]
-    pub(crate) fn local_target(&self) -> Option<Target>
-        ensures key { IfSome result (λ t. self.now.key ≡ local_key self.now.key.tick self.now.key.resource self.now.key.a) }
-        ensures event { IfSome result (λ t. self.now.event ≡ Local t) }
-    {
-        if self.key.class != LOCAL || self.key.b != 0 {
-            return None;
-        }
-        match &self.event {
-            Event::Local(target) => Some(*target),
-            _ => None,
-        }
     }
 
     /// Moves a local event into `Least`.

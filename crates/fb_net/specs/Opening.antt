@@ -88,7 +88,7 @@ pub record AreRooted (i : Inputs) (r : ℕ) (roots numbers : List ℕ) : Type 0 
   pub are : AreNumbers i.library [] i.library.application.network.instances top
   pub roots_are : AreRoots i r top roots numbers
 
--- ---- Seats
+-- ---- Shells
 
 -- The shells of the instances of a resource below a number have their indexes, and represent what they are before the first event.
 pub record HaveShells (i : Inputs) (n : ℕ) (t : Forest) : Type 0 where
@@ -114,8 +114,8 @@ Covers i r held to =
     held_at held x ≡ Some ((system_of i).initial (variable_of (system_of i) x))
 
 -- The held copies cover each data input of an instance, or each of its data outputs.
-abbrev pub CoversIndexes : Inputs → (resource : ℕ) → HeldCopies → (instance : ℕ) → (is_output : Bool) → Type 0
-CoversIndexes i r held k o =
+abbrev pub CoversSources : Inputs → (resource : ℕ) → HeldCopies → (instance : ℕ) → (is_output : Bool) → Type 0
+CoversSources i r held k o =
     (v : ℕ) → IsVariable (system_of i) (record { instance = k; variable = v; is_output = o }) →
     Covers i r held (record { instance = k; variable = v; is_output = o })
 

@@ -171,11 +171,11 @@ impl Forest {
         if !source.here {
             return self.held(&source.variable);
         }
+        let shell = self.shell(system, source.variable.instance);
         if source.variable.is_output {
-            self.published(system, source.variable)
+            value_of(shell.published.as_slice(), source.variable.variable)
         } else {
             // The copy of its data input that a composite shows to its components.
-            let shell = self.shell(system, source.variable.instance);
             value_of(shell.inputs.as_slice(), source.variable.variable)
         }
     }

@@ -1,4 +1,4 @@
-//! Where the events of takings come from, and where what takings give goes.
+//! What the takings of events read and add to: the agenda, the messages and the lines.
 
 ghost use Rattle.std.specs.Prelude.{◌≡◌};
 ghost use Rattle.fb_resource.specs.Takings.{IsEmpty};
@@ -8,15 +8,15 @@ use fb_net::Effects;
 use fb_types::{Line, Message, TimerAsk};
 use std::alloc::Global;
 
-/// Where the events of takings come from, and where what takings give goes.
+/// What the takings of events read and add to.
 pub struct Traffic {
     /// The events that wait.
     pub agenda: Agenda,
     /// For each link the count of the messages that were sent on it.
     pub sent: Vec<u128>,
-    /// The messages that takings gave, in their order.
+    /// The messages that were sent, in their order.
     pub mail: Vec<Message>,
-    /// The lines that takings gave, and room for what one reaction puts out.
+    /// The lines, and room for what one reaction puts out.
     pub effects: Effects,
 }
 

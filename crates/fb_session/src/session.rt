@@ -9,7 +9,7 @@ use crate::stage::Stage;
 use fb_check::RowJudge;
 use fb_sim_machine::Machine;
 use fb_system::System;
-use fb_types::{Form, Stimulus};
+use fb_types::Form;
 use std::alloc::{AllocError, Global};
 use std::marker::Model;
 
@@ -78,13 +78,6 @@ impl<'j, 's> Session<'j, 's> {
             breaks: Breaks::new(alloc),
             written: 0,
         })
-    }
-
-    /// The rows of the system, which have the numbers from 0.
-    pub fn first_rows(&self) -> &[Stimulus]
-        ensures { result.now ≡ self.now.inputs.stimuli }
-    {
-        self.system.stimuli()
     }
 
     /// The least tick, in milliseconds, at which a row may be given, and to which the session may go: the greatest of 0,

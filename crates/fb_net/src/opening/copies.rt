@@ -4,7 +4,7 @@ ghost use Rattle.std.specs.Prelude.{◌≡◌, Some, if◌then◌else◌, IfOk, 
 ghost use Rattle.fb_types.specs.OfSystem.{IsInstance, path_at};
 ghost use Rattle.fb_system.specs.OfSystem.{IsVariable, initial_at, initial_inputs, initial_outputs, variable_of};
 ghost use Rattle.fb_net.specs.HeldAt.{held_at};
-ghost use Rattle.fb_net.specs.Opening.{Covers, CoversAll, CoversIndexes, KeepsCovers, KeepsInitial};
+ghost use Rattle.fb_net.specs.Opening.{Covers, CoversAll, CoversSources, KeepsCovers, KeepsInitial};
 
 use crate::held_copies::HeldCopies;
 use fb_system::System;
@@ -72,7 +72,7 @@ fn hold(
 }
 
 /// Holds copies of what the data inputs of an instance, or its data outputs, are connected to.
-fn hold_indexes(
+fn hold_sources(
     alloc: Global,
     system: &System,
     resource: usize,
@@ -81,7 +81,7 @@ fn hold_indexes(
     held: &mut HeldCopies,
 ) -> Result<(), AllocError>
     requires { IsInstance system.now instance }
-    ensures covered { OnOk result (CoversIndexes system.now resource held.new instance is_output) }
+    ensures covered { OnOk result (CoversSources system.now resource held.new instance is_output) }
     ensures kept { OnOk result (KeepsCovers system.now resource held.old held.new) }
 {
     let ports = system.ports(instance);
@@ -115,8 +115,8 @@ pub(crate) fn held_of(
     let mut held = HeldCopies::new(alloc);
     for instance in 0..system.count() as u32 {
         if system.resource(instance) == resource {
-            hold_indexes(alloc, system, resource, instance, false, &mut held)?;
-            hold_indexes(alloc, system, resource, instance, true, &mut held)?;
+            hold_sources(alloc, system, resource, instance, false, &mut held)?;
+            hold_sources(alloc, system, resource, instance, true, &mut held)?;
         }
     }
     Ok(held)

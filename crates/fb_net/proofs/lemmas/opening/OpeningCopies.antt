@@ -8,7 +8,7 @@ use Rattle.fb_types.proofs.lemmas.lists.Positions.{position_of_once}
 use Rattle.fb_system.specs.Ports.{IsVariable, variable_of, variables_at}
 use Rattle.fb_system.specs.Stimuli.{initial_inputs, initial_outputs}
 use Rattle.fb_net.specs.HeldAt.{IsAdded, IsSet, held_at, side_index_of}
-use Rattle.fb_net.specs.Opening.{Covers, CoversIndexes, KeepsCovers, KeepsInitial}
+use Rattle.fb_net.specs.Opening.{Covers, CoversSources, KeepsCovers, KeepsInitial}
 use Rattle.fb_net.specs.declared.held_copies.HeldCopies.{HeldCopies}
 use Rattle.fb_net.proofs.lemmas.values.HeldRows.{side_once}
 use Rattle.fb_net.proofs.lemmas.values.ShownValues.{name_there, variable_is, name_is as shown_name}
@@ -199,12 +199,12 @@ module _ (i : Inputs) (r n : ℕ) (old : HeldCopies) where
   BelowCovered =
       (to : InstanceVariable) → to.instance < n → IsVariable (system_of i) to → (system_of i).resource (path_at (system_of i) to.instance) ≡ r → Covers i r old to
 
-  side_covered : (held : HeldCopies) → CoversIndexes i r held n false → CoversIndexes i r held n true → (v : ℕ) (o : Bool)
+  side_covered : (held : HeldCopies) → CoversSources i r held n false → CoversSources i r held n true → (v : ℕ) (o : Bool)
       → IsVariable (system_of i) (record { instance = n; variable = v; is_output = o }) → Covers i r held (record { instance = n; variable = v; is_output = o })
   side_covered held ins outs v true is = outs v is
   side_covered held ins outs v false is = ins v is
 
-  pub instance_covered : (a b : HeldCopies) → BelowCovered → CoversIndexes i r a n false → KeepsCovers i r old a → CoversIndexes i r b n true → KeepsCovers i r a b →
+  pub instance_covered : (a b : HeldCopies) → BelowCovered → CoversSources i r a n false → KeepsCovers i r old a → CoversSources i r b n true → KeepsCovers i r a b →
       (to : InstanceVariable) → to.instance < n + 1 → IsVariable (system_of i) to → (system_of i).resource (path_at (system_of i) to.instance) ≡ r → Covers i r b to
   instance_covered a b before ins first outs second to h is lies =
       elim (cases_lt to.instance n) [

@@ -1,10 +1,7 @@
 use Rattle.fb_net.proofs.lemmas.Common.{ap, sym, ◌∙◌, true≢false, value_in}
-use Rattle.fb_net.proofs.lemmas.values.ShownValues.{shell_there_reads, copy_stands}
+use Rattle.fb_net.proofs.lemmas.values.ShownValues.{shell_there_reads, copy_stands, published_stands}
 use Rattle.fb_net.proofs.lemmas.values.Sampled.{input_seen, output_seen, shown_away, shown_here}
 use Rattle.fb_net.proofs.resource.Forest.shown.Goals as goal
-
-pub published-requires-clause-stands : goal.published-requires-clause-stands
-published-requires-clause-stands c = record { here = c.requires.place.0 c.if-not-source.false; whole = c.requires.whole }
 
 pub shell-shell-requires-clause-stands : goal.shell-shell-requires-clause-stands
 shell-shell-requires-clause-stands c = record { here = c.requires.place.0 c.if-not-source.false; whole = c.requires.whole }
@@ -18,7 +15,11 @@ returns-then-source c =
     let i = c.args.system.now in
     let source = c.args.source.now.variable in
     shown_here i c.args.self.now source _ (c.requires.place.0 c.if-not-source.false)
-    (λ w resource_blocks within is_source. c.published.ensures w resource_blocks within ∙ output_seen i source c.requires.variable c.facts.ensures.accepted c.if-source.true w)
+    (λ w resource_blocks within is_source.
+    shell_there_reads i c.args.self.now source (λ b. b.published) c.shell-shell.result.now _ c.requires.variable.instance c.shell-shell.ensures
+    (λ m s. c.value_of.ensures ∙ ap (λ vs. value_in vs source.variable) c.as_slice.ensures
+    ∙ published_stands _ _ _ m c.requires.variable s c.if-source.true) w resource_blocks within
+    ∙ output_seen i source c.requires.variable c.facts.ensures.accepted c.if-source.true w)
 
 pub returns-else-source : goal.returns-else-source
 returns-else-source c =
@@ -28,6 +29,6 @@ returns-else-source c =
     (λ w resource_blocks within is_source.
     let composite = is_source.composite c.if-source.false in
     shell_there_reads i c.args.self.now source (λ b. b.variables) c.shell-shell.result.now _ c.requires.variable.instance c.shell-shell.ensures
-    (λ m s. c.value_of.ensures ∙ ap (λ vs. value_in vs source.variable) c.as_slice.ensures
+    (λ m s. c.value_of-else-source.ensures ∙ ap (λ vs. value_in vs source.variable) c.as_slice-else-source.ensures
     ∙ copy_stands _ _ _ m c.requires.variable s composite c.if-source.false) w resource_blocks within
     ∙ input_seen i source c.requires.variable c.if-source.false composite w)

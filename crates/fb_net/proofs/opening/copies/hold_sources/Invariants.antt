@@ -1,6 +1,6 @@
 use Rattle.std.proofs.Common.{ℕ, ◌<◌}
 use Rattle.fb_net.specs.Opening.{Covers, KeepsCovers}
-use Rattle.fb_net.proofs.opening.copies.hold_indexes.Given as goal
+use Rattle.fb_net.proofs.opening.copies.hold_sources.Given as goal
 
 abbrev pub invariant-loop-variable : goal.invariant-loop-variable
 invariant-loop-variable l = record {

@@ -1,7 +1,7 @@
 use Rattle.fb_net.proofs.lemmas.Common.{◌≡◌, ◌<◌, length, refl, arith, ap, ◌∙◌, if◌then◌else◌, system_of, path_at, ports_at, Ports, Covers}
 use Rattle.fb_net.proofs.lemmas.opening.OpeningCopies.{below_next, within_side}
-use Rattle.fb_net.proofs.opening.copies.hold_indexes.Goals as goal
-use Rattle.fb_net.proofs.opening.copies.hold_indexes.Goals.{then-is_output, else-is_output}
+use Rattle.fb_net.proofs.opening.copies.hold_sources.Goals as goal
+use Rattle.fb_net.proofs.opening.copies.hold_sources.Goals.{then-is_output, else-is_output}
 
 pub loop-variable-preserved : goal.loop-variable-preserved
 loop-variable-preserved c = record {
