@@ -82,9 +82,13 @@ pub record HasTrace (sys : System) (text : List ℕ) : Type 0 where
   pub is : IsTrace sys trace
   pub parts : text ≡ trace ++ rest
 
--- No text is refused because it is cut off: the line is a whole one, or there is a trace before it.
+-- The line of this number is not refused because the text is cut off: it is a whole one, or there is a trace before it.
+abbrev pub IsUncut : System → (number : ℕ) → (text : List ℕ) → Type 0
+IsUncut sys number text = IsWhole number text ⊎ HasTrace sys text
+
+-- No text is refused because it is cut off.
 abbrev pub IsNoCut : System → (text : Option (List ℕ)) → WaveError → Type 0
-IsNoCut sys text (Refused line) = IfSome text (λ t. IsWhole line t ⊎ HasTrace sys t)
+IsNoCut sys text (Refused line) = IfSome text (IsUncut sys line)
 IsNoCut sys text Names = Unit {0}
 IsNoCut sys text Memory = Unit {0}
 IsNoCut sys text Read = Unit {0}

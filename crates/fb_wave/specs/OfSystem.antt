@@ -171,3 +171,6 @@ FailsShown cut i = cut_off.FailsShown cut (system_of i)
 
 abbrev pub BlamesShown : Cut → Inputs → (text : Option (List ℕ)) → WaveError → Type 0
 BlamesShown cut i = cut_off.BlamesShown cut (system_of i)
+
+abbrev pub IsUncut : Inputs → (number : ℕ) → (text : List ℕ) → Type 0
+IsUncut i = cut_off.IsUncut (system_of i)

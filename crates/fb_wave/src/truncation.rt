@@ -21,7 +21,7 @@ pub fn is_unended(line: &[u8]) -> bool
 }
 
 /// Whether a trace that may be cut off ends before this line: the line is empty, or does not end in a line feed.
-pub(crate) fn is_cut(cut: Cut, line: &[u8]) -> bool
+pub fn is_cut(cut: Cut, line: &[u8]) -> bool
     ensures { result ≡ spec.is_cut cut line.now }
 {
     match cut {

@@ -1,10 +1,10 @@
 -- Traces that are cut off, and what is known where a trace may be.
 use Rattle.fb_wave.proofs.lemmas.Common.{◌≡◌, ◌⊎◌, ℕ, suc, ◌+◌, ◌-◌, ◌≤◌, Bool, true, false, cond, List, [], ◌∷◌, ◌++◌, length, refl, sym, ap, subst, ◌∙◌, inl, inr, arith, append_assoc, append-nil, All, IfSome, not, ◌==◌, slice_get, Option, Some, None, take_through, and_from, not-true, not_from_false, All-head, All-tail, System, Form, Line, ending_of, Outcome, IsAfter, IsCopied, RefusesLine, last_tick, IsLast, IsLineOf, HasNames, Progress, WaveError, Refused, Names, Memory, Read, Write}
-use Rattle.fb_types.proofs.Common.{count_by, Appends, Appends-trans}
+use Rattle.fb_types.proofs.Common.{and_parts, count_by, Appends, Appends-trans}
 use Rattle.std.proofs.lemmas.List.Sums.{sum_by-append}
 use Rattle.fb_trace.specs.Progress.{bounded}
 use Rattle.fb_wave.specs.Copying.{IsCutFinished, IsCutUnfinished, RefusesEnd}
-use Rattle.fb_wave.specs.CutOff.{BlamesShown, FailsShown, HasTrace, IsCutWave, IsNoCut, IsShown, IsWhole, cut_text, has_no_feed, is_cut, is_unended, is_unended_by}
+use Rattle.fb_wave.specs.CutOff.{BlamesShown, FailsShown, IsCutWave, IsNoCut, IsShown, IsUncut, cut_text, has_no_feed, is_cut, is_unended, is_unended_by}
 use Rattle.fb_wave.specs.Faults.{IsReadFault}
 use Rattle.fb_wave.specs.Refusals.{Blames}
 use Rattle.fb_wave.specs.Waves.{FailsWave, IsWave, WritesFront}
@@ -17,6 +17,7 @@ use Rattle.fb_wave.specs.declared.page.PageFault.{PageFault}
 use Rattle.fb_wave.proofs.lemmas.Blaming.{known}
 use Rattle.fb_wave.proofs.lemmas.Copied.{count_more, ends_after, front_copied, part_written}
 use Rattle.fb_wave.proofs.lemmas.Lining.{IsOneLine, last_one, line_one}
+use Rattle.fb_wave.proofs.lemmas.Plain.{is_flat}
 use Rattle.fb_wave.proofs.lemmas.Refusing.{all_text, text_in}
 
 -- ---- Where a trace may be cut off or not
@@ -54,19 +55,31 @@ write_blames c sys text n = blames_in c sys text (Write n) tt (λ same. tt)
 
 -- ---- Line feeds
 
-abbrev feeds : List ℕ → ℕ
+abbrev pub feeds : List ℕ → ℕ
 feeds text = count_by (λ (b : ℕ). b == 10) text
 
-feeds-append : (u v : List ℕ) → feeds (u ++ v) ≡ feeds u + feeds v
+pub feeds-append : (u v : List ℕ) → feeds (u ++ v) ≡ feeds u + feeds v
 feeds-append u v = sum_by-append (λ (b : ℕ). cond (b == 10) 1 0) u v
 
-one_feed : (text : List ℕ) → IsOneLine text → 1 ≤ feeds text
+pub flat_feeds : (body : List ℕ) → is_flat body ≡ true → feeds body ≡ 0
+flat_feeds [] flat = refl
+flat_feeds (b ∷ bs) flat =
+    let parts = and_parts (not (b == 10)) (is_flat bs) flat in
+    let none : ◌≡◌ {A = ℕ} (cond (b == 10) 1 0) 0 = ap (λ (t : Bool). cond {A = ℕ} t 1 0) (not-true (b == 10) parts.0) in
+    let counted : feeds (b ∷ []) ≡ 0 + cond (b == 10) 1 0 = refl in
+    let more = flat_feeds bs parts.1 in
+    let both : feeds (b ∷ bs) ≡ feeds (b ∷ []) + feeds bs = feeds-append (b ∷ []) bs in
+    omega (arith, none, counted, more, both)
+
+pub one_feed : (text : List ℕ) → IsOneLine text → feeds text ≡ 1
 one_feed text one =
     let counted : feeds text ≡ feeds one.body + 1 = ap feeds one.is ∙ feeds-append one.body (10 ∷ []) in
-    omega (arith, counted)
+    let none = flat_feeds one.body one.flat in
+    omega (arith, counted, none)
 
-lines_feeds : (sys : System) (form : Form) (ls : List Line) → HasNames sys → All (IsLineOf sys) ls → length ls ≤ feeds (all_text sys form ls)
-lines_feeds sys form [] names all = omega arith
+-- lines have as many line feeds as there are lines
+pub lines_feeds : (sys : System) (form : Form) (ls : List Line) → HasNames sys → All (IsLineOf sys) ls → feeds (all_text sys form ls) ≡ length ls
+lines_feeds sys form [] names all = refl
 lines_feeds sys form (l ∷ ls) names all =
     let one = one_feed _ (line_one sys form l names (All-head (IsLineOf sys) l ls all)) in
     let more = lines_feeds sys form ls names (All-tail (IsLineOf sys) l ls all) in
@@ -74,12 +87,12 @@ lines_feeds sys form (l ∷ ls) names all =
     omega (arith, one, more, both)
 
 -- the last byte of a longer line
-shift : (b c : ℕ) (bs : List ℕ) → is_unended (b ∷ c ∷ bs) ≡ is_unended (c ∷ bs)
+pub shift : (b c : ℕ) (bs : List ℕ) → is_unended (b ∷ c ∷ bs) ≡ is_unended (c ∷ bs)
 shift b c bs =
     let next : length (b ∷ c ∷ bs) - 1 ≡ suc (length (c ∷ bs) - 1) = omega arith in
     ap (λ (k : ℕ). is_unended_by (slice_get (b ∷ c ∷ bs) k)) next
 
-ended_feeds : (next : List ℕ) → is_unended next ≡ false → 1 ≤ feeds next
+pub ended_feeds : (next : List ℕ) → is_unended next ≡ false → 1 ≤ feeds next
 ended_feeds [] ended = absurd (cc)
 ended_feeds (b ∷ []) ended = by (b == 10) refl ended
   where
@@ -94,7 +107,7 @@ ended_feeds (b ∷ c ∷ bs) ended =
     let both : feeds (b ∷ c ∷ bs) ≡ feeds (b ∷ []) + feeds (c ∷ bs) = feeds-append (b ∷ []) (c ∷ bs) in
     omega (arith, more, both)
 
-none_left : (rest : List ℕ) → [] ≡ take_through 10 rest → rest ≡ []
+pub none_left : (rest : List ℕ) → [] ≡ take_through 10 rest → rest ≡ []
 none_left [] is = refl
 none_left (b ∷ bs) is = absurd (by (b == 10) is)
   where
@@ -127,9 +140,9 @@ unended_all (b ∷ c ∷ bs) rest is last = by (λ e. unended_all (c ∷ bs) res
 module _ (sys : System) (form : Form) (number : ℕ) (x : Progress) (next : List ℕ) (input left old mid : Option (List ℕ))
     (is : IsCopied sys form number x next input left old mid) where
   -- a refused line with a line feed
-  whole_line : HasNames sys → 1 ≤ feeds next → IfSome input (λ text. IsWhole number text ⊎ HasTrace sys text)
+  whole_line : HasNames sys → 1 ≤ feeds next → IfSome input (IsUncut sys number)
   whole_line names some =
-      known input left (all_text sys form is.lines) next (λ text. IsWhole number text ⊎ HasTrace sys text) is.read
+      known input left (all_text sys form is.lines) next (IsUncut sys number) is.read
       (λ text rest at after_front parts.
       let many = lines_feeds sys form is.lines names is.are.each in
       let counted : feeds text ≡ feeds (all_text sys form is.lines) + (feeds next + feeds rest) =
@@ -139,9 +152,9 @@ module _ (sys : System) (form : Form) (number : ℕ) (x : Progress) (next : List
       inl (omega (arith, many, counted, numbered, some)))
 
   -- a refused line after a trace
-  after_trace : (end : Outcome) → IsLast sys next end → IsAfter x.tick end → (k : ℕ) → IfSome input (λ text. IsWhole k text ⊎ HasTrace sys text)
+  after_trace : (end : Outcome) → IsLast sys next end → IsAfter x.tick end → (k : ℕ) → IfSome input (IsUncut sys k)
   after_trace end last after k =
-      known input left (all_text sys form is.lines) next (λ text. IsWhole k text ⊎ HasTrace sys text) is.read
+      known input left (all_text sys form is.lines) next (IsUncut sys k) is.read
       (λ text rest at after_front parts.
       inr
       (record {
@@ -163,7 +176,7 @@ module _ (sys : System) (form : Form) (number : ℕ) (x : Progress) (next : List
 
   pub line_no_cut : HasNames sys → is_unended next ≡ false → (e : WaveError) → RefusesLine sys form x.tick number next e → IsNoCut sys input e
   line_no_cut names ended (Refused n) refuses =
-      subst (λ (k : ℕ). IfSome input (λ text. IsWhole k text ⊎ HasTrace sys text)) (sym refuses.0) (whole_line names (ended_feeds next ended))
+      subst (λ (k : ℕ). IfSome input (IsUncut sys k)) (sym refuses.0) (whole_line names (ended_feeds next ended))
   line_no_cut names ended Names refuses = tt
   line_no_cut names ended Memory refuses = tt
   line_no_cut names ended Read refuses = tt
@@ -171,8 +184,8 @@ module _ (sys : System) (form : Form) (number : ℕ) (x : Progress) (next : List
 
   pub end_no_cut : HasNames sys → (end : Outcome) → IsLast sys next end → (e : WaveError) → RefusesEnd end x.tick number left e → IsNoCut sys input e
   end_no_cut names end last (Refused n) (inl early) =
-      subst (λ (k : ℕ). IfSome input (λ text. IsWhole k text ⊎ HasTrace sys text)) (sym early.0)
-      (whole_line names (subst (λ (t : List ℕ). 1 ≤ feeds t) (sym last.is) (one_feed _ (last_one sys (ending_of end) names last.can))))
+      subst (λ (k : ℕ). IfSome input (IsUncut sys k)) (sym early.0)
+      (whole_line names (let one = one_feed next (subst IsOneLine (sym last.is) (last_one sys (ending_of end) names last.can)) in omega (arith, one)))
   end_no_cut names end last (Refused n) (inr late) = after_trace end last late.1 n
   end_no_cut names end last Names refuses = tt
   end_no_cut names end last Memory refuses = tt
@@ -220,6 +233,11 @@ module _ (sys : System) (form : Form) (number : ℕ) (x : Progress) (next : List
   cut_blames new c (Write n) fails = blames_in c sys input (Write n) tt (λ same. tt)
   cut_blames new c Memory fails = blames_memory c sys input
   cut_blames new c e fails = absurd fails
+
+-- the trace is cut off at a line
+pub cut_there : (c : Cut) (line : List ℕ) → is_cut c line ≡ true → (c ≡ cut.Allowed) × (is_unended line ≡ true)
+cut_there cut.Refused line here = absurd (cc)
+cut_there cut.Allowed line here = (refl, here)
 
 -- a line that is not cut off
 pub uncut_line : (c : Cut) (line : List ℕ) → is_cut c line ≡ false → c ≡ cut.Allowed → is_unended line ≡ false
