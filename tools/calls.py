@@ -1031,6 +1031,7 @@ CALLS += [
     of("expect no_pattern cut_trace --decl twice --why", 2, err=placed(b"refused E43\n", b"no_pattern:3:1: E43: 1st rule, \"the cycle answers\": after: \"> C.START\" is no pattern: a pattern is a resource, a sign, a port and conditions, with blanks between\n")),
     of("expect many_rules cut_trace --why", 2, err=b"refused E40\nrules: there are more than 1,000 rules\n"),
     of("expect rules cut_trace --decl twice --why", 2, err=placed(b"refused E20\n", b"twice:1:32: E20: application A: instance S is given twice\n")),
+    of("expect rules cut_trace --decl too_many --why", 2, err=placed(b"refused E30\n", b"too_many:1:13: E30: application: there are more than 4,096 instances, components included\n")),
     of("expect rules cut_trace --decl merge --why", 2, err=placed(b"refused E45\n", b"rules:3:1: E45: 1st rule, \"the cycle answers\": after: \"MAIN > C.START\": there is no instance C (the nearest name is M)\n")),
     of("expect nowhere trace --decl nowhere --why", 3, err=b"file fault\nrules nowhere: no file of this name can be read\n"),
     of("expect rules trace --decl nowhere --why", 3, err=b"file fault\ndeclaration nowhere: no file of this name can be read\n"),
