@@ -19,8 +19,8 @@ First it installs the system packages of tools/system_packages.txt that are miss
   waveforms with it (tools/state_waves.py), texts that are no traces (tools/traces.py), the stored cases of cases/ (tools/cases.py),
   rings of resources (tools/rings.py), sessions (tools/sessions.py), random systems (tools/drawn.py), random types (tools/drawn_types.py), where they stop
   (tools/stops.py), each token at each place of a declaration (tools/expected.py), types with more events than 16 bits can number
-  (tools/wide.py), traces of more than a million lines (tools/long.py), outputs that take little and readers that fail
-  (tools/narrow.py), texts that are cut or changed in one byte (tools/hostile.py), the Python package with docs/PYTHON.md
+  (tools/wide.py), traces of more than a million lines (tools/long.py), a system at all limits at once (tools/limits.py), outputs that
+  take little and readers that fail (tools/narrow.py), texts that are cut or changed in one byte (tools/hostile.py), the Python package with docs/PYTHON.md
   (tools/python_package.py), and each request for memory refused (tools/refuse.py)
 
 Then it prints the processor seconds and the memory of each crate. The last line is 'N passed, M failed', and the status is 0 if none
@@ -60,6 +60,7 @@ import hostile
 import insides
 import interpreter
 import launcher
+import limits
 import long
 import narrow
 import notice
@@ -250,6 +251,7 @@ def call_after_each_run():
         yield stops.try_all(made)
         yield wide.main([made]) == 0
         yield long.main([made]) == 0
+        yield limits.main([made]) == 0
         yield narrow.try_all(made)
         yield hostile.try_all(made)
         yield expected.try_all(made)

@@ -1,0 +1,157 @@
+#!/usr/bin/env python3
+"""tools/limits.py [PROGRAM]: calls the built program with a system that is at all its limits at once, and with rules, a text and names at
+theirs. What it must write follows from docs/FORMATS.md and docs/PROFILE.md.
+
+The system has 4,096 merges in 256 resources with 1,024 links, and 100,000 stimuli, the last of them in the last tick. The first 1,024
+merges send, each over a link of its own; the next 1,024 receive. The others are alone. A contract may allow a function to answer that
+it is out of memory. So each command must answer otherwise here.
+
+./gate makes these calls each time it has run the program. Without ./gate they use the program that ./simulate built."""
+
+import os
+import subprocess
+import sys
+import tempfile
+
+PROGRAM = os.path.join(os.path.dirname(os.path.abspath(__file__)), os.pardir, "simulate")
+INSTANCES, RESOURCES, LINKS, ROWS = 4_096, 256, 1_024, 100_000
+HORIZON, STEPS, WORKERS, RULES = 10**12, 10**7, 64, 1_000
+LAST = HORIZON - 1
+TEXT = 1_048_576
+# The ticks of the stimuli, in the order of the rows from 0. The last message of the tick before the last one arrives in the last tick.
+TICKS = (LAST, 0, 10**11, 1, LAST - 10**6, 999, 5 * 10**11, 10**6)
+# A table of latencies with as many entries as it may have: from each of these ticks on, one tick more.
+ENTRIES = [(number * 10**10, number + 1) for number in range(64)]
+NAMES = [f"M{k}" for k in range(INSTANCES)]
+
+
+def resource_of(instance):
+    """The resource of an instance. The link of a number leads from the resource of that instance to the one that follows, or to one of
+    the next three."""
+    if instance < LINKS:
+        return instance % RESOURCES
+    if instance < 2 * LINKS:
+        sender = instance - LINKS
+        return (sender + 1 + sender // RESOURCES) % RESOURCES
+    return instance % RESOURCES
+
+
+def latency_of(link, tick):
+    """The latency of a link for a message that is sent at a tick."""
+    if not link:
+        return [latency for start, latency in ENTRIES if start <= tick][-1]
+    return 10**6 if link == LINKS - 1 else link + 1
+
+
+def declaration():
+    blocks = "".join(f" {name} : E_MERGE;" for name in NAMES)
+    ways = "".join(f" {NAMES[link]}.EO TO {NAMES[LINKS + link]}.EI1;" for link in range(LINKS))
+    return f"APPLICATION A FBS{blocks} END_FBS EVENT_CONNECTIONS{ways} END_CONNECTIONS END_APPLICATION\n"
+
+
+def deployment():
+    held = [[] for _ in range(RESOURCES)]
+    for instance, name in enumerate(NAMES):
+        held[resource_of(instance)].append(name)
+    resources = [f"[[resource]]\ndevice = 'D'\nname = 'R{at}'\ninstances = {names}\n" for at, names in enumerate(held)]
+    links = []
+    for link in range(LINKS):
+        ends = f"from = 'R{resource_of(link)}'\nto = 'R{resource_of(LINKS + link)}'\n"
+        latency = f"latency = {latency_of(link, 0)}" if link else f"latencies = {[[*it] for it in ENTRIES]}"
+        links.append(f"[[link]]\n{ends}{latency}\n")
+    return "".join(resources + links)
+
+
+def given():
+    """The stimuli, each as its tick, its instance and its event. A receiver gets them at its second input."""
+    for row in range(ROWS):
+        instance = row % INSTANCES
+        is_receiver = LINKS <= instance < 2 * LINKS
+        is_second = is_receiver or row // INSTANCES % 2 == 1
+        yield TICKS[row // 3 % len(TICKS)], instance, "EI2" if is_second else "EI1"
+
+
+def events_of(rows):
+    """The events that are taken, each with its key, its instance and its event, in order."""
+    stimuli = sorted(((tick, resource_of(at), 0, row, 0), at, event) for row, (tick, at, event) in enumerate(rows))
+    sent, messages = [0] * LINKS, []
+    for (tick, *_), at, _ in stimuli:
+        if at < LINKS:
+            arrival = tick + latency_of(at, tick)
+            messages.append(((arrival, resource_of(LINKS + at), 2, at, sent[at]), LINKS + at, "EI1"))
+            sent[at] += 1
+    return [it for it in sorted(stimuli + messages) if it[0][0] < HORIZON]
+
+
+def trace_of(rows, form):
+    lines = []
+    for (tick, resource, group, a, b), at, event in events_of(rows):
+        head = f"{group} {a} {b} " * (form == 2) + f"{tick} R{resource}"
+        lines += [f"{head} > {NAMES[at]}.{event}\n", f"{head} < {NAMES[at]}.EO\n"]
+    return "".join(lines) + f"end {HORIZON}\n"
+
+
+def rules():
+    """As many rules as a text may have, up to its last byte."""
+    text = "".join(f"[[rule]]\nname = 'r{number}'\ncount = '* < S.COLD'\nmost = {number + 1}\n" for number in range(RULES))
+    return text + "#" * (TEXT - len(text))
+
+
+def report():
+    return f"TAP version 14\n1..{RULES}\n" + "".join(f"ok {number + 1} - r{number}\n# decided 1 time\n" for number in range(RULES))
+
+
+def calls():
+    """The calls: a name, the words, standard input, and what is written."""
+    rows = [*given()]
+    system = ["declaration", "--deploy", "deployment"]
+    ends = ["--horizon", str(HORIZON), "--steps", str(STEPS)]
+    first, second = (trace_of(rows, form) for form in (1, 2))
+    yield "check", ["check", *system, "--stim", "stimuli", "--lint"], "", "accepted\n"
+    yield "serial", ["run", *system, "--stim", "stimuli", *ends, "--serial"], "", first
+    yield "workers", ["run", *system, "--stim", "stimuli", *ends, "--workers", str(WORKERS), "--trace", "2"], "", second
+    yield "inspect", ["inspect", *system, "trace", *(word for name in NAMES for word in ("--only", name))], "", first
+    covered = "states 0 of 0, transitions 0 of 0, algorithms 0 of 0, events 0 of 0, ports 2048 of 2048\n"
+    yield "coverage", ["coverage", *system, "trace", "--least", "100"], "", covered
+    row = (LAST, 0, "EI1")
+    answers = "".join(f"= row {number} {tick},{NAMES[at]}.{event},\n" for number, (tick, at, event) in enumerate([*rows, row]))
+    commands = f"give {LAST} M0.EI1\nuntil {HORIZON}\nend {HORIZON}\n"
+    told = trace_of([*rows, row], 1).removesuffix(f"end {HORIZON}\n") + f"= at {HORIZON}\nend {HORIZON}\n"
+    yield "session", ["session", *system, "--stim", "stimuli", "--steps", str(STEPS)], commands, answers + told
+    yield "rules", ["expect", "rules", "restart"], "", report()
+
+
+def files():
+    rows = [*given()]
+    stimuli = "tick,event,values\n" + "".join(f"{tick},{NAMES[at]}.{event},\n" for tick, at, event in rows)
+    restart = f"0 MAIN < S.COLD\nend {HORIZON}\n"
+    texts = {"declaration": declaration(), "deployment": deployment(), "stimuli": stimuli, "trace": trace_of(rows, 1)}
+    return texts | {"rules": rules(), "restart": restart}
+
+
+def fails(name, words, text, wanted, folder, program):
+    """Whether a call gives something else, which is then printed."""
+    ran = subprocess.run([os.path.abspath(program), *words], cwd=folder, input=text, capture_output=True, text=True, check=False)
+    if (ran.returncode, ran.stdout, ran.stderr) == (0, wanted, ""):
+        return False
+    at = next((k for k, (a, b) in enumerate(zip(ran.stdout, wanted)) if a != b), min(len(ran.stdout), len(wanted)))
+    there = f"byte {at}: {ran.stdout[at:at + 100]!r} for {wanted[at:at + 100]!r}"
+    print(f"limits, {name}: status {ran.returncode}, {there}, {ran.stderr[:300]!r}", file=sys.stderr)
+    return True
+
+
+def main(words):
+    """Makes the calls, and returns the status."""
+    program = words[0] if words else PROGRAM
+    with tempfile.TemporaryDirectory() as folder:
+        for name, text in files().items():
+            with open(f"{folder}/{name}", "w", encoding="ascii") as out:
+                out.write(text)
+        failed = [it for it in calls() if fails(*it, folder, program)]
+    if not failed:
+        print("limits: 0 faults")
+    return int(bool(failed))
+
+
+if __name__ == "__main__":
+    sys.exit(main(sys.argv[1:]))
