@@ -196,6 +196,8 @@ LIT = b"""APPLICATION A FBS S : E_RESTART; L : LAMP; END_FBS
 EVENT_CONNECTIONS S.COLD TO L.GO; END_CONNECTIONS END_APPLICATION
 """
 LIT_TO_1 = b"0 MAIN < S.COLD\n0 MAIN > L.GO\n0 MAIN < L.DONE\nend 1\n"
+INSIDE_LIT_TO_1 = b"0 MAIN < S.COLD\n0 MAIN > L.GO\n  OFF -> ON by GO\n0 MAIN < L.DONE\n  ON -> OFF by 1\nend 1\n"
+LIT_COVERED = b"states 2 of 2, transitions 2 of 2, algorithms 0 of 0, events 1 of 1, ports 1 of 1\n"
 MARK = b"\xef\xbb\xbf"
 # A composite of two lamps, which needs the other file, and an application of it.
 PAIR = b"""FUNCTION_BLOCK PAIR
@@ -649,10 +651,13 @@ CALLS += [
     of("check lit --types lamp --why", 0, out=b"accepted\n"),
     of("wave lit --types lamp no_trace", 2, err=b"refused trace line 1\n"),
     of("draw lit --types lamp --type lamp", 0, out=None, has=('digraph "LAMP" {', '"OFF" -> "ON"')),
+    of("inspect lit --types lamp -", 0, out=INSIDE_LIT_TO_1, given=LIT_TO_1),
+    of("coverage lit --types lamp -", 0, out=LIT_COVERED, given=LIT_TO_1),
+    of("session lit --types lamp", 0, out=LIT_TO_1, given=b"end 1\n"),
     of("expect rules trace --decl cycle --types lamp", 0, out=REPORT),
     of("expect rules trace --decl lit --types lamp", 2, err=b"refused E45\n"),
     # Without the type there is no application, and a type that comes twice is one given twice.
-    of("check lit", 2, err=b"refused E21\n"),
+    *(of(words, 2, err=b"refused E21\n") for words in ("check lit", "inspect lit trace", "coverage lit trace", "session lit", "wave lit trace", "draw lit", "run lit --horizon 1")),
     of("check lit --types pair", 2, err=b"refused E21\n"),
     of("check lit --types lamp --types lamp", 2, err=b"refused E20\n"),
     of("check lit --types lamp --types lamp --why", 2, err=placed(b"refused E20\n", b"lamp:1:16: E20: block type LAMP is given twice\n")),
@@ -838,7 +843,10 @@ CALLS += [
     of("coverage cycle nowhere", 3, err=b"file fault\ntrace nowhere: no file of this name can be read\n", errors_to="terminal"),
     of("expect nowhere trace", 3, err=b"file fault\nrules nowhere: no file of this name can be read\n", errors_to="terminal"),
     of("diff nowhere trace", 3, err=b"file fault\ntrace nowhere: no file of this name can be read\n", errors_to="terminal"),
-    of("diff nowhere trace --no-why", 3, err=b"file fault\n", errors_to="terminal"),
+    *(
+        of(f"{words} --no-why", 3, err=b"file fault\n", errors_to="terminal")
+        for words in ("run nowhere --horizon 8", "wave cycle nowhere", "inspect cycle nowhere", "coverage cycle nowhere", "expect nowhere trace", "diff nowhere trace")
+    ),
     of("draw nowhere", 3, err=b"file fault\n", errors_to="terminal"),
     of("draw cycle --no-why", 5, err=None),
     of("explain E99", 5, err=b"error: no refusal or stop is called E99\n", errors_to="terminal"),
@@ -932,6 +940,7 @@ CALLS += [
     of("inspect cycle no_trace --only D", 2, err=b"refused E21\n"),
     of("inspect cycle no_trace", 2, err=b"refused trace line 1\n"),
     of("inspect cycle - --deploy other_plan", 2, err=b"refused trace line 1\n", given=TO_8),
+    of("inspect cycle - --deploy other_plan", 0, out=INSIDE_TO_8.replace(b"MAIN", b"R1"), given=TO_8.replace(b"MAIN", b"R1")),
     # The timer does not go off at this tick.
     of("inspect cycle -", 2, err=b"refused trace line 3\n", given=TO_8.replace(b"3 MAIN <", b"4 MAIN <")),
     of("inspect ring - --steps 3", 0, out=STOPPED, given=STOPPED),
@@ -965,6 +974,8 @@ CALLS += [
     of("coverage cycle nowhere --why", 3, err=b"file fault\ntrace nowhere: no file of this name can be read\n"),
     of("coverage cycle trace . --why", 3, err=b"file fault\ntrace .: this is a folder, not a file\n"),
     of("coverage cycle - - --why", 3, err=b"file fault\ntrace -: standard input can't be read, or was read before\n", given=TO_8),
+    of("coverage cycle --deploy other_plan trace", 2, err=b"refused trace line 1\n"),
+    of("coverage cycle --deploy other_plan -", 0, out=COVERED_TO_8, given=TO_8.replace(b"MAIN", b"R1")),
     of("coverage cycle --deploy nowhere trace", 3, err=b"file fault\n"),
     of("coverage cycle trace --steps 0", 5, err=None),
     of("coverage cycle", 5, err=None),
