@@ -16,8 +16,10 @@ use Rattle.fb_types.specs.declared.value.Reason.{Reason}
 use Rattle.fb_types.specs.declared.value.Reason.TheVariants.{Steps}
 use Rattle.fb_laws.specs.Sound.{AreGood}
 use Rattle.fb_system.specs.Networks.{AreNarrow}
+use Rattle.fb_wave.specs.CutOff.{IsCutTrace}
 use Rattle.fb_wave.specs.Lines.{IsTextOf}
 use Rattle.fb_wave.specs.Named.{HasNames}
+use Rattle.fb_wave.specs.Waves.{IsTraceOf}
 use Rattle.fb_coverage.specs.declared.marks.Marks.{Marks}
 use Rattle.fb_inspect.specs.walk.Chains.{Piece, ShowsReaction}
 use Rattle.fb_inspect.specs.Happenings.{AreMarkedBy, History, together}
@@ -36,6 +38,13 @@ abbrev pub OneLine : Type 0
 OneLine =
     (i : Inputs) → AreAccepted i → HasNames (system_of i) → (form : Form) (l m : run.Line) (text : List ℕ) → IsTextOf (system_of i) form l text → IsTextOf (system_of i) form m text
     → IsSameLine form l m
+
+-- ---- Texts
+
+-- A text that is a trace is none that is cut off.
+abbrev pub WholeOrCut : Type 0
+WholeOrCut =
+    (sys : System) (form other : Form) (text : List ℕ) (ls ms : List run.Line) (end : Ending) → HasNames sys → IsTraceOf sys form text ls end → IsCutTrace sys other text ms → ⊥
 
 -- ---- Takings
 

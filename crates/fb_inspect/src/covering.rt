@@ -1,7 +1,7 @@
 //! What traces cover.
 
 ghost use Rattle.std.specs.Prelude.{◌≡◌, ◌≤◌, IfErr, IfOk, IfSome};
-ghost use Rattle.fb_wave.specs.OfSystem.{HasNames};
+ghost use Rattle.fb_wave.specs.OfSystem.{HasNames, IsUncut};
 ghost use Rattle.fb_inspect.specs.Covering.{Covers};
 ghost use Rattle.fb_inspect.specs.walk.Looks.{most};
 ghost use Rattle.fb_inspect.specs.Refusals.{OfRefusal};
@@ -16,6 +16,7 @@ use crate::walk::{Extent, Terms};
 use fb_coverage::Marks;
 use fb_system::System;
 use fb_types::Name;
+use fb_wave::Cut;
 use std::alloc::{AllocError, Global};
 use std::io::{BufRead, sink};
 
@@ -76,6 +77,8 @@ pub fn cover<R: BufRead>(
         → IfErr result (OfRefusal (λ n. IfSome (R.remaining input.old) (IsWrongAt system.now terms.steps n))) }
     ensures found { HasNames system.now → terms.steps ≤ most
         → IfErr result (OfRefusal (λ n. IfSome (R.remaining input.old) (IsWrongFor system.now terms.steps (record { number = n; finding = refused.new.finding }) refused.new.current.text.items))) }
+    ensures uncut { HasNames system.now → terms.steps ≤ most → terms.cut ≡ Cut.Allowed
+        → IfErr result (OfRefusal (λ n. IfSome (R.remaining input.old) (IsUncut system.now n))) }
     ensures names { IfErr result (IsNamesFault system.now) }
     ensures paths { IfErr result (λ e. e ≡ Unknown → ⊥) }
 {

@@ -1,18 +1,17 @@
 //! What happens inside the blocks of a trace.
 
-ghost use Rattle.std.specs.Prelude.{◌≡◌, ◌≤◌, ◌++◌, ◌∷◌, if◌then◌else◌, ℕ, List, Option, Some, IfErr, IfOk, IfSome, IsTrue, OnErr, OnOk, false, true};
+ghost use Rattle.std.specs.Prelude.{◌≡◌, ◌≤◌, ◌++◌, ◌∷◌, if◌then◌else◌, ℕ, List, Option, Some, IfErr, IfOk, IfSome, OnErr, OnOk, false, true};
 ghost use Rattle.std.specs.Io.KnownBytes.{Consumes};
 ghost use Rattle.std.specs.List.{list_any};
 ghost use Rattle.fb_types.specs.Names.{Path};
 ghost use Rattle.fb_types.specs.Text.{path_text};
 ghost use Rattle.fb_wave.specs.Copying.{IsFirstLine};
-ghost use Rattle.fb_wave.specs.CutOff.{is_unended};
 ghost use Rattle.fb_wave.specs.Named.{is_digit};
 ghost use Rattle.fb_wave.specs.Words.{is_word};
 ghost use Rattle.fb_inspect.specs.Covering.{Covers};
 ghost use Rattle.fb_inspect.specs.Selections as spec;
 ghost use Rattle.fb_inspect.specs.Selections.{Selection, selection_of};
-ghost use Rattle.fb_wave.specs.OfSystem.{HasNames};
+ghost use Rattle.fb_wave.specs.OfSystem.{HasNames, IsUncut};
 ghost use Rattle.fb_inspect.specs.walk.Looks.{most};
 ghost use Rattle.fb_inspect.specs.Refusals.{IsNoRefusal, OfRefusal, Refuses};
 ghost use Rattle.fb_inspect.specs.walk.Walking.{AreUnused};
@@ -36,7 +35,7 @@ use crate::walk::{Extent, Terms, Walk};
 use fb_coverage::Marks;
 use fb_system::System;
 use fb_types::{Form, MOST_STEPS, Name};
-use fb_wave::truncation::is_unended;
+use fb_wave::truncation::is_cut;
 use fb_wave::words::after_front;
 use fb_wave::{CurrentLine, Cut, Guess, Page, PortTable, SystemPorts, form_of};
 use std::alloc::{AllocError, Global};
@@ -182,14 +181,6 @@ pub fn begun(
     })
 }
 
-/// Whether a trace that may be cut off ends in a line, or before it.
-pub fn is_severed(cut: Cut, line: &[u8]) -> bool
-    ensures cut { IsTrue result → cut ≡ Cut.Allowed }
-    ensures line { IsTrue result → is_unended line.now ≡ true }
-{
-    cut == Cut::Allowed && is_unended(line)
-}
-
 /// Lends the line at which a walk has refused a trace.
 pub fn lend(alloc: Global, form: Form, trail: &mut Trail, refused: &mut RefusedLine)
     ensures marks { trail.new.marks ≡ trail.old.marks }
@@ -226,8 +217,11 @@ fn go_through<R: BufRead, W: Write>(
     ensures refused { (what : Selection) (rest text : List ℕ)
         → terms.steps ≤ most → of_walk.HasNames fixed.now → Starts fixed.now what walk.old → R.remaining input.old ≡ Some rest → BeginsText fixed.now walk.old.trail.reading.line.items false rest text
         → IfErr result (Refuses (λ refusal. of_walk.IsWrongFor fixed.now terms.steps refusal refused.new.current.text.items text)) }
+    ensures uncut { (what : Selection) (rest text : List ℕ)
+        → terms.steps ≤ most → of_walk.HasNames fixed.now → Starts fixed.now what walk.old → R.remaining input.old ≡ Some rest → BeginsText fixed.now walk.old.trail.reading.line.items false rest text
+        → terms.cut ≡ Cut.Allowed → IfErr result (Refuses (λ refusal. of_walk.IsUncut fixed.now refusal.number text)) }
 {
-    if is_severed(terms.cut, walk.trail.reading.line.as_slice()) {
+    if is_cut(terms.cut, walk.trail.reading.line.as_slice()) {
         return walk.finish_cut(out).and(Ok(Extent::CutOff));
     }
     let mut ahead = Ahead::new(fixed.alloc, fixed.table)?;
@@ -252,6 +246,8 @@ fn inspect_with<R: BufRead, W: Write>(
     ensures fault { OnErr result (ShowsRead table.now.system.now (selection_of inspection.entry) inspection.entry.terms.steps (R.remaining input.old) (W.contents out.old) (W.contents out.new)) }
     ensures refused { HasNames table.now.system.now → inspection.entry.terms.steps ≤ most
         → IfErr result (Refuses (λ refusal. IfSome (R.remaining input.old) (IsWrongFor table.now.system.now inspection.entry.terms.steps refusal refused.new.current.text.items))) }
+    ensures uncut { HasNames table.now.system.now → inspection.entry.terms.steps ≤ most → inspection.entry.terms.cut ≡ Cut.Allowed
+        → IfErr result (Refuses (λ refusal. IfSome (R.remaining input.old) (IsUncut table.now.system.now refusal.number))) }
 {
     table.system.facts(); // for the prover: what holds of every accepted system
     let (form, reading) = first_reading(alloc, table, input)?;
@@ -295,6 +291,8 @@ pub(crate) fn inspect_and_mark<R: BufRead, W: Write>(
         → IfErr result (OfRefusal (λ n. IfSome (R.remaining input.old) (IsWrongAt system.now inspection.entry.terms.steps n))) }
     ensures found { HasNames system.now → inspection.entry.terms.steps ≤ most
         → IfErr result (OfRefusal (λ n. IfSome (R.remaining input.old) (IsWrongFor system.now inspection.entry.terms.steps (record { number = n; finding = refused.new.finding }) refused.new.current.text.items))) }
+    ensures uncut { HasNames system.now → inspection.entry.terms.steps ≤ most → inspection.entry.terms.cut ≡ Cut.Allowed
+        → IfErr result (OfRefusal (λ n. IfSome (R.remaining input.old) (IsUncut system.now n))) }
     ensures names { IfErr result (IsNamesFault system.now) }
     ensures paths { IfErr result (λ e. e ≡ Unknown → ⊥) }
 {
@@ -322,7 +320,7 @@ pub(crate) fn inspect_and_mark<R: BufRead, W: Write>(
 /// `Refused` with the number of the first line that shows that no run has the trace: it is no line of the system, or
 /// not what the blocks emit there. That line is lent then. Sampled values and the ticks of events are taken as they
 /// are. `Unknown` if no instance has one of the paths that must be shown, and `Names` if lines do not distinguish
-/// the ports of the system.
+/// the ports of the system. No trace is refused because it is cut off, if the terms allow that.
 ///
 /// What was written then is the beginning of what is shown of the first events of the trace, each taken as a whole. So
 /// it begins what is written of each trace that begins with their lines and does not stop in them for its steps
@@ -342,6 +340,8 @@ pub fn inspect<R: BufRead, W: Write>(
         → IfErr result (OfRefusal (λ n. IfSome (R.remaining input.old) (IsWrongAt system.now inspection.entry.terms.steps n))) }
     ensures found { HasNames system.now → inspection.entry.terms.steps ≤ most
         → IfErr result (OfRefusal (λ n. IfSome (R.remaining input.old) (IsWrongFor system.now inspection.entry.terms.steps (record { number = n; finding = refused.new.finding }) refused.new.current.text.items))) }
+    ensures uncut { HasNames system.now → inspection.entry.terms.steps ≤ most → inspection.entry.terms.cut ≡ Cut.Allowed
+        → IfErr result (OfRefusal (λ n. IfSome (R.remaining input.old) (IsUncut system.now n))) }
     ensures names { IfErr result (IsNamesFault system.now) }
     ensures paths { IfErr result (IsPathFault system.now inspection.entry.only.now) }
 {

@@ -1,6 +1,6 @@
 //! Laws of the definitions, which callers may use.
 
-ghost use Rattle.fb_inspect.specs.Laws.{AddsUp, FewerSteps, MoreSteps, OneLine, OneRow, OneTaking, ReactionsAreTakings, RefusedIsNoRun, RunsAreTakings, RunsBegin, RunsGoOn, ShownAlike, SomeTaking, TracesAreAccepted};
+ghost use Rattle.fb_inspect.specs.Laws.{AddsUp, FewerSteps, MoreSteps, OneLine, OneRow, OneTaking, ReactionsAreTakings, RefusedIsNoRun, RunsAreTakings, RunsBegin, RunsGoOn, ShownAlike, SomeTaking, TracesAreAccepted, WholeOrCut};
 
 /// For proofs: marks of one trace after another are exactly those of what the takings of all of them do.
 pub fn marks_add_up()
@@ -10,6 +10,11 @@ pub fn marks_add_up()
 /// A text is that of one line of the system at most, as far as its form shows it.
 pub fn lines_are_determined()
     ensures { OneLine }
+{}
+
+/// A trace is not cut off. So where a trace may be cut off, a whole one is shown as a whole one.
+pub fn traces_are_not_cut_off()
+    ensures { WholeOrCut }
 {}
 
 /// There is at most one walk through a trace. What the blocks remember and its first line determine a taking, with its

@@ -12,6 +12,7 @@ ghost use Rattle.fb_types.specs.Systems.{System};
 ghost use Rattle.fb_types.specs.declared.run.Line as run;
 ghost use Rattle.fb_coverage.specs.declared.marks.Marks.{Marks};
 ghost use Rattle.fb_trace.specs.End.{ending_of};
+ghost use Rattle.fb_wave.specs.CutOff.{is_unended};
 ghost use Rattle.fb_wave.specs.Dumps.{last_tick};
 ghost use Rattle.fb_wave.specs.Lines.{IsEndOf};
 ghost use Rattle.fb_inspect.specs.walk.Counted.{left_of};
@@ -25,7 +26,7 @@ ghost use Rattle.fb_inspect.specs.declared.walk.error.WalkError.TheVariants.{Ref
 ghost use Rattle.fb_inspect.specs.walk.Standing.{IsStepsStop};
 ghost use Rattle.fb_inspect.specs.walk.Walking.{Finishes, FinishesCut, HasLimited, HasStepped, IsLookOf, MayEnd, SendsCutPart, SendsPart, unread};
 ghost use Rattle.fb_inspect.specs.declared.walk.blocks.Remembered.TheVariants as kept;
-ghost use Rattle.fb_inspect.specs.walk.OfWalk.{AreAhead, AreApart, AreKept, BeginsText, CanReact, FailsAt, GoesAfter, HasAdvanced, HasCovered, HasLook, HasNames, IsCoveredBy, IsKeptAt, IsLineOf, IsNear, IsNext, IsNextLine, IsNotNear, IsShownBy, IsTextOf, IsWrongFor, KeptGoes, LineGoes, LooksAs, ShowsRead, StandsAt, StandsWell, Starts, StepGoes, TakingFails, WalkTakes, Watches};
+ghost use Rattle.fb_inspect.specs.walk.OfWalk.{AreAhead, AreApart, AreKept, BeginsText, CanReact, FailsAt, GoesAfter, GoesWhole, HasAdvanced, HasCovered, HasLook, HasNames, IsCoveredBy, IsKeptAt, IsLineOf, IsNear, IsNext, IsNextLine, IsNotNear, IsShownBy, IsTextOf, IsUncut, IsWrongFor, KeptGoes, LineGoes, LooksAs, ShowsRead, StandsAt, StandsWell, StandsWhole, StandsWholeAt, Starts, StepGoes, TakingFails, WalkTakes, Watches};
 
 pub mod ahead;
 pub mod blocks;
@@ -536,6 +537,8 @@ impl Walk {
             → StandsAt fixed.now takings self.old ahead.old.text.items ahead.old.last.items line.now rest text
             → Watches fixed.now terms.steps takings ahead.old.watched.number ahead.old.watched.text.items ahead.old.watched.is_excess
             → GoesAfter fixed.now terms.steps self.new ahead.new (R.remaining input.new) text result }
+        ensures uncut { (rest text : List ℕ) → terms.steps ≤ most → R.remaining input.old ≡ Some rest → StandsWholeAt fixed.now terms.steps self.old ahead.old line.now rest text
+            → terms.cut ≡ Cut.Allowed → GoesWhole fixed.now terms.steps self.new ahead.new (R.remaining input.new) text result }
         ensures cut { IfOk result (λ step. step ≡ Step.CutOff → terms.cut ≡ Cut.Allowed) }
     {
         let is_cut = ahead.look(fixed, terms.cut, line, input)?;
@@ -575,6 +578,8 @@ impl Walk {
             → IfOk result (StepGoes fixed.now terms.steps look self.old self.new ahead.new (unread ahead.old (R.remaining input.old)) (unread ahead.new (R.remaining input.new))) }
         ensures stands { (rest text : List ℕ) → terms.steps ≤ most → HasNames fixed.now → R.remaining input.old ≡ Some rest
             → StandsWell fixed.now terms.steps self.old ahead.old rest text → GoesAfter fixed.now terms.steps self.new ahead.new (R.remaining input.new) text result }
+        ensures uncut { (rest text : List ℕ) → terms.steps ≤ most → HasNames fixed.now → R.remaining input.old ≡ Some rest → StandsWhole fixed.now terms.steps self.old ahead.old rest text
+            → terms.cut ≡ Cut.Allowed → GoesWhole fixed.now terms.steps self.new ahead.new (R.remaining input.new) text result }
         ensures cut { IfOk result (λ step. step ≡ Step.CutOff → terms.cut ≡ Cut.Allowed) }
     {
         fixed.table.system.facts(); // for the prover: what holds of every accepted system
@@ -649,6 +654,9 @@ impl Walk {
         ensures refused { (what : Selection) (rest text : List ℕ)
             → terms.steps ≤ most → HasNames fixed.now → Starts fixed.now what self.old → R.remaining input.old ≡ Some rest → BeginsText fixed.now self.old.trail.reading.line.items ahead.old.watched.is_excess rest text
             → IfErr result (Refuses (λ refusal. IsWrongFor fixed.now terms.steps refusal self.new.trail.reading.line.items text)) }
+        ensures uncut { (what : Selection) (rest text : List ℕ)
+            → terms.steps ≤ most → HasNames fixed.now → Starts fixed.now what self.old → R.remaining input.old ≡ Some rest → BeginsText fixed.now self.old.trail.reading.line.items ahead.old.watched.is_excess rest text
+            → terms.cut ≡ Cut.Allowed → is_unended self.old.trail.reading.line.items ≡ false → IfErr result (Refuses (λ refusal. IsUncut fixed.now refusal.number text)) }
     {
         for _ in 0..u64::MAX {
             match self.advance(fixed, terms, ahead, input)? {

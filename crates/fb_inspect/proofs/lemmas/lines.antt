@@ -15,3 +15,4 @@ pub mod OneEnd
 pub mod AheadOf
 pub mod Judging
 pub mod NearStop
+pub mod WholeLines

@@ -10,3 +10,4 @@ pub mod StandsAfter
 pub mod Watched
 pub mod StepsStop
 pub mod UpToRefusal
+pub mod UpToRead

@@ -14,6 +14,7 @@ use Rattle.fb_types.specs.declared.run.Emission as run
 use Rattle.fb_types.specs.declared.run.Line.{Line}
 use Rattle.fb_types.specs.declared.value.Reason.{Reason}
 use Rattle.fb_coverage.specs.declared.marks.Marks.{Marks}
+use Rattle.fb_wave.specs.CutOff as cut_off
 use Rattle.fb_wave.specs.Lines as traces
 use Rattle.fb_wave.specs.Named as named
 use Rattle.fb_wave.specs.declared.truncation.Cut.{Cut}
@@ -193,6 +194,21 @@ Watches f = standing.Watches (sys_of f) f.form
 
 abbrev pub GoesAfter : Fixed → (steps : ℕ) → Walk → Ahead → (remaining : Option (List ℕ)) → (text : List ℕ) → Result Step WalkError → Type 0
 GoesAfter f = standing.GoesAfter (sys_of f) f.form
+
+abbrev pub StandsWhole : Fixed → (steps : ℕ) → Walk → Ahead → (rest text : List ℕ) → Type 0
+StandsWhole f = standing.StandsWhole (sys_of f) f.form
+
+abbrev pub StandsWholeAt : Fixed → (steps : ℕ) → Walk → Ahead → Line → (rest text : List ℕ) → Type 0
+StandsWholeAt f = standing.StandsWholeAt (sys_of f) f.form
+
+abbrev pub ReadsWhole : Fixed → Line → (old new : Ahead) → (before : List ℕ) → (remaining : Option (List ℕ)) → Type 0
+ReadsWhole f = standing.ReadsWhole (sys_of f) f.form
+
+abbrev pub GoesWhole : Fixed → (steps : ℕ) → Walk → Ahead → (remaining : Option (List ℕ)) → (text : List ℕ) → Result Step WalkError → Type 0
+GoesWhole f = standing.GoesWhole (sys_of f) f.form
+
+abbrev pub IsUncut : Fixed → (number : ℕ) → (text : List ℕ) → Type 0
+IsUncut f = cut_off.IsUncut (sys_of f)
 
 abbrev pub IsWrongFor : Fixed → (steps : ℕ) → Refusal → (line text : List ℕ) → Type 0
 IsWrongFor f = refusals.IsWrongFor (sys_of f)

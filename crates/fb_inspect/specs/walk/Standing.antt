@@ -11,6 +11,7 @@ use Rattle.fb_types.specs.declared.run.Line.{Line}
 use Rattle.fb_types.specs.declared.value.Reason.TheVariants.{Steps}
 use Rattle.fb_trace.specs.declared.last.Outcome.{Outcome}
 use Rattle.fb_trace.specs.declared.last.Outcome.TheVariants.{End, Stop}
+use Rattle.fb_wave.specs.CutOff.{IsWhole, is_unended}
 use Rattle.fb_wave.specs.Dumps.{last_tick}
 use Rattle.fb_wave.specs.Lines.{IsTextOf}
 use Rattle.fb_wave.specs.Named.{HasNames}
@@ -158,3 +159,39 @@ GoesAfter sys form steps walk ahead remaining text (Ok Taken) = IsLeft remaining
 GoesAfter sys form steps walk ahead remaining text (Ok (Ended end)) = Unit {0}
 GoesAfter sys form steps walk ahead remaining text (Ok CutOff) = Unit {0}
 GoesAfter sys form steps walk ahead remaining text (Err e) = Refuses (λ refusal. IsWrongLine sys steps refusal walk.trail.reading.line.items text) e
+
+-- ---- Up to what was read
+
+-- A walk stands at the next line, whatever comes after what was read, which ends in a line feed.
+pub record StandsWhole (sys : System) (form : Form) (steps : ℕ) (walk : Walk) (ahead : Ahead) (rest text : List ℕ) : Type 0 where
+  pub front : List ℕ
+  pub ended : is_unended front ≡ false
+  pub is : text ≡ front ++ rest
+  pub stands : (left : List ℕ) → StandsWell sys form steps walk ahead left (front ++ left)
+
+-- The same, and the next line is that of this event.
+pub record StandsWholeAt (sys : System) (form : Form) (steps : ℕ) (walk : Walk) (ahead : Ahead) (line : Line) (rest text : List ℕ) : Type 0 where
+  pub front : List ℕ
+  pub ended : is_unended front ≡ false
+  pub is : text ≡ front ++ rest
+  pub stands :
+      (left : List ℕ) → (takings : List Taking) × StandsAt sys form takings walk ahead.text.items ahead.last.items line left (front ++ left)
+      × Watches sys form steps takings ahead.watched.number ahead.watched.text.items ahead.watched.is_excess
+
+-- More was read ahead, or nothing: it ends in a line feed, so whatever comes after it, these lines and one more are ahead.
+pub record ReadsWhole (sys : System) (form : Form) (first : Line) (old new : Ahead) (before : List ℕ) (remaining : Option (List ℕ)) : Type 0 where
+  pub more : List ℕ
+  pub ended : (more ≡ []) ⊎ (is_unended more ≡ false)
+  pub left : IsLeft remaining (λ rest. before ≡ more ++ rest)
+  pub text : new.text.items ≡ old.text.items ++ more
+  pub ahead :
+      (rest : List ℕ) → MayBeAhead sys form first old.text.items old.last.items (more ++ rest)
+      → (rows : List Line) × AreAhead sys form first rows new.text.items new.last.items rest
+
+-- What comes of a step where a text may be cut off: the walk stands so again, or a whole line is refused.
+abbrev pub GoesWhole :
+    (sys : System) (form : Form) (steps : ℕ) (walk : Walk) (ahead : Ahead) (remaining : Option (List ℕ)) (text : List ℕ) → Result Step WalkError → Type 0
+GoesWhole sys form steps walk ahead remaining text (Ok Taken) = IsLeft remaining (λ rest. StandsWhole sys form steps walk ahead rest text)
+GoesWhole sys form steps walk ahead remaining text (Ok (Ended end)) = Unit {0}
+GoesWhole sys form steps walk ahead remaining text (Ok CutOff) = Unit {0}
+GoesWhole sys form steps walk ahead remaining text (Err e) = Refuses (λ refusal. IsWhole refusal.number text) e

@@ -14,7 +14,7 @@ ghost use Rattle.fb_inspect.specs.dump.Saved.{IsBefore};
 ghost use Rattle.fb_inspect.specs.dump.StateDumps.{Taken};
 ghost use Rattle.fb_inspect.specs.dump.Waving.{FinishesCut, SendsCutPart};
 ghost use Rattle.fb_inspect.specs.OfSystem.{AreKept, CanShow, Finishes, IsLineAt, IsNextKept, IsPortDump, SendsPart, Shows, ShowsTaking, ShowsUntaken};
-ghost use Rattle.fb_inspect.specs.walk.OfWalk.{GoesAfter, HasGoneOn, HasLook, HasNames, HasWaved, IsNext, IsShownWith, IsWrongFor, StandsWell, WaveStarts, WritesRead};
+ghost use Rattle.fb_inspect.specs.walk.OfWalk.{GoesAfter, GoesWhole, HasGoneOn, HasLook, HasNames, HasWaved, IsNext, IsShownWith, IsUncut, IsWrongFor, StandsWell, StandsWhole, WaveStarts, WritesRead};
 
 use crate::Terms;
 use crate::dump::before::Before;
@@ -148,6 +148,8 @@ impl StateWave {
             → IfOk result (HasGoneOn fixed.now terms.steps self.new known (unread ahead.new (R.remaining input.new)) old new) }
         ensures stands { (rest text : List ℕ) → terms.steps ≤ most → HasNames fixed.now → R.remaining input.old ≡ Some rest
             → StandsWell fixed.now terms.steps self.old.walk ahead.old rest text → GoesAfter fixed.now terms.steps self.new.walk ahead.new (R.remaining input.new) text result }
+        ensures uncut { (rest text : List ℕ) → terms.steps ≤ most → HasNames fixed.now → R.remaining input.old ≡ Some rest → StandsWhole fixed.now terms.steps self.old.walk ahead.old rest text
+            → terms.cut ≡ Cut.Allowed → GoesWhole fixed.now terms.steps self.new.walk ahead.new (R.remaining input.new) text result }
         ensures cut { IfOk result (λ step. step ≡ Step.CutOff → terms.cut ≡ Cut.Allowed) }
     {
         let system = fixed.table.system;
@@ -214,6 +216,9 @@ impl StateWave {
         ensures refused { (rest text : List ℕ)
             → terms.steps ≤ most → HasNames fixed.now → R.remaining input.old ≡ Some rest → StandsWell fixed.now terms.steps self.old.walk ahead.old rest text → text ≡ self.old.walk.trail.reading.line.items ++ rest
             → IfErr result (Refuses (λ refusal. IsWrongFor fixed.now terms.steps refusal self.new.walk.trail.reading.line.items text)) }
+        ensures uncut { (rest text : List ℕ)
+            → terms.steps ≤ most → HasNames fixed.now → R.remaining input.old ≡ Some rest → StandsWhole fixed.now terms.steps self.old.walk ahead.old rest text → text ≡ self.old.walk.trail.reading.line.items ++ rest
+            → terms.cut ≡ Cut.Allowed → IfErr result (Refuses (λ refusal. IsUncut fixed.now refusal.number text)) }
     {
         for _ in 0..u64::MAX {
             match self.advance(fixed, terms, ahead, input)? {

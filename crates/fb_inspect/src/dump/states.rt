@@ -3,7 +3,7 @@
 ghost use Rattle.std.specs.Prelude.{◌≡◌, ◌≤◌, ℕ, List, Option, Some, IfErr, IfOk, IfSome, OnErr, OnOk, false};
 ghost use Rattle.std.specs.Io.KnownBytes.{Consumes};
 ghost use Rattle.fb_wave.specs.Copying.{IsFirstLine};
-ghost use Rattle.fb_wave.specs.OfSystem.{HasNames};
+ghost use Rattle.fb_wave.specs.OfSystem.{HasNames, IsUncut};
 ghost use Rattle.fb_inspect.specs.walk.Looks.{most};
 ghost use Rattle.fb_inspect.specs.Refusals.{OfRefusal, Refuses};
 ghost use Rattle.fb_inspect.specs.OfSystem.{BeginsWave, IsNamesFault, IsShownWith, IsWrongAt, IsWrongFor, WritesFront, WritesRead};
@@ -17,7 +17,7 @@ use crate::dump::port_dump::PortDump;
 use crate::dump::state_wave::StateWave;
 use crate::error::InspectError;
 use crate::filter::EventFilter;
-use crate::insides::{begun, first_reading, is_severed, lend};
+use crate::insides::{begun, first_reading, lend};
 use crate::walk::ahead::Ahead;
 use crate::walk::error::WalkError;
 use crate::walk::reading::Reading;
@@ -26,7 +26,8 @@ use crate::{RefusedLine, Terms};
 use fb_coverage::Marks;
 use fb_system::System;
 use fb_types::MOST_STEPS;
-use fb_wave::{Page, PortTable, SystemPorts};
+use fb_wave::truncation::is_cut;
+use fb_wave::{Cut, Page, PortTable, SystemPorts};
 use std::alloc::{AllocError, Global};
 use std::io::{BufRead, Write};
 
@@ -73,8 +74,11 @@ fn go_through<R: BufRead, W: Write>(
     ensures refused { (rest text : List ℕ)
         → terms.steps ≤ most → of_walk.HasNames fixed.now → R.remaining input.old ≡ Some rest → BeginsText fixed.now wave.old.walk.trail.reading.line.items false rest text
         → IfErr result (Refuses (λ refusal. of_walk.IsWrongFor fixed.now terms.steps refusal refused.new.current.text.items text)) }
+    ensures uncut { (rest text : List ℕ)
+        → terms.steps ≤ most → of_walk.HasNames fixed.now → R.remaining input.old ≡ Some rest → BeginsText fixed.now wave.old.walk.trail.reading.line.items false rest text
+        → terms.cut ≡ Cut.Allowed → IfErr result (Refuses (λ refusal. of_walk.IsUncut fixed.now refusal.number text)) }
 {
-    if is_severed(terms.cut, wave.walk.trail.reading.line.as_slice()) {
+    if is_cut(terms.cut, wave.walk.trail.reading.line.as_slice()) {
         return wave.finish_cut(out);
     }
     let mut ahead = Ahead::new(fixed.alloc, fixed.table)?;
@@ -96,6 +100,8 @@ fn write_with<R: BufRead, W: Write>(
     ensures fault { OnErr result (WritesRead table.now.system.now terms.steps (R.remaining input.old) (W.contents out.old) (W.contents out.new)) }
     ensures refused { HasNames table.now.system.now → terms.steps ≤ most
         → IfErr result (Refuses (λ refusal. IfSome (R.remaining input.old) (IsWrongFor table.now.system.now terms.steps refusal refused.new.current.text.items))) }
+    ensures uncut { HasNames table.now.system.now → terms.steps ≤ most → terms.cut ≡ Cut.Allowed
+        → IfErr result (Refuses (λ refusal. IfSome (R.remaining input.old) (IsUncut table.now.system.now refusal.number))) }
 {
     let (form, reading) = first_reading(alloc, table, input)?;
     let mut wave = begin(alloc, table.system, reading)?;
@@ -139,6 +145,8 @@ pub fn write_states<R: BufRead, W: Write>(
         → IfErr result (OfRefusal (λ n. IfSome (R.remaining input.old) (IsWrongAt system.now terms.steps n))) }
     ensures found { HasNames system.now → terms.steps ≤ most
         → IfErr result (OfRefusal (λ n. IfSome (R.remaining input.old) (IsWrongFor system.now terms.steps (record { number = n; finding = refused.new.finding }) refused.new.current.text.items))) }
+    ensures uncut { HasNames system.now → terms.steps ≤ most → terms.cut ≡ Cut.Allowed
+        → IfErr result (OfRefusal (λ n. IfSome (R.remaining input.old) (IsUncut system.now n))) }
     ensures names { IfErr result (IsNamesFault system.now) }
     ensures paths { IfErr result (λ e. e ≡ Unknown → ⊥) }
 {

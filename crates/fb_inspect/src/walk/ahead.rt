@@ -5,13 +5,13 @@ ghost use Rattle.fb_types.specs.declared.run.Line as run;
 ghost use Rattle.fb_inspect.specs.Refusals.{IsNoRefusal};
 ghost use Rattle.fb_inspect.specs.walk.Standing.{IsLeft};
 ghost use Rattle.fb_inspect.specs.walk.Walking.{IsOwnRow, IsReadOn, unread};
-ghost use Rattle.fb_inspect.specs.walk.OfWalk.{AreAhead, AreCutOff, AreGathered, HasNames, IsTextOf, MayBeAhead};
+ghost use Rattle.fb_inspect.specs.walk.OfWalk.{AreAhead, AreCutOff, AreGathered, HasNames, IsTextOf, MayBeAhead, ReadsWhole};
 
-use crate::insides::is_severed;
 use crate::walk::error::WalkError;
 use crate::walk::reading::{Next, Reading, judged, read_on};
 use crate::walk::trail::Fixed;
 use fb_types::Line;
+use fb_wave::truncation::is_cut;
 use fb_wave::{Cut, Guess, PortTable};
 use std::alloc::{AllocError, Global};
 use std::io::BufRead;
@@ -203,6 +203,8 @@ impl Ahead {
             → IfSome (R.remaining input.old) (λ before. MayBeAhead fixed.now first.now self.old.text.items self.old.last.items before
             → IsLeft (R.remaining input.new) (λ rest. (self.old.text.items ++ before ≡ self.new.text.items ++ rest)
             × ((rows : List run.Line) × AreAhead fixed.now first.now rows self.new.text.items self.new.last.items rest)))) }
+        ensures uncut { HasNames fixed.now → cut ≡ Cut.Allowed → IfOk result (λ is_cut. is_cut ≡ false
+            → IfSome (R.remaining input.old) (λ before. ReadsWhole fixed.now first.now self.old self.new before (R.remaining input.new))) }
         ensures fault { IfErr result IsNoRefusal }
         ensures cut { IfOk result (λ is_cut. is_cut ≡ true → (cut ≡ Cut.Allowed) × (self.old.text.items ≡ []) × AreCutOff fixed.now first.now self.new.rows.items self.new.text.items (R.remaining input.old)) }
     {
@@ -210,7 +212,7 @@ impl Ahead {
             return Ok(false);
         }
         self.gather(fixed, first, input)?;
-        if is_severed(cut, self.last.as_slice()) {
+        if is_cut(cut, self.last.as_slice()) {
             return Ok(true);
         }
         self.text.extend_from_slice(self.last.as_slice())?;

@@ -14,3 +14,6 @@ returns-clause-paths g c = c.inspect_and_mark.ensures.paths
 
 pub returns-clause-found : goal.returns-clause-found
 returns-clause-found g c = c.inspect_and_mark.ensures.found
+
+pub returns-clause-uncut : goal.returns-clause-uncut
+returns-clause-uncut g c = c.inspect_and_mark.ensures.uncut

@@ -61,3 +61,9 @@ returns-in_err-inspect_and_mark-clause-paths g c =
 pub returns-in_err-inspect_and_mark-clause-found : goal.returns-in_err-inspect_and_mark-clause-found
 returns-in_err-inspect_and_mark-clause-found g c = λ names few.
     let q = err_from_is_err_and c.from_residual.result c.from_residual.ensures.1 in rw (q.1, q.2) (c.in_err-inspect_and_mark.ensures.found names few)
+
+-- ---- Where a trace may be cut off
+
+pub returns-in_err-inspect_and_mark-clause-uncut : goal.returns-in_err-inspect_and_mark-clause-uncut
+returns-in_err-inspect_and_mark-clause-uncut g c = λ names few allowed.
+    let q = err_from_is_err_and c.from_residual.result c.from_residual.ensures.1 in rw (q.1, q.2) (c.in_err-inspect_and_mark.ensures.uncut names few allowed)

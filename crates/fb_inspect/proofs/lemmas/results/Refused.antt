@@ -60,6 +60,13 @@ walk_found sys steps input Memory finding line wrong is = tt
 walk_found sys steps input Read finding line wrong is = tt
 walk_found sys steps input (Write n) finding line wrong is = tt
 
+-- the same of its number alone
+pub walk_refused : (P : ℕ → Type 0) (e : WalkError) → Refuses (λ refusal. P refusal.number) e → OfRefusal P (error_of_walk e)
+walk_refused P (Refused refusal) h = h
+walk_refused P Memory h = tt
+walk_refused P Read h = tt
+walk_refused P (Write n) h = tt
+
 some_wrong : (sys : System) (steps n : ℕ) (finding : Finding) (line : List ℕ) (input : Option (List ℕ)) → IfSome input (IsWrongFor sys steps (record { number = n; finding = finding }) line) → IfSome input (IsWrongAt sys steps n)
 some_wrong sys steps n finding line None h = tt
 some_wrong sys steps n finding line (Some text) h = (finding, line, h)

@@ -1,14 +1,16 @@
-use Rattle.fb_inspect.proofs.lemmas.Common.{◌≡◌, List, ℕ, Bool, true, sym, subst, system_of, is_unended, BeginsText, IfErr, IsWrongFor, Refuses}
+use Rattle.fb_inspect.proofs.lemmas.Common.{◌≡◌, List, ℕ, Bool, true, false, sym, ◌∙◌, subst, system_of, is_unended, BeginsText, IfErr, IsWrongFor, Refuses}
 use Rattle.fb_wave.proofs.lemmas.Handing.{on_ok}
+use Rattle.fb_wave.proofs.lemmas.Severed.{cut_there, uncut_line}
 use Rattle.fb_inspect.proofs.lemmas.dump.Ending.{cut_done, cut_none, cut_part, front_none, shown_cut}
 use Rattle.fb_inspect.proofs.lemmas.walk.UpToRefusal.{well_opens}
+use Rattle.fb_inspect.proofs.lemmas.walk.UpToRead.{whole_opens}
 use Rattle.fb_inspect.proofs.lemmas.reactions.Placed.{err_any, err_then}
 use Rattle.fb_inspect.proofs.lemmas.results.Refused.{err_none}
 use Rattle.fb_wave.specs.declared.current_line.CurrentLine.{CurrentLine}
 use Rattle.fb_inspect.proofs.dump.states.go_through.Goals as goal
 
-pub returns-then-is_severed-clause-whole : goal.returns-then-is_severed-clause-whole
-returns-then-is_severed-clause-whole g c = λ known read one.
+pub returns-then-is_cut-clause-whole : goal.returns-then-is_cut-clause-whole
+returns-then-is_cut-clause-whole g c = λ known read one.
     let fixed = c.args.fixed.now in
     let sys = system_of fixed.table.now.system.now in
     let steps = c.args.terms.steps in
@@ -16,25 +18,25 @@ returns-then-is_severed-clause-whole g c = λ known read one.
     let new = g.W.Write.contents c.finish_cut.new.out in
     let wave = c.args.wave.now in
     let reading = wave.walk.trail.reading in
-    let short = subst (λ (l : List ℕ). is_unended l ≡ true) c.as_slice.ensures.value (c.is_severed.ensures.line c.if-is_severed.true) in
+    let short = subst (λ (l : List ℕ). is_unended l ≡ true) c.as_slice.ensures.value (cut_there c.args.terms.cut c.as_slice.result.now (sym c.is_cut.ensures ∙ c.if-is_cut.true)).1 in
     let off = cut_none sys fixed.form steps wave reading reading.line.items known (g.R.Read.remaining c.args.input.now) old c.requires.begins read one short in
     on_ok c.finish_cut.result _ _ (c.finish_cut.ensures.finishes sys)
-    (λ finished. shown_cut c.args.terms.cut sys steps known old new (c.is_severed.ensures.cut c.if-is_severed.true) (cut_done sys fixed.form steps wave known old old off new finished))
+    (λ finished. shown_cut c.args.terms.cut sys steps known old new (cut_there c.args.terms.cut c.as_slice.result.now (sym c.is_cut.ensures ∙ c.if-is_cut.true)).0 (cut_done sys fixed.form steps wave known old old off new finished))
 
-pub returns-then-is_severed-clause-fault : goal.returns-then-is_severed-clause-fault
-returns-then-is_severed-clause-fault g c = λ known read one.
+pub returns-then-is_cut-clause-fault : goal.returns-then-is_cut-clause-fault
+returns-then-is_cut-clause-fault g c = λ known read one.
     let fixed = c.args.fixed.now in
     let sys = system_of fixed.table.now.system.now in
     let steps = c.args.terms.steps in
     let old = g.W.Write.contents c.args.out.now in
     let wave = c.args.wave.now in
     let reading = wave.walk.trail.reading in
-    let short = subst (λ (l : List ℕ). is_unended l ≡ true) c.as_slice.ensures.value (c.is_severed.ensures.line c.if-is_severed.true) in
+    let short = subst (λ (l : List ℕ). is_unended l ≡ true) c.as_slice.ensures.value (cut_there c.args.terms.cut c.as_slice.result.now (sym c.is_cut.ensures ∙ c.if-is_cut.true)).1 in
     let off = cut_none sys fixed.form steps wave reading reading.line.items known (g.R.Read.remaining c.args.input.now) old c.requires.begins read one short in
     err_then c.finish_cut.result _ _ (c.finish_cut.ensures.fault sys) (λ part. cut_part sys fixed.form steps wave known old old off (g.W.Write.contents c.finish_cut.new.out) part)
 
-pub returns-then-is_severed-clause-refused : goal.returns-then-is_severed-clause-refused
-returns-then-is_severed-clause-refused g c = λ rest text few names known told. err_none c.finish_cut.result _ c.finish_cut.ensures.none
+pub returns-then-is_cut-clause-refused : goal.returns-then-is_cut-clause-refused
+returns-then-is_cut-clause-refused g c = λ rest text few names known told. err_none c.finish_cut.result _ c.finish_cut.ensures.none
 
 pub returns-in_err-ahead-clause-fault : goal.returns-in_err-ahead-clause-fault
 returns-in_err-ahead-clause-fault g c = λ known read one.
@@ -60,3 +62,20 @@ returns-clause-refused g c = λ rest text few names known told.
     subst (λ (l : CurrentLine). IfErr c.go-gone.result (Refuses (λ n. IsWrongFor sys c.args.terms.steps n l.text.items text))) (sym c.lend.ensures.line)
     (c.go-gone.ensures.refused rest text few names known
     (well_opens sys fixed.form c.args.terms.steps walk c.in_ok-ahead.ahead rest text c.requires.begins.look c.requires.first c.requires.next c.in_ok-ahead.ensures.empty own) told.is)
+
+-- ---- Where a trace may be cut off
+
+pub returns-then-is_cut-clause-uncut : goal.returns-then-is_cut-clause-uncut
+returns-then-is_cut-clause-uncut g c = λ rest text few names known told allowed. err_none c.finish_cut.result _ c.finish_cut.ensures.none
+
+pub returns-clause-uncut : goal.returns-clause-uncut
+returns-clause-uncut g c = λ rest text few names known told allowed.
+    let fixed = c.args.fixed.now in
+    let sys = system_of fixed.table.now.system.now in
+    let walk = c.args.wave.now.walk in
+    let line = walk.trail.reading.line.items in
+    let own = subst (λ (e : Bool). BeginsText sys fixed.form line e rest text) (sym c.in_ok-ahead.ensures.watched) told in
+    c.go-gone.ensures.uncut rest text few names known
+    (whole_opens sys fixed.form c.args.terms.steps walk c.in_ok-ahead.ahead rest text c.requires.begins.look c.requires.first c.requires.next c.in_ok-ahead.ensures.empty own
+    (subst (λ (l : List ℕ). is_unended l ≡ false) c.as_slice.ensures.value (uncut_line c.args.terms.cut c.as_slice.result.now (sym c.is_cut.ensures ∙ c.if-is_cut.false) allowed)))
+    told.is allowed

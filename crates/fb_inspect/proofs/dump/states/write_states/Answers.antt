@@ -8,7 +8,9 @@ use Rattle.fb_wave.proofs.lemmas.Handing.{on_passed}
 use Rattle.fb_inspect.specs.StateWaves.{IsShownWith, WritesFront, WritesRead}
 use Rattle.fb_inspect.proofs.lemmas.dump.Ending.{front_none, front_nothing}
 use Rattle.fb_inspect.proofs.lemmas.results.Joined.{ok_passed}
-use Rattle.fb_inspect.proofs.lemmas.results.Refused.{found_wrong, memory_names, walk_found, walk_names, walk_paths}
+use Rattle.fb_inspect.proofs.lemmas.results.Refused.{found_wrong, memory_names, walk_found, walk_names, walk_paths, walk_refused}
+use Rattle.fb_wave.specs.CutOff.{IsUncut}
+use Rattle.fb_wave.specs.declared.truncation.Cut.TheVariants.{Allowed}
 use Rattle.fb_inspect.proofs.dump.states.write_states.Goals as goal
 
 pub returns-in_err-ports-clause-fault : goal.returns-in_err-ports-clause-fault
@@ -119,3 +121,19 @@ returns-in_err-ports-clause-found g c = λ _ _. on_passed _ _ (OfRefusal _) c.fr
 
 pub returns-in_err-table-clause-found : goal.returns-in_err-table-clause-found
 returns-in_err-table-clause-found g c = λ _ _. on_passed _ _ (OfRefusal _) c.from_residual-in_err-table.ensures.1 tt
+
+-- ---- Where a trace may be cut off
+
+pub returns-in_err-ports-clause-uncut : goal.returns-in_err-ports-clause-uncut
+returns-in_err-ports-clause-uncut g c = λ _ _ _. on_passed _ _ (OfRefusal _) c.from_residual.ensures.1 tt
+
+pub returns-in_err-table-clause-uncut : goal.returns-in_err-table-clause-uncut
+returns-in_err-table-clause-uncut g c = λ _ _ _. on_passed _ _ (OfRefusal _) c.from_residual-in_err-table.ensures.1 tt
+
+pub returns-clause-uncut : goal.returns-clause-uncut
+returns-clause-uncut g c = λ names few allowed.
+    let terms = c.args.terms in
+    let input = g.R.Read.remaining c.args.input.now in
+    let uncut = subst (λ (s : Inputs). HasNames (system_of s) → terms.steps ≤ most → terms.cut ≡ Allowed → Refuses (λ refusal. IfSome input (IsUncut (system_of s) refusal.number)) c.in-Err.error) (of_table _ c.in-Some.table _ c.in-Some.is c.in_ok-table.ensures.system ∙ c.in_ok-ports.ensures) c.in-Err.ensures.uncut in
+    subst (OfRefusal (λ n. IfSome input (IsUncut (system_of c.args.system.now) n))) (sym c.keep.ensures.error)
+    (walk_refused (λ n. IfSome input (IsUncut (system_of c.args.system.now) n)) c.in-Err.error (uncut names few allowed))

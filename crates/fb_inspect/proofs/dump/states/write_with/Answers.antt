@@ -6,6 +6,7 @@ use Rattle.fb_inspect.proofs.lemmas.reactions.Placed.{err_any}
 use Rattle.fb_inspect.proofs.lemmas.results.Refused.{none_passed}
 use Rattle.fb_inspect.proofs.lemmas.results.Refusing.{err_known}
 use Rattle.fb_inspect.proofs.lemmas.results.Joined.{ok_passed}
+use Rattle.fb_wave.specs.CutOff.{IsUncut}
 use Rattle.fb_inspect.proofs.dump.states.write_with.Goals as goal
 
 pub returns-in_err-form-clause-fault : goal.returns-in_err-form-clause-fault
@@ -65,3 +66,22 @@ returns-in_err-wave-clause-whole g c = ok_passed c.from_residual-in_err-wave.res
 
 pub returns-in_err-wave-clause-refused : goal.returns-in_err-wave-clause-refused
 returns-in_err-wave-clause-refused g c = λ _ _. none_passed _ _ _ c.from_residual-in_err-wave.ensures.1 tt
+
+-- ---- Where a trace may be cut off
+
+pub returns-clause-uncut : goal.returns-clause-uncut
+returns-clause-uncut g c = λ names few allowed.
+    let sys = system_of c.args.table.now.system.now in
+    let form = c.in_ok-form.form in
+    let line_is : c.in_ok-form.reading.line.items ≡ c.in_ok-wave.wave.walk.trail.reading.line.items = sym (ap (λ (r : Reading). r.line.items) c.in_ok-wave.ensures.reading_is) in
+    err_known c.go_through.result (g.R.Read.remaining c.args.input.now) (λ n. IsUncut sys n.number)
+    (λ text known.
+    let begins = text_begins sys form c.in_ok-form.reading.line.items false text (g.R.Read.remaining c.args.input.now) (g.R.Read.remaining c.first_reading.new.input) names known
+    c.in_ok-form.ensures.read c.in_ok-form.ensures.first c.in_ok-form.ensures.form refl in
+    c.go_through.ensures.uncut begins.0 text few names begins.1 (subst (λ (u : List ℕ). BeginsText sys form u false begins.0 text) line_is begins.2) allowed)
+
+pub returns-in_err-form-clause-uncut : goal.returns-in_err-form-clause-uncut
+returns-in_err-form-clause-uncut g c = λ _ _ _. none_passed _ _ _ c.from_residual.ensures.1 c.in_err-form.ensures.fault
+
+pub returns-in_err-wave-clause-uncut : goal.returns-in_err-wave-clause-uncut
+returns-in_err-wave-clause-uncut g c = λ _ _ _. none_passed _ _ _ c.from_residual-in_err-wave.ensures.1 tt

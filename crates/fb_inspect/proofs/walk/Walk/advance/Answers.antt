@@ -1,4 +1,4 @@
-use Rattle.fb_inspect.proofs.lemmas.Common.{ap, inl, refl, subst, sym, ◌∙◌, Ok, system_of, err_from_is_err_and, last_look, IsNextLine, opening_look, IsSevered, unread, Next, Reading, last_tick, IsWrongLine, GoesAfter, Step}
+use Rattle.fb_inspect.proofs.lemmas.Common.{◌++◌, ap, inl, refl, subst, sym, ◌∙◌, Ok, Err, system_of, err_from_is_err_and, last_look, IsNextLine, opening_look, IsSevered, unread, Next, Reading, last_tick, IsWrongLine, GoesAfter, Step}
 use Rattle.fb_inspect.specs.walk.Stepping.{LineGoes}
 use Rattle.fb_inspect.specs.walk.Walking.{HasAdvanced}
 use Rattle.fb_inspect.specs.declared.walk.reading.Next.TheVariants as next
@@ -6,6 +6,8 @@ use Rattle.fb_inspect.proofs.lemmas.walk.OneStep.{ended_whole, line_next, severe
 use Rattle.fb_inspect.proofs.lemmas.walk.Stepped.{bad_on, complete_bad, ended_here}
 use Rattle.fb_inspect.proofs.lemmas.lines.Judging.{bad_line, event_at, wrong_end}
 use Rattle.fb_inspect.proofs.lemmas.lines.OneEnd.{names_apart}
+use Rattle.fb_inspect.proofs.lemmas.walk.UpToRead.{goes_whole, whole_at}
+use Rattle.fb_inspect.specs.walk.Standing.{GoesWhole}
 use Rattle.fb_inspect.proofs.lemmas.results.Errors.{of_refusal}
 use Rattle.fb_inspect.proofs.lemmas.results.Joined.{ok_passed}
 use Rattle.fb_inspect.specs.declared.refused.finding.Finding.TheVariants as why
@@ -147,3 +149,47 @@ returns-in_err-advance_by_event-in-Event-clause-takes g c = λ _ _. ok_passed c.
 
 pub returns-in_err-advance_by_event-in-Event-clause-cut : goal.returns-in_err-advance_by_event-in-Event-clause-cut
 returns-in_err-advance_by_event-in-Event-clause-cut g c = ok_passed c.from_residual.result _ _ c.from_residual.ensures.1
+
+-- ---- Where a trace may be cut off
+
+pub returns-in_err-advance_by_event-in-Event-clause-uncut : goal.returns-in_err-advance_by_event-in-Event-clause-uncut
+returns-in_err-advance_by_event-in-Event-clause-uncut g c = λ rest text few names known whole allowed.
+    let fixed = c.args.fixed.now in
+    let sys = system_of fixed.table.now.system.now in
+    let q = err_from_is_err_and c.from_residual.result c.from_residual.ensures.1 in
+    rw (q.1, q.2)
+    (c.in_err-advance_by_event-in-Event.ensures.uncut rest text few known
+    (whole_at sys fixed.form c.args.terms.steps c.args.self.now c.replace.new.dest c.args.ahead.now rest text names c.facts.ensures.numbered (names_apart fixed.table.now.system.now c.facts.ensures.accepted) whole
+    c.in-Event.line c.in-Event.ensures.value) allowed)
+
+pub returns-in-Taken-clause-uncut : goal.returns-in-Taken-clause-uncut
+returns-in-Taken-clause-uncut g c = λ rest text few names known whole allowed.
+    let fixed = c.args.fixed.now in
+    let sys = system_of fixed.table.now.system.now in
+    subst (λ (s : Step). GoesWhole sys fixed.form c.args.terms.steps c.advance_by_event.new.self c.advance_by_event.new.ahead (g.R.Read.remaining c.advance_by_event.new.input) text (Ok s)) c.in-Taken.is
+    (c.in_ok-advance_by_event-in-Event.ensures.uncut rest text few known
+    (whole_at sys fixed.form c.args.terms.steps c.args.self.now c.replace.new.dest c.args.ahead.now rest text names c.facts.ensures.numbered (names_apart fixed.table.now.system.now c.facts.ensures.accepted) whole
+    c.in-Event.line c.in-Event.ensures.value) allowed)
+
+pub returns-in-End-2-clause-uncut : goal.returns-in-End-2-clause-uncut
+returns-in-End-2-clause-uncut g c = λ rest text few names known whole allowed.
+    let fixed = c.args.fixed.now in
+    let sys = system_of fixed.table.now.system.now in
+    let steps = c.args.terms.steps in
+    goes_whole sys fixed.form steps c.refusal_of_end.new.self c.refusal_of_end.new.ahead whole.front rest text (g.R.Read.remaining c.args.input.now) (Err c.refusal_of_end.result) names whole.ended whole.is known
+    (λ left.
+    let well = whole.stands left in
+    wrong_end sys fixed.form steps c.args.self.now c.args.ahead.now left (whole.front ++ left) names well c.in-End.end c.in-End.ensures.value
+    (λ can may. c.may_end.ensures.other sys (last_look (opening_look sys) well.takings) well.on.stands.look can c.if-may_end.false may) c.refusal_of_end.result c.refusal_of_end.new.self.trail.reading.line
+    (λ set stops. (c.refusal_of_end.ensures.back set stops, c.refusal_of_end.ensures.back_at set stops)) (λ none. (c.refusal_of_end.ensures.none none, c.refusal_of_end.ensures.here none))
+    (λ other. (c.refusal_of_end.ensures.other other, c.refusal_of_end.ensures.stays other)))
+
+pub returns-in-Bad-clause-uncut : goal.returns-in-Bad-clause-uncut
+returns-in-Bad-clause-uncut g c = λ rest text few names known whole allowed.
+    let fixed = c.args.fixed.now in
+    let sys = system_of fixed.table.now.system.now in
+    let steps = c.args.terms.steps in
+    goes_whole sys fixed.form steps c.args.self.now c.args.ahead.now whole.front rest text (g.R.Read.remaining c.args.input.now) (Err c.refusal.result) names whole.ended whole.is known
+    (λ left.
+    of_refusal (λ n. IsWrongLine sys steps n c.args.self.now.trail.reading.line.items (whole.front ++ left)) c.refusal.result (record { number = c.args.self.now.trail.reading.number; finding = why.Line }) c.refusal.ensures
+    (bad_line sys fixed.form steps c.args.self.now c.args.ahead.now left (whole.front ++ left) names (whole.stands left) c.in-Bad.ensures.value))

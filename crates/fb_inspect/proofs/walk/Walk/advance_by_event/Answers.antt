@@ -1,4 +1,4 @@
-use Rattle.fb_inspect.proofs.lemmas.Common.{List, Ok, ℕ, ◌<◌, Option, refl, subst, sym, Consumes, system_of, err_from_is_err_and, AreCutOff, unread, Walk, last_look, opening_look, Watches}
+use Rattle.fb_inspect.proofs.lemmas.Common.{List, [], Ok, ℕ, ◌<◌, Option, refl, subst, sym, Consumes, system_of, err_from_is_err_and, AreCutOff, unread, Walk, last_look, opening_look, Watches}
 use Rattle.fb_inspect.proofs.lemmas.results.Joined.{both_put}
 use Rattle.fb_inspect.proofs.lemmas.lines.Moving.{shown_both}
 use Rattle.fb_inspect.proofs.lemmas.walk.OneStep.{line_reread, ok_both}
@@ -6,7 +6,9 @@ use Rattle.fb_inspect.proofs.lemmas.reactions.Placed.{ok_then}
 use Rattle.fb_inspect.proofs.lemmas.walk.Stepped.{advanced_on, none_ahead, reread_on, severed_on}
 use Rattle.fb_inspect.specs.declared.walk.ahead.EventLine.{EventLine}
 use Rattle.fb_inspect.proofs.lemmas.results.Refused.{none_refused}
-use Rattle.fb_inspect.proofs.lemmas.walk.StandsAfter.{at_look, goes_left, look_ahead}
+use Rattle.fb_inspect.proofs.lemmas.walk.StandsAfter.{at_look, goes_left, look_ahead, some_at}
+use Rattle.fb_inspect.proofs.lemmas.walk.UpToRead.{step_whole}
+use Rattle.fb_inspect.specs.walk.Standing.{ReadsWhole}
 use Rattle.fb_inspect.proofs.walk.Walk.advance_by_event.Goals as goal
 
 pub returns-then-is_cut-clause-goes : goal.returns-then-is_cut-clause-goes
@@ -125,4 +127,44 @@ returns-clause-stands g c = λ takings rest text few known at watches.
     goes_left sys fixed.form c.args.terms.steps c.take_counting_steps.new.self c.take_counting_steps.new.ahead all.0 text (g.R.Read.remaining c.look.new.input) c.take_counting_steps.result all.1
     (c.take_counting_steps.ensures.stands takings all.0 text all.2.1.0 (at_look fixed.table.now fixed.form takings c.args.self.now l a.text.items a.last.items rest text at all.2.1.0 b.text.items b.last.items all.0 all.2.0 all.2.1.1)
     (subst (λ (e : EventLine). Watches sys fixed.form c.args.terms.steps takings e.number e.text.items e.is_excess) (sym c.in_ok-is_cut.ensures.watched) watches) all.2.1.1
+    (c.is_near.ensures.other (last_look (opening_look sys) takings) at.stands.look.are at.names at.apart at.is.line c.if-is_near.false))
+
+-- ---- Where a trace may be cut off
+
+pub returns-in_err-is_cut-clause-uncut : goal.returns-in_err-is_cut-clause-uncut
+returns-in_err-is_cut-clause-uncut g c = λ rest text few known whole allowed.
+    let q = err_from_is_err_and c.from_residual.result c.from_residual.ensures.1 in rw (q.1, q.2) (none_refused _ _ c.in_err-is_cut.ensures.fault)
+
+pub returns-then-is_near-clause-uncut : goal.returns-then-is_near-clause-uncut
+returns-then-is_near-clause-uncut g c = λ rest text few known whole allowed.
+    let fixed = c.args.fixed.now in
+    let sys = system_of fixed.table.now.system.now in
+    let steps = c.args.terms.steps in
+    let l = c.args.line.now in
+    let a = c.args.ahead.now in
+    let b = c.look.new.self in
+    let left = g.R.Read.remaining c.look.new.input in
+    let read = some_at (g.R.Read.remaining c.args.input.now) rest (λ before. ReadsWhole sys fixed.form l a b before left) known
+    (c.in_ok-is_cut.ensures.uncut (whole.stands []).1.names allowed c.if-is_cut.false) in
+    step_whole fixed.table.now fixed.form steps c.args.self.now a b l rest text left whole read c.take_to_last_step.new.self c.take_to_last_step.new.ahead left c.take_to_last_step.result read.left.1
+    (λ takings left all rows before at watches ahead.
+    c.take_to_last_step.ensures.stands takings left all rows few at
+    (subst (λ (e : EventLine). Watches sys fixed.form steps takings e.number e.text.items e.is_excess) (sym c.in_ok-is_cut.ensures.watched) watches) ahead
+    (c.is_near.ensures.near (last_look (opening_look sys) takings) at.stands.look.are c.if-is_near.true))
+
+pub returns-clause-uncut : goal.returns-clause-uncut
+returns-clause-uncut g c = λ rest text few known whole allowed.
+    let fixed = c.args.fixed.now in
+    let sys = system_of fixed.table.now.system.now in
+    let steps = c.args.terms.steps in
+    let l = c.args.line.now in
+    let a = c.args.ahead.now in
+    let b = c.look.new.self in
+    let left = g.R.Read.remaining c.look.new.input in
+    let read = some_at (g.R.Read.remaining c.args.input.now) rest (λ before. ReadsWhole sys fixed.form l a b before left) known
+    (c.in_ok-is_cut.ensures.uncut (whole.stands []).1.names allowed c.if-is_cut.false) in
+    step_whole fixed.table.now fixed.form steps c.args.self.now a b l rest text left whole read c.take_counting_steps.new.self c.take_counting_steps.new.ahead left c.take_counting_steps.result read.left.1
+    (λ takings left all rows before at watches ahead.
+    c.take_counting_steps.ensures.stands takings left all rows at
+    (subst (λ (e : EventLine). Watches sys fixed.form steps takings e.number e.text.items e.is_excess) (sym c.in_ok-is_cut.ensures.watched) watches) ahead
     (c.is_near.ensures.other (last_look (opening_look sys) takings) at.stands.look.are at.names at.apart at.is.line c.if-is_near.false))

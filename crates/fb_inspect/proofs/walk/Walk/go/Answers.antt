@@ -8,6 +8,9 @@ use Rattle.fb_inspect.proofs.lemmas.reactions.Placed.{err_any, err_then}
 use Rattle.fb_inspect.proofs.lemmas.lines.Severing.{on_some}
 use Rattle.fb_inspect.proofs.lemmas.walk.Stepped.{none_ahead}
 use Rattle.fb_inspect.proofs.lemmas.walk.UpToRefusal.{after_last, well_first, well_flushed}
+use Rattle.fb_inspect.proofs.lemmas.walk.UpToRead.{uncut_after, whole_first, whole_flushed}
+use Rattle.fb_inspect.specs.walk.Standing.{GoesWhole}
+use Rattle.fb_wave.specs.CutOff.{IsUncut, IsWhole}
 use Rattle.fb_wave.proofs.lemmas.Handing.{on_ok}
 use Rattle.fb_inspect.proofs.lemmas.results.Refused.{err_none, err_refused, refused_then}
 use Rattle.fb_inspect.specs.Refusals.{IsRefusalAfter}
@@ -26,6 +29,8 @@ loop-init g c = (
       (covered_none sys fixed.form what c.args.terms.steps types w known o out starts read),
   λ what rest text few names starts known begins.
       (rest, known, well_first (system_of c.args.fixed.now.table.now.system.now) c.args.fixed.now.form what c.args.terms.steps c.args.self.now c.args.ahead.now rest text starts c.requires.empty begins),
+  λ what rest text few names starts known begins allowed ended.
+      (rest, known, whole_first (system_of c.args.fixed.now.table.now.system.now) c.args.fixed.now.form c.args.terms.steps what c.args.self.now c.args.ahead.now rest text starts c.requires.empty begins ended),
 )
 
 pub advance-requires-clause-look : goal.advance-requires-clause-look
@@ -86,6 +91,13 @@ loop-preserved g c = (
       let after = subst (λ (s : Step). GoesAfter sys fixed.form c.args.terms.steps c.advance.new.self c.advance.new.ahead (g.R.Read.remaining c.advance.new.input) text (Ok s)) c.in-Taken.is
       (c.in_ok-advance.ensures.stands before.0 text few names before.1 before.2) in
       (after.0, after.1, well_flushed sys fixed.form c.args.terms.steps c.advance.new.self c.flush_much.new.self c.advance.new.ahead after.0 text after.2),
+  λ what rest text few names starts known begins allowed ended.
+      let fixed = c.args.fixed.now in
+      let sys = system_of fixed.table.now.system.now in
+      let before = c.loop.invariant.2 what rest text few names starts known begins allowed ended in
+      let after = subst (λ (s : Step). GoesWhole sys fixed.form c.args.terms.steps c.advance.new.self c.advance.new.ahead (g.R.Read.remaining c.advance.new.input) text (Ok s)) c.in-Taken.is
+      (c.in_ok-advance.ensures.uncut before.0 text few names before.1 before.2 allowed) in
+      (after.0, after.1, whole_flushed sys fixed.form c.args.terms.steps c.advance.new.self c.flush_much.new.self c.advance.new.ahead after.0 text after.2),
 )
 
 pub returns-in-Ended-clause-fault : goal.returns-in-Ended-clause-fault
@@ -240,3 +252,39 @@ returns-in_err-flush_much-in-Taken-clause-whole g c = λ _ _ _ _. ok_passed c.fr
 
 pub returns-in_err-flush_much-in-Taken-clause-covered : goal.returns-in_err-flush_much-in-Taken-clause-covered
 returns-in_err-flush_much-in-Taken-clause-covered g c = λ _ _ _ _. ok_passed c.from_residual-in_err-flush_much-in-Taken.result _ _ c.from_residual-in_err-flush_much-in-Taken.ensures.1
+
+-- ---- Where a trace may be cut off
+
+pub returns-in_err-advance-clause-uncut : goal.returns-in_err-advance-clause-uncut
+returns-in_err-advance-clause-uncut g c = λ what rest text few names starts known begins allowed ended.
+    let sys = system_of c.args.fixed.now.table.now.system.now in
+    let before = c.loop.invariant.2 what rest text few names starts known begins allowed ended in
+    let q = err_from_is_err_and c.from_residual.result c.from_residual.ensures.1 in
+    rw (q.1, q.2)
+    (refused_then c.in_err-advance.field-0.0 (λ n. IsWhole n.number text) (λ n. IsUncut sys n.number text) (c.in_err-advance.ensures.uncut before.0 text few names before.1 before.2 allowed) (λ n whole. inl whole))
+
+pub returns-in_err-flush_much-in-Taken-clause-uncut : goal.returns-in_err-flush_much-in-Taken-clause-uncut
+returns-in_err-flush_much-in-Taken-clause-uncut g c = λ what rest text few names starts known begins allowed ended.
+    let q = err_from_is_err_and c.from_residual-in_err-flush_much-in-Taken.result c.from_residual-in_err-flush_much-in-Taken.ensures.1 in
+    rw (q.1, q.2) tt
+
+pub returns-in-Ended-clause-uncut : goal.returns-in-Ended-clause-uncut
+returns-in-Ended-clause-uncut g c = λ what rest text few names starts known begins allowed ended.
+    let fixed = c.args.fixed.now in
+    let i = fixed.table.now.system.now in
+    let sys = system_of i in
+    let first = c.args.self.now.trail.marks in
+    let steps = c.args.terms.steps in
+    let old = g.W.Write.contents c.args.out.now in
+    let mid = g.W.Write.contents c.loop.out in
+    let r = unread c.advance.new.ahead (g.R.Read.remaining c.advance.new.input) in
+    let read = subst (λ (o : Option (List ℕ)). Consumes (Some text) o c.args.self.now.trail.reading.line.items) (sym known) begins.is in
+    let next = subst (λ (s : Step). HasAdvanced i.library.blocks first sys fixed.form what steps c.advance.new.self (Some text) r old mid s) c.in-Ended.is
+    (c.in_ok-advance.ensures.goes first what (Some text) old mid (c.loop.invariant.0 what (Some text) starts read)) in
+    err_joined c.and.result c.finish.result _ _ c.and.ensures
+    (err_refused c.finish.result (λ n. IsRefusalAfter c.advance.new.self.trail.reading.number n × IfSome r (λ rest. 0 < length rest)) (λ n. IsUncut sys n.number text) c.finish.ensures.refused
+    (λ n over. uncut_after sys steps n.number text (after_last i.library.blocks first sys fixed.form what steps c.advance.new.self c.in-Ended.field-0 text r old mid n.number next over.0.0 over.1)))
+
+pub returns-in-CutOff-clause-uncut : goal.returns-in-CutOff-clause-uncut
+returns-in-CutOff-clause-uncut g c = λ what rest text few names starts known begins allowed ended.
+    err_joined c.and-in-CutOff.result c.finish_cut.result _ _ c.and-in-CutOff.ensures (err_none c.finish_cut.result _ c.finish_cut.ensures.none)

@@ -4,6 +4,8 @@ use Rattle.fb_inspect.specs.declared.walk.Step.TheVariants as step
 use Rattle.fb_inspect.specs.dump.Waving.{HasGoneOn, IsNextKept}
 use Rattle.fb_inspect.proofs.lemmas.dump.DumpSteps.{can_show, gone_cut, gone_none, gone_on, own_rows, ready_of, rows_belong, within_of}
 use Rattle.fb_inspect.proofs.lemmas.walk.UpToRefusal.{well_aside}
+use Rattle.fb_inspect.proofs.lemmas.walk.UpToRead.{whole_aside}
+use Rattle.fb_inspect.specs.walk.Standing.{GoesWhole}
 use Rattle.fb_inspect.proofs.lemmas.lines.Moving.{next_line}
 use Rattle.fb_inspect.proofs.lemmas.results.Joined.{ok_passed}
 use Rattle.fb_inspect.proofs.dump.state_wave.StateWave.advance.Goals as goal
@@ -153,3 +155,34 @@ returns-in_err-show-clause-goes g c = λ _ _ _ _. ok_passed c.from_residual-in_e
 
 pub returns-in_err-show-clause-cut : goal.returns-in_err-show-clause-cut
 returns-in_err-show-clause-cut g c = ok_passed c.from_residual-in_err-show.result _ _ c.from_residual-in_err-show.ensures.1
+
+-- ---- Where a trace may be cut off
+
+pub returns-in_err-step-clause-uncut : goal.returns-in_err-step-clause-uncut
+returns-in_err-step-clause-uncut g c = λ rest text few names known whole allowed.
+    let fixed = c.args.fixed.now in
+    let sys = system_of fixed.table.now.system.now in
+    let w = c.args.self.now.walk in
+    let q = err_from_is_err_and c.from_residual-in_err-step.result c.from_residual-in_err-step.ensures.1 in
+    rw (q.1, q.2) (c.in_err-step.ensures.uncut rest text few names known (whole_aside sys fixed.form c.args.terms.steps w c.forget.new.self _ _ c.args.ahead.now rest text c.forget.ensures.others whole) allowed)
+
+pub returns-then-is_cut_off-clause-uncut : goal.returns-then-is_cut_off-clause-uncut
+returns-then-is_cut_off-clause-uncut g c = λ rest text few names known whole allowed.
+    let fixed = c.args.fixed.now in
+    let sys = system_of fixed.table.now.system.now in
+    subst (λ (s : Step). GoesWhole sys fixed.form c.args.terms.steps c.show_untaken.new.self.walk c.advance.new.ahead (g.R.Read.remaining c.advance.new.input) text (Ok s)) (sym (c.is_cut_off.ensures.yes c.if-is_cut_off.true)) tt
+
+pub returns-in_default-clause-uncut : goal.returns-in_default-clause-uncut
+returns-in_default-clause-uncut g c = λ rest text few names known whole allowed.
+    let fixed = c.args.fixed.now in
+    let sys = system_of fixed.table.now.system.now in
+    let w = c.args.self.now.walk in
+    c.in_ok-step.ensures.uncut rest text few names known (whole_aside sys fixed.form c.args.terms.steps w c.forget.new.self _ _ c.args.ahead.now rest text c.forget.ensures.others whole) allowed
+
+pub returns-clause-uncut : goal.returns-clause-uncut
+returns-clause-uncut g c = λ rest text few names known whole allowed.
+    let fixed = c.args.fixed.now in
+    let sys = system_of fixed.table.now.system.now in
+    let w = c.args.self.now.walk in
+    subst (λ (w : Walk). GoesWhole sys fixed.form c.args.terms.steps w c.advance.new.ahead (g.R.Read.remaining c.advance.new.input) text (Ok c.in_ok-step.step)) (sym c.in_ok-show.ensures.walk)
+    (c.in_ok-step.ensures.uncut rest text few names known (whole_aside sys fixed.form c.args.terms.steps w c.forget.new.self _ _ c.args.ahead.now rest text c.forget.ensures.others whole) allowed)

@@ -8,6 +8,9 @@ use Rattle.fb_inspect.proofs.lemmas.dump.Waved.{flushed_on, waved_none}
 use Rattle.fb_inspect.proofs.lemmas.results.Refused.{err_none, err_refused, refused_then}
 use Rattle.fb_inspect.proofs.lemmas.results.Joined.{ok_passed}
 use Rattle.fb_inspect.specs.Refusals.{IsRefusalAfter}
+use Rattle.fb_inspect.specs.walk.Standing.{GoesWhole}
+use Rattle.fb_inspect.proofs.lemmas.walk.UpToRead.{uncut_after}
+use Rattle.fb_wave.specs.CutOff.{IsUncut, IsWhole}
 use Rattle.fb_inspect.proofs.dump.state_wave.StateWave.go.Goals as goal
 
 pub loop-init : goal.loop-init
@@ -20,6 +23,7 @@ loop-init g c = (
       subst (λ (p : Option (List ℕ)). HasWaved sys fixed.form c.args.terms.steps c.args.self.now known p out out) (sym (none_ahead c.args.ahead.now.text.items o c.requires.empty))
       (waved_none sys fixed.form c.args.terms.steps c.args.self.now known o out c.requires.starts read),
   λ rest text few names known well. (rest, known, well),
+  λ rest text few names known whole allowed. (rest, known, whole),
 )
 
 pub advance-requires-clause-look : goal.advance-requires-clause-look
@@ -84,6 +88,12 @@ loop-preserved g c = (
       let before = c.loop.invariant.1 rest text few names known well in
       subst (λ (s : Step). GoesAfter sys fixed.form c.args.terms.steps c.advance.new.self.walk c.advance.new.ahead (g.R.Read.remaining c.advance.new.input) text (Ok s)) c.in-Taken.is
       (c.in_ok-advance.ensures.stands before.0 text few names before.1 before.2),
+  λ rest text few names known whole allowed.
+      let fixed = c.args.fixed.now in
+      let sys = system_of fixed.table.now.system.now in
+      let before = c.loop.invariant.2 rest text few names known whole allowed in
+      subst (λ (s : Step). GoesWhole sys fixed.form c.args.terms.steps c.advance.new.self.walk c.advance.new.ahead (g.R.Read.remaining c.advance.new.input) text (Ok s)) c.in-Taken.is
+      (c.in_ok-advance.ensures.uncut before.0 text few names before.1 before.2 allowed),
 )
 
 pub returns-in-Ended-clause-whole : goal.returns-in-Ended-clause-whole
@@ -182,3 +192,35 @@ returns-in_err-advance-clause-whole g c = λ _ _. ok_passed c.from_residual.resu
 
 pub returns-in_err-flush_much-in-Taken-clause-whole : goal.returns-in_err-flush_much-in-Taken-clause-whole
 returns-in_err-flush_much-in-Taken-clause-whole g c = λ _ _. ok_passed c.from_residual-in_err-flush_much-in-Taken.result _ _ c.from_residual-in_err-flush_much-in-Taken.ensures.1
+
+-- ---- Where a trace may be cut off
+
+pub returns-in_err-advance-clause-uncut : goal.returns-in_err-advance-clause-uncut
+returns-in_err-advance-clause-uncut g c = λ rest text few names known whole begins allowed.
+    let sys = system_of c.args.fixed.now.table.now.system.now in
+    let before = c.loop.invariant.2 rest text few names known whole allowed in
+    let q = err_from_is_err_and c.from_residual.result c.from_residual.ensures.1 in
+    rw (q.1, q.2)
+    (refused_then c.in_err-advance.field-0.0 (λ n. IsWhole n.number text) (λ n. IsUncut sys n.number text) (c.in_err-advance.ensures.uncut before.0 text few names before.1 before.2 allowed) (λ n within. inl within))
+
+pub returns-in_err-flush_much-in-Taken-clause-uncut : goal.returns-in_err-flush_much-in-Taken-clause-uncut
+returns-in_err-flush_much-in-Taken-clause-uncut g c = λ rest text few names known whole begins allowed.
+    let q = err_from_is_err_and c.from_residual-in_err-flush_much-in-Taken.result c.from_residual-in_err-flush_much-in-Taken.ensures.1 in
+    rw (q.1, q.2) tt
+
+pub returns-in-Ended-clause-uncut : goal.returns-in-Ended-clause-uncut
+returns-in-Ended-clause-uncut g c = λ rest text few names known whole begins allowed.
+    let fixed = c.args.fixed.now in
+    let sys = system_of fixed.table.now.system.now in
+    let steps = c.args.terms.steps in
+    let old = g.W.Write.contents c.args.out.now in
+    let mid = g.W.Write.contents c.loop.out in
+    let r = unread c.advance.new.ahead (g.R.Read.remaining c.advance.new.input) in
+    let read = subst (λ (o : Option (List ℕ)). Consumes (Some text) o c.args.self.now.walk.trail.reading.line.items) (sym known) begins in
+    let next = subst (HasGoneOn sys fixed.form steps c.advance.new.self (Some text) r old mid) c.in-Ended.is (c.in_ok-advance.ensures.goes (Some text) old mid (c.loop.invariant.0 (Some text) read)) in
+    err_refused c.finish.result (λ n. IsRefusalAfter c.advance.new.self.walk.trail.reading.number n × IfSome r (λ left. 0 < length left)) (λ n. IsUncut sys n.number text) c.finish.ensures.refused
+    (λ n over. uncut_after sys steps n.number text (after_last sys fixed.form steps c.advance.new.self c.in-Ended.end text r old mid n.number next over.0.0 over.1))
+
+pub returns-in-CutOff-clause-uncut : goal.returns-in-CutOff-clause-uncut
+returns-in-CutOff-clause-uncut g c = λ rest text few names known whole begins allowed.
+    err_none c.finish_cut.result _ c.finish_cut.ensures.none
