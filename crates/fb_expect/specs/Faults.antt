@@ -6,6 +6,8 @@ use Rattle.fb_expect.specs.declared.fault.TraceError.{TraceError}
 use Rattle.fb_expect.specs.declared.fault.TraceError.TheVariants as trace
 use Rattle.fb_expect.specs.declared.lines.ReadFault.{ReadFault}
 use Rattle.fb_expect.specs.declared.lines.ReadFault.TheVariants.{Memory, Read}
+use Rattle.fb_expect.specs.declared.parting.PartFault.{PartFault}
+use Rattle.fb_expect.specs.declared.parting.PartFault.TheVariants as part
 
 -- An error of this kind is reported as out of memory if it is that, and otherwise as a fault of the file.
 pub record IsFaultOf (kind : ErrorKind) (e : ReadFault) : Type 0 where
@@ -15,3 +17,8 @@ pub record IsFaultOf (kind : ErrorKind) (e : ReadFault) : Type 0 where
 abbrev pub trace_error : ReadFault → TraceError
 trace_error Memory = trace.Memory
 trace_error Read = trace.Read
+
+-- the same where the reader is that of one of two texts, which is named so
+abbrev pub part_fault : (unread : PartFault) → ReadFault → PartFault
+part_fault unread Memory = part.Memory
+part_fault unread Read = unread

@@ -1,10 +1,14 @@
 -- Where two texts part (this project's own).
-use Rattle.std.specs.Prelude.{◌≡◌, ℕ, zero, suc, ◌+◌, ◌<◌, Bool, true, false, ◌&&◌, Option, Some, None, IfSome}
+use Rattle.std.specs.Prelude.{◌≡◌, ◌⊎◌, ℕ, zero, suc, ◌+◌, ◌<◌, Bool, true, false, ◌&&◌, Option, Some, None, IfSome}
 use Rattle.std.specs.Io.BufRead.{drop_through, take_through}
+use Rattle.std.specs.Io.KnownBytes.{Consumes}
 use Rattle.std.specs.Str.{bytes_eq}
+use Rattle.fb_expect.specs.Lines.{IsOneLine}
 use Rattle.fb_expect.specs.Timeless.{without_tick}
 use Rattle.fb_expect.specs.Words.{Text}
 use Rattle.fb_expect.specs.declared.parting.Difference.{Difference}
+use Rattle.fb_expect.specs.declared.parting.PartFault.{PartFault}
+use Rattle.fb_expect.specs.declared.parting.PartFault.TheVariants.{Memory, First, Second}
 
 -- the line that a text begins with: up to its line feed, or up to the end, where nothing may be left
 abbrev pub line_of : Text → Text
@@ -72,3 +76,27 @@ pub record HasPassed (is_without_ticks : Bool) (n : ℕ) (a b : Option Text) (a-
   pub first : ComesAfter n a a-now
   pub second : ComesAfter n b b-now
   pub same : IfSome a (λ x. IfSome b (λ y. AreSame is_without_ticks n x y))
+
+-- ---- Texts that can't be compared
+
+-- a reader gave this many lines of a text, and a part of the next one
+abbrev pub StandsIn : ℕ → (old now : Option Text) → Type 0
+StandsIn n old now = IfSome old (λ x. (part : Text) × IsOneLine part × Consumes (Some (rest_at n x)) now part)
+
+-- the reader of the first text stands in the line of a number, and that of the second before it; all lines before it are alike
+pub record StandsInFirst (is_without_ticks : Bool) (n : ℕ) (a b : Option Text) (a-now b-now : Option Text) : Type 0 where
+  pub first : StandsIn n a a-now
+  pub second : ComesAfter n b b-now
+  pub same : IfSome a (λ x. IfSome b (λ y. AreSame is_without_ticks n x y))
+
+-- that of the first comes after the line, and that of the second stands in it
+pub record StandsInSecond (is_without_ticks : Bool) (n : ℕ) (a b : Option Text) (a-now b-now : Option Text) : Type 0 where
+  pub first : ComesAfter (n + 1) a a-now
+  pub second : StandsIn n b b-now
+  pub same : IfSome a (λ x. IfSome b (λ y. AreSame is_without_ticks n x y))
+
+-- Where two texts were not compared to their end: in the text whose reader failed, or where there was no memory for a line of one of them.
+abbrev pub IsUnparted : (is_without_ticks : Bool) → (a b : Option Text) → (a-now b-now : Option Text) → PartFault → Type 0
+IsUnparted w a b a-now b-now First = (n : ℕ) × StandsInFirst w n a b a-now b-now
+IsUnparted w a b a-now b-now Second = (n : ℕ) × StandsInSecond w n a b a-now b-now
+IsUnparted w a b a-now b-now Memory = (n : ℕ) × (StandsInFirst w n a b a-now b-now ⊎ StandsInSecond w n a b a-now b-now)

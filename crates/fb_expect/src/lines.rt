@@ -1,6 +1,6 @@
 //! Reads a text line by line.
 
-ghost use Rattle.std.specs.Prelude.{◌≡◌, [], IfOk, IfSome, OnOk, IsTrue, false};
+ghost use Rattle.std.specs.Prelude.{◌≡◌, [], IfOk, IfSome, OnErr, OnOk, IsTrue, false};
 ghost use Rattle.std.specs.Io.BufRead.{DropsThrough, take_through};
 ghost use Rattle.std.specs.Io.KnownBytes.{Consumes, IsAtEnd};
 ghost use Rattle.fb_expect.specs.Lines.{IsOneLine};
@@ -38,6 +38,7 @@ pub(crate) fn next_line<R: BufRead>(input: &mut R, line: &mut Vec<u8>) -> Result
     ensures line { OnOk result (IfSome (R.remaining input.old) (λ xs. line.new.items ≡ take_through 10 xs)) }
     ensures rest { OnOk result (DropsThrough (R.remaining input.old) (R.remaining input.new) 10) }
     ensures end { OnOk result (line.new.items ≡ [] → IsAtEnd (R.remaining input.old)) }
+    ensures part { OnErr result (IsOneLine line.new.items × Consumes (R.remaining input.old) (R.remaining input.new) line.new.items) }
 {
     line.clear();
     match input.read_until(b'\n', line) {

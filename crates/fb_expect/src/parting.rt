@@ -1,10 +1,13 @@
 //! Where two texts first differ.
 
-ghost use Rattle.std.specs.Prelude.{◌≡◌, [], IfOk, IfSome, OnOk};
+ghost use Rattle.std.specs.Prelude.{◌≡◌, [], IfErr, IfOk, IfSome, OnErr, OnOk};
 ghost use Rattle.std.specs.Io.BufRead.{DropsThrough, take_through};
-ghost use Rattle.std.specs.Io.KnownBytes.{IsAtEnd};
+ghost use Rattle.std.specs.Io.KnownBytes.{Consumes, IsAtEnd};
+ghost use Rattle.fb_expect.specs.Faults as faults;
+ghost use Rattle.fb_expect.specs.Lines.{IsOneLine};
 ghost use Rattle.fb_expect.specs.Parting as spec;
-ghost use Rattle.fb_expect.specs.Parting.{MayFind, MayPart};
+ghost use Rattle.fb_expect.specs.Parting.{IsUnparted, MayFind, MayPart};
+ghost use Rattle.fb_expect.specs.declared.lines.ReadFault.{ReadFault as ReadFaultModel};
 
 use crate::lines::{ReadFault, next_line};
 use crate::timeless::without_tick;
@@ -32,6 +35,16 @@ pub enum PartFault {
     Second,
 }
 
+/// Why a text is not compared where its next line is not read: it fails so, other than for memory.
+fn part_fault(unread: PartFault, fault: ReadFault) -> PartFault
+    ensures { result ≡ faults.part_fault unread fault }
+{
+    match fault {
+        ReadFault::Memory => PartFault::Memory,
+        ReadFault::Read => unread,
+    }
+}
+
 /// Reads the next line of a text, or fails as that text does.
 fn read_line<R: BufRead>(
     input: &mut R,
@@ -41,11 +54,12 @@ fn read_line<R: BufRead>(
     ensures line { OnOk result (IfSome (R.remaining input.old) (λ xs. line.new.items ≡ take_through 10 xs)) }
     ensures rest { OnOk result (DropsThrough (R.remaining input.old) (R.remaining input.new) 10) }
     ensures end { OnOk result (line.new.items ≡ [] → IsAtEnd (R.remaining input.old)) }
+    ensures part { OnErr result (IsOneLine line.new.items × Consumes (R.remaining input.old) (R.remaining input.new) line.new.items) }
+    ensures fault { IfErr result (λ f. (e : ReadFaultModel) × (f ≡ faults.part_fault unread e)) }
 {
     match next_line(input, line) {
         Ok(()) => Ok(()),
-        Err(ReadFault::Memory) => Err(PartFault::Memory),
-        Err(ReadFault::Read) => Err(unread),
+        Err(fault) => Err(part_fault(unread, fault)),
     }
 }
 
@@ -65,14 +79,15 @@ fn are_alike(is_without_ticks: bool, left: &[u8], right: &[u8]) -> bool
 /// each line.
 ///
 /// # Errors
-/// `Memory` if there is no memory for a line, else which of the two can't be read.
+/// `Memory` if there is no memory for a line, else which of the two can't be read. All lines before it are alike.
 pub fn part<R: BufRead, S: BufRead>(
     alloc: Global,
     is_without_ticks: bool,
     first: &mut R,
     second: &mut S,
 ) -> Result<Option<Difference>, PartFault>
-    ensures { IfOk result (MayPart is_without_ticks (R.remaining first.old) (S.remaining second.old)) }
+    ensures parted { IfOk result (MayPart is_without_ticks (R.remaining first.old) (S.remaining second.old)) }
+    ensures unread { IfErr result (IsUnparted is_without_ticks (R.remaining first.old) (S.remaining second.old) (R.remaining first.new) (S.remaining second.new)) }
 {
     let mut left = Vec::new(alloc);
     let mut right = Vec::new(alloc);
@@ -95,7 +110,8 @@ fn parting<R: BufRead, S: BufRead>(
     left: &mut Vec<u8>,
     right: &mut Vec<u8>,
 ) -> Result<Option<u64>, PartFault>
-    ensures { IfOk result (MayFind is_without_ticks (R.remaining first.old) (S.remaining second.old) left.new.items right.new.items) }
+    ensures found { IfOk result (MayFind is_without_ticks (R.remaining first.old) (S.remaining second.old) left.new.items right.new.items) }
+    ensures unread { IfErr result (IsUnparted is_without_ticks (R.remaining first.old) (S.remaining second.old) (R.remaining first.new) (S.remaining second.new)) }
 {
     for number in 1..u64::MAX {
         read_line(first, left, PartFault::First)?;

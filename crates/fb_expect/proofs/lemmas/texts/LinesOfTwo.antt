@@ -1,9 +1,16 @@
 -- Two texts, line by line.
 use Rattle.fb_types.proofs.Common.{◌≡◌, ℕ, zero, suc, ◌+◌, ◌≤◌, Bool, true, false, [], ◌∷◌, ◌++◌, length, refl, sym, ap, ap₂, subst, ◌∙◌, arith, inl, inr, ◌==◌, ◌&&◌, if◌then◌else◌, Option, Some, None, IfSome, take_through, IsAtEnd, bytes_eq, cases_eq, cases_lt, false≢true, bytes_eq-Decides}
 use Rattle.std.specs.Io.BufRead.{drop_through}
-use Rattle.fb_expect.specs.Parting.{AreAlike, AreAllAlike, AreSame, HasPassed, MayFind, ComesAfter, are_alike, line_at, rest_at}
+use Rattle.std.specs.Io.KnownBytes.{Consumes}
+use Rattle.fb_expect.specs.Faults.{part_fault}
+use Rattle.fb_expect.specs.Lines.{IsOneLine}
+use Rattle.fb_expect.specs.Parting.{AreAlike, AreAllAlike, AreSame, HasPassed, IsUnparted, MayFind, ComesAfter, StandsIn, StandsInFirst, StandsInSecond, are_alike, line_at, rest_at}
 use Rattle.fb_expect.specs.Timeless.{without_tick}
 use Rattle.fb_expect.specs.Words.{Text}
+use Rattle.fb_expect.specs.declared.lines.ReadFault.{ReadFault}
+use Rattle.fb_expect.specs.declared.lines.ReadFault.TheVariants as read_fault
+use Rattle.fb_expect.specs.declared.parting.PartFault.{PartFault}
+use Rattle.fb_expect.specs.declared.parting.PartFault.TheVariants.{First, Second}
 
 -- one more line is passed
 rest-more : (n : ℕ) (text : Text) → rest_at (suc n) text ≡ drop_through 10 (rest_at n text)
@@ -118,6 +125,43 @@ ended w n a b a-now b-now left right p none none' = by a b p.first p.second p.sa
     by None b f s same = tt
     by (Some x) None f s same = tt
     by (Some x) (Some y) f s same = alike-all w n x y same (at-end x a-now f none) (at-end y b-now s none')
+
+-- ---- A line that is not read
+
+-- a part of a line, after whole ones
+stands-in : (n : ℕ) (a now new : Option Text) (part : Text) → ComesAfter n a now → IsOneLine part × Consumes now new part → StandsIn n a new
+stands-in n None now new part at reads = tt
+stands-in n (Some x) now new part at reads = (part, reads.0, subst (λ (o : Option Text). Consumes o new part) at reads.1)
+
+pub unread-first :
+    (w : Bool) (n : ℕ) (a b a-now b-now a-new : Option Text) (part : Text) (e : ReadFault) (f : PartFault) → HasPassed w n a b a-now b-now
+    → IsOneLine part × Consumes a-now a-new part → f ≡ part_fault First e → IsUnparted w a b a-new b-now f
+unread-first w n a b a-now b-now a-new part e f p reads is =
+    subst (IsUnparted w a b a-new b-now) (sym is) (by (record { first = stands-in n a a-now a-new part p.first reads; second = p.second; same = p.same }) e)
+  where
+    by : StandsInFirst w n a b a-new b-now → (e : ReadFault) → IsUnparted w a b a-new b-now (part_fault First e)
+    by stands read_fault.Memory = (n, inl stands)
+    by stands read_fault.Read = (n, stands)
+
+pub unread-second :
+    (w : Bool) (n : ℕ) (a b a-now b-now a-new b-new : Option Text) (left part : Text) (e : ReadFault) (f : PartFault) → HasPassed w n a b a-now b-now → Reads a-now a-new left
+    → IsOneLine part × Consumes b-now b-new part → f ≡ part_fault Second e → IsUnparted w a b a-new b-new f
+unread-second w n a b a-now b-now a-new b-new left part e f p l reads is =
+    let more : suc n ≡ n + 1 = omega arith in
+    let first : ComesAfter (n + 1) a a-new = subst (λ (m : ℕ). ComesAfter m a a-new) more (stands-more n a a-now a-new left p.first l).0 in
+    subst (IsUnparted w a b a-new b-new) (sym is) (by (record { first = first; second = stands-in n b b-now b-new part p.second reads; same = p.same }) e)
+  where
+    by : StandsInSecond w n a b a-new b-new → (e : ReadFault) → IsUnparted w a b a-new b-new (part_fault Second e)
+    by stands read_fault.Memory = (n, inr stands)
+    by stands read_fault.Read = (n, stands)
+
+-- as many lines were read as are counted
+pub counted-all : (w : Bool) (n : ℕ) (a b a-now b-now : Option Text) → HasPassed w n a b a-now b-now → IsUnparted w a b a-now b-now First
+counted-all w n a b a-now b-now p = (n, record { first = here a a-now p.first; second = p.second; same = p.same })
+  where
+    here : (a now : Option Text) → ComesAfter n a now → StandsIn n a now
+    here None now at = tt
+    here (Some x) now at = ([], (λ k d lt is. omega (arith, lt)), subst (λ (o : Option Text). Consumes (Some (rest_at n x)) o []) (sym at) refl)
 
 -- ---- What a comparison says
 

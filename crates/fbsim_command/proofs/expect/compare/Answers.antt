@@ -11,4 +11,4 @@ returns-in-Err-clause-noted g c =
     noted_either c.args.diff.now c.in-Err.fault c.from.result (option_map string_bytes c.note_of_part-note.result) c.from.ensures c.note_of_part-note.ensures
 
 pub returns-clause-done : goal.returns-clause-done
-returns-clause-done g c = c.show_parted-end.ensures _ _ c.in-Ok.ensures
+returns-clause-done g c = c.show_parted-end.ensures _ _ c.in-Ok.ensures.parted
