@@ -1,27 +1,34 @@
 -- What is wrong with texts that are no patterns (docs/FORMATS.md, "Rules over traces"; this project's own).
-use Rattle.std.specs.Prelude.{◌≡◌, ◌⊎◌, false, List, [], ◌∷◌, map, None}
+use Rattle.std.specs.Prelude.{List, [], ◌∷◌, map, Option, Some, None, is_some, if◌then◌else◌}
 use Rattle.fb_expect.specs.Words.{Text}
 use Rattle.fb_expect.specs.Written.{condition_of, is_resource, port_of, upper, way_of, words_of}
 use Rattle.fb_expect.specs.declared.pattern.PatternFault.{PatternFault}
+use Rattle.fb_expect.specs.declared.pattern.PatternPart.{PatternPart}
 use Rattle.fb_expect.specs.declared.pattern.PatternPart.TheVariants.{Words, Resource, Sign, Port, Condition}
 
--- one of the words is the one at fault, and no condition
-abbrev pub IsConditionFault : List Text → PatternFault → Type 0
-IsConditionFault [] f = ⊥
-IsConditionFault (w ∷ ws) f = ((f.part ≡ Condition) × (f.word ≡ w) × (condition_of w ≡ None)) ⊎ IsConditionFault ws f
+-- this word is not such a part of a pattern
+abbrev pub fault_at : PatternPart → Text → PatternFault
+fault_at part word = record { part = part; word = word }
 
--- this word is at fault: the resource, the sign, the port or a condition; or there are too few
-abbrev pub IsAmongWords : (resource sign port : Text) → (conditions : List Text) → PatternFault → Type 0
-IsAmongWords r s p cs f =
-    ((f.part ≡ Resource) × (f.word ≡ r) × (is_resource r ≡ false)) ⊎ (((f.part ≡ Sign) × (f.word ≡ s) × (way_of s ≡ None))
-    ⊎ (((f.part ≡ Port) × (f.word ≡ p) × (port_of p ≡ None)) ⊎ IsConditionFault cs f))
+-- the first of the words that is no condition
+abbrev pub condition_fault : List Text → Option PatternFault
+condition_fault [] = None
+condition_fault (w ∷ ws) = if is_some (condition_of w) then condition_fault ws else Some (fault_at Condition w)
 
-abbrev pub IsWordsFault : List Text → PatternFault → Type 0
-IsWordsFault [] f = f.part ≡ Words
-IsWordsFault (r ∷ []) f = f.part ≡ Words
-IsWordsFault (r ∷ s ∷ []) f = f.part ≡ Words
-IsWordsFault (r ∷ s ∷ p ∷ cs) f = IsAmongWords r s p cs f
+-- the first of the resource, the sign, the port and the conditions that is none
+unfoldable pub fault_among : (resource sign port : Text) → (conditions : List Text) → Option PatternFault
+fault_among r s p cs =
+    if is_resource r
+    then (if is_some (way_of s) then (if is_some (port_of p) then condition_fault cs else Some (fault_at Port p)) else Some (fault_at Sign s))
+    else Some (fault_at Resource r)
 
--- This is wrong with a text.
-abbrev pub IsPatternFault : Text → PatternFault → Type 0
-IsPatternFault z f = IsWordsFault (words_of (map upper z)) f
+-- the same of words, of which there may be too few
+abbrev pub words_fault : List Text → Option PatternFault
+words_fault [] = Some (fault_at Words [])
+words_fault (r ∷ []) = Some (fault_at Words [])
+words_fault (r ∷ s ∷ []) = Some (fault_at Words [])
+words_fault (r ∷ s ∷ p ∷ cs) = fault_among r s p cs
+
+-- What is wrong with a text, if it is no pattern: the first word that is wrong, in upper case.
+abbrev pub pattern_fault : Text → Option PatternFault
+pattern_fault z = words_fault (words_of (map upper z))

@@ -1,6 +1,6 @@
 //! Patterns of lines, as they are written: `RESOURCE > PATH.EVENT VAR=value ..`.
 
-ghost use Rattle.std.specs.Prelude.{◌≡◌, ◌++◌, ◌∷◌, [], ℕ, List, IfOk, IfSome, OnOk, filter, map, option_map};
+ghost use Rattle.std.specs.Prelude.{◌≡◌, ◌++◌, ◌∷◌, [], ℕ, List, IfOk, OnOk, filter, is_some, map, not, option_map};
 ghost use Rattle.std.specs.Borrow.{Bor};
 ghost use Rattle.fb_expect.specs.Lists as lists;
 ghost use Rattle.fb_expect.specs.Needs as needs;
@@ -473,7 +473,7 @@ fn fault_at(alloc: Global, part: PatternPart, word: &[u8]) -> Result<PatternFaul
 
 /// The first word that is no condition.
 fn condition_fault(alloc: Global, words: &[&[u8]]) -> Result<Option<PatternFault>, AllocError>
-    ensures { IfOk result (λ o. IfSome o (faults.IsConditionFault (map (λ w. w.now) words.now))) }
+    ensures { IfOk result (λ o. o ≡ faults.condition_fault (map (λ w. w.now) words.now)) }
 {
     for word in words {
         match condition_parts(word) {
@@ -485,8 +485,9 @@ fn condition_fault(alloc: Global, words: &[&[u8]]) -> Result<Option<PatternFault
 }
 
 /// What is wrong with the words of a text that is no pattern.
+#[tactic(auto, unfolding(crate::specs::PatternFaults::fault_among))]
 fn words_fault(alloc: Global, words: &[&[u8]]) -> Result<Option<PatternFault>, AllocError>
-    ensures { IfOk result (λ o. IfSome o (faults.IsWordsFault (map (λ w. w.now) words.now))) }
+    ensures { IfOk result (λ o. o ≡ faults.words_fault (map (λ w. w.now) words.now)) }
 {
     let [resource, sign, port, conditions @ ..] = words else {
         return Ok(Some(fault_at(alloc, PatternPart::Words, b"")?));
@@ -503,13 +504,14 @@ fn words_fault(alloc: Global, words: &[&[u8]]) -> Result<Option<PatternFault>, A
     condition_fault(alloc, conditions)
 }
 
-/// What is wrong with a text that is no pattern.
+/// What is wrong with a text that is no pattern. Nothing is, exactly if the text is a pattern.
 ///
 /// # Errors
 ///
 /// When memory runs out.
 pub fn pattern_fault(alloc: Global, text: &str) -> Result<Option<PatternFault>, AllocError>
-    ensures { IfOk result (λ o. IfSome o (faults.IsPatternFault text.now)) }
+    ensures fault { IfOk result (λ o. o ≡ faults.pattern_fault text.now) }
+    ensures exact { IfOk result (λ o. is_some o ≡ not (is_some (spec.pattern_of text.now))) }
 {
     let text = in_upper(alloc, text.as_bytes())?;
     let words = words_of(alloc, text.as_slice())?;

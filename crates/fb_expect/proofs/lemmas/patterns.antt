@@ -1,3 +1,4 @@
 pub mod Starred
 pub mod Sighting
 pub mod Marked
+pub mod Faulty
