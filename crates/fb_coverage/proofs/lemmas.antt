@@ -1,4 +1,5 @@
 pub mod Listed
+pub mod Counting
 pub mod Added
 pub mod Basics
 pub mod Connections

@@ -30,6 +30,10 @@ abbrev pub with_rows : Share → List (List Bool) → Share
 with_rows s [] = s
 with_rows s (r ∷ rs) = with_rows (with_row s r) rs
 
+-- a share with another one added
+abbrev pub added : Share → Share → Share
+added s t = record { covered = capped (s.covered + t.covered); all = capped (s.all + t.all) }
+
 abbrev pub none_counted : Share
 none_counted = record { covered = 0; all = 0 }
 

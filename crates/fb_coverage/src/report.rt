@@ -32,7 +32,7 @@ fn put_counts(alloc: Global, text: &mut Vec<u8>, shares: &Shares) -> Result<(), 
 pub fn report_of(alloc: Global, system: &System, marks: &Marks) -> Result<Vec<u8>, AllocError>
     ensures { IfOk result (λ text. text.items ≡ report_text system.now marks.now) }
 {
-    let shares = shares_of(alloc, system, marks)?;
+    let shares = shares_of(system, marks);
     let mut text = Vec::new(alloc);
     put_blocks(alloc, &mut text, marks, system.library().blocks.as_slice())?;
     put_instances(alloc, &mut text, system, marks)?;

@@ -1,6 +1,6 @@
 //! How many of how many are covered.
 
-ghost use Rattle.std.specs.Prelude.{◌≡◌, ◌<◌, ◌+◌, ◌*◌, ◌^◌, ◌++◌, IfOk, OnOk};
+ghost use Rattle.std.specs.Prelude.{◌≡◌, ◌<◌, ◌+◌, ◌*◌, ◌^◌, ◌∷◌, ◌++◌, [], OnOk};
 ghost use Rattle.fb_types.specs.OfSystem.{IsInstance, path_at};
 ghost use Rattle.fb_coverage.specs.Listed.{listed};
 ghost use Rattle.fb_coverage.specs.Shares as spec;
@@ -40,6 +40,21 @@ impl Share {
         self.all = self.all.saturating_add(flags.len() as u64);
     }
 
+    /// Counts a flag.
+    fn count_flag(&mut self, flag: bool)
+        ensures { self.new ≡ spec.with_row self.old (flag ∷ []) }
+    {
+        self.count(&[flag]);
+    }
+
+    /// Adds another share.
+    fn add(&mut self, other: Share)
+        ensures { self.new ≡ spec.added self.old other }
+    {
+        self.covered = self.covered.saturating_add(other.covered);
+        self.all = self.all.saturating_add(other.all);
+    }
+
     /// Counts the flags of a table.
     pub(crate) fn count_all(&mut self, table: &Table)
         ensures { self.new ≡ spec.with_rows self.old table.now.rows }
@@ -70,75 +85,65 @@ fn share_of(table: &Table) -> Share
     share
 }
 
-/// Adds the flags of the connected ports of a side.
-fn add_side(
-    counted: &mut Vec<bool>,
-    system: &System,
-    instance: u32,
-    events: &[EventPort],
-    flags: &[bool],
-) -> Result<(), AllocError>
+/// How much of the connected ports of a side is covered.
+fn side_share(system: &System, instance: u32, events: &[EventPort], flags: &[bool]) -> Share
     requires { IsInstance system.now instance }
-    ensures { OnOk result (counted.new.items ≡ counted.old.items ++ listed (spec.flag_if (is_in Connected system.now (path_at system.now instance)) flags.now) 0 events.now) }
+    ensures { result ≡ spec.with_row spec.none_counted (listed (spec.flag_if (is_in Connected system.now (path_at system.now instance)) flags.now) 0 events.now) }
 {
+    let mut share = Share::new();
     for (index, event) in events.iter().enumerate() {
-        if is_in(Group::Connected, system, instance, index, event) {
-            counted.push(is_set(flags, index))?;
+        if !is_in(Group::Connected, system, instance, index, event) {
+            continue;
         }
+        share.count_flag(is_set(flags, index));
     }
-    Ok(())
+    share
 }
 
-/// The flags of the connected ports of an instance: none where it is a basic block.
-fn counted_row(
-    alloc: Global,
-    system: &System,
-    marks: &Marks,
-    instance: u32,
-) -> Result<Vec<bool>, AllocError>
+/// How much of the connected ports of an instance is covered: none are counted where it is a basic block.
+fn instance_share(system: &System, marks: &Marks, instance: u32) -> Share
     requires { IsInstance system.now instance }
-    ensures { IfOk result (λ row. row.items ≡ counted_row system.now marks.now instance (path_at system.now instance)) }
+    ensures { result ≡ spec.with_row spec.none_counted (counted_row system.now marks.now instance (path_at system.now instance)) }
 {
-    let mut counted = Vec::new(alloc);
     if basic_of(system, instance).is_some() {
-        return Ok(counted);
+        return Share::new();
     }
     let ports = system.ports(instance);
     let taken = marks.ports.inputs.row(instance as usize);
     let inputs = ports.event_inputs.as_slice();
-    add_side(&mut counted, system, instance, inputs, taken)?;
+    let mut share = side_share(system, instance, inputs, taken);
     let emitted = marks.ports.outputs.row(instance as usize);
     let outputs = ports.event_outputs.as_slice();
-    add_side(&mut counted, system, instance, outputs, emitted)?;
-    Ok(counted)
+    let others = side_share(system, instance, outputs, emitted);
+    share.add(others);
+    share
 }
 
 /// How much of the connected ports is covered.
-fn port_share(alloc: Global, system: &System, marks: &Marks) -> Result<Share, AllocError>
-    ensures { IfOk result (λ share. share ≡ port_share system.now marks.now) }
+fn port_share(system: &System, marks: &Marks) -> Share
+    ensures { result ≡ port_share system.now marks.now }
 {
     let mut share = Share::new();
     system.facts(); // for the prover: what holds of every accepted system
     for instance in 0..system.count() {
-        let row = counted_row(alloc, system, marks, instance as u32)?;
-        share.count(row.as_slice());
+        let own = instance_share(system, marks, instance as u32);
+        share.add(own);
     }
-    Ok(share)
+    share
 }
 
 /// How much is covered.
-pub(crate) fn shares_of(alloc: Global, system: &System, marks: &Marks) -> Result<Shares, AllocError>
-    ensures { IfOk result (λ shares. shares ≡ shares_of system.now marks.now) }
+pub(crate) fn shares_of(system: &System, marks: &Marks) -> Shares
+    ensures { result ≡ shares_of system.now marks.now }
 {
     let charts = &marks.charts;
-    let ports = port_share(alloc, system, marks)?;
-    Ok(Shares {
+    Shares {
         states: share_of(&charts.states),
         transitions: share_of(&charts.transitions),
         algorithms: share_of(&charts.algorithms),
         events: share_of(&charts.clearing),
-        ports,
-    })
+        ports: port_share(system, marks),
+    }
 }
 
 /// The sum of what is covered, or of what counts, of each kind of things.
@@ -194,19 +199,10 @@ fn is_less(shares: &Shares, least: u64) -> bool
 
 /// Whether less than this part of all that counts is covered, in percent. What is covered and what counts are the sums
 /// of the numbers in the last line of the report. Where nothing counts, all of it is covered.
-///
-/// # Errors
-/// When memory runs out.
-pub fn is_below(
-    alloc: Global,
-    system: &System,
-    marks: &Marks,
-    least: u64,
-) -> Result<bool, AllocError>
-    ensures { IfOk result (λ below. below ≡ is_below system.now least marks.now) }
+pub fn is_below(system: &System, marks: &Marks, least: u64) -> bool
+    ensures { result ≡ is_below system.now least marks.now }
 {
-    let shares = shares_of(alloc, system, marks)?;
-    Ok(is_less(&shares, least))
+    is_less(&shares_of(system, marks), least)
 }
 
 /// Adds a word, and then how many of how many are covered.

@@ -230,17 +230,12 @@ fn put_cut(alloc: Global, text: &mut Vec<u8>, cut: u64, traces: usize) -> Result
 }
 
 /// Whether traces cover less than a call asks for.
-fn is_too_little(
-    alloc: Global,
-    system: &System,
-    coverage: &Coverage<'_>,
-    marks: &Marks,
-) -> Result<bool, AllocError>
-    ensures { IfOk result (λ b. b ≡ spec.is_too_little system.now coverage.now.least marks.now) }
+fn is_too_little(system: &System, coverage: &Coverage<'_>, marks: &Marks) -> bool
+    ensures { result ≡ spec.is_too_little system.now coverage.now.least marks.now }
 {
     match coverage.least {
-        Some(least) => is_below(alloc, system, marks, least),
-        None => Ok(false),
+        Some(least) => is_below(system, marks, least),
+        None => false,
     }
 }
 
@@ -261,8 +256,8 @@ fn report<S: Streams>(
     let gleaned = cover_all(alloc, system, coverage, note, source)?;
     let mut text = report_of(alloc, system, &gleaned.marks)?;
     put_cut(alloc, &mut text, gleaned.cut, coverage.traces.len())?;
-    let is_too_little = is_too_little(alloc, system, coverage, &gleaned.marks)?;
-    Ok((text, is_too_little))
+    let below = is_too_little(system, coverage, &gleaned.marks);
+    Ok((text, below))
 }
 
 /// How a call ends that has written a report: by whether traces cover less than it asks for.

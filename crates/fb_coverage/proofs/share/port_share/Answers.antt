@@ -1,7 +1,8 @@
 use Rattle.fb_types.proofs.Common.{◌<◌, ◌≤◌, ◌+◌, ◌∷◌, ℕ, List, [], drop, sym, ap, ◌∙◌, subst, at_drop_all, system_of, Path, path_at}
 use Rattle.fb_coverage.specs.Listed.{listed}
-use Rattle.fb_coverage.specs.Shares.{counted_row, with_row, with_rows}
+use Rattle.fb_coverage.specs.Shares.{added, counted_row, with_rows}
 use Rattle.fb_coverage.specs.declared.share.Share.{Share}
+use Rattle.fb_coverage.proofs.lemmas.Counting.{row_added}
 use Rattle.fb_coverage.proofs.lemmas.Listed.{here_is, listed_here}
 use Rattle.fb_coverage.proofs.share.port_share.Goals as goal
 
@@ -20,7 +21,7 @@ loop-instance-preserved c =
     let f = λ (k : ℕ) (p : Path). counted_row lib sys c.args.marks.now k p ∷ [] in
     let share = c.loop-instance.share in
     let within = subst (λ (n : ℕ). i < n) c.count-instance-end.ensures c.loop-instance-test.true in
-    ap (λ (s : Share). with_rows s (listed f (i + 1) (drop (i + 1) sys.paths))) (c.count.ensures ∙ ap (with_row share) (c.as_slice.ensures.value ∙ c.in_ok-row.ensures))
+    ap (λ (s : Share). with_rows s (listed f (i + 1) (drop (i + 1) sys.paths))) (c.add.ensures ∙ ap (added share) c.instance_share-own.ensures ∙ row_added share (counted_row lib sys c.args.marks.now i (path_at sys i)))
     ∙ ap (with_rows share) (sym (listed_here f sys.paths i (path_at sys i) within (here_is sys.paths i [] within)))
     ∙ c.loop-instance.invariant
 

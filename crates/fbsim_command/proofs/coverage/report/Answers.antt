@@ -25,10 +25,5 @@ returns-clause-report g c = (
   c.in_ok-gleaned.ensures.covered,
   report_is c.args.system.now c.args.coverage.now c.in_ok-gleaned.gleaned c.in_ok-text.text.items c.put_cut.new.text.items c.len.result c.in_ok-text.ensures c.in_ok-put_cut.ensures
       (c.len.ensures ∙ c.args.coverage.now.traces.ok.0),
-  c.in_ok-is_too_little.ensures,
+  c.is_too_little-below.ensures,
 )
-
-pub returns-in_err-is_too_little-clause-stopped : goal.returns-in_err-is_too_little-clause-stopped
-returns-in_err-is_too_little-clause-stopped g c =
-    passed-on c.from_residual-in_err-is_too_little.result Memory (AreStopped g.S.Streams.opens c.args.system.now c.args.coverage.now c.args.source.now c.cover_all.new.source)
-    c.from_residual-in_err-is_too_little.ensures.1 tt
