@@ -10,3 +10,4 @@ pub mod ResumedWalks
 pub mod TypePorts
 pub mod PlacesOfPositions
 pub mod LinesAndColumns
+pub mod OneReading

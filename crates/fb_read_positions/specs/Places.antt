@@ -1,11 +1,11 @@
 -- Places in a text, with their lines and columns (this project's own).
-use Rattle.std.specs.Prelude.{◌≡◌, ◌≤◌, ℕ, Option, Some, None, IfSome, ◌+◌, ◌==◌, not, length, take, count_by}
+use Rattle.std.specs.Prelude.{◌≡◌, ◌≤◌, ℕ, Option, Some, None, MatchOption, ◌+◌, ◌==◌, not, length, take, count_by}
 use Rattle.std.specs.List.{suffix_len}
 use Rattle.fb_read.specs.Blank.{Text}
 use Rattle.fb_read.specs.Tokens.{after_mark}
 use Rattle.fb_read.specs.declared.token.Span.{Span}
 use Rattle.fb_types.specs.declared.library.Library.{Library}
-use Rattle.fb_read_positions.specs.Spans.{IsAt}
+use Rattle.fb_read_positions.specs.Spans.{IsAt, IsNowhere}
 use Rattle.fb_read_positions.specs.declared.position.Position.{Position}
 use Rattle.fb_read_positions.specs.declared.places.Counted.{Counted}
 use Rattle.fb_read_positions.specs.declared.places.Place.{Place}
@@ -50,7 +50,7 @@ pub record IsPlaceAt (text : Text) (library : Library) (position : Position) (pl
   pub there : IsStretch span.start span.end place
   pub located : IsPlace text place
 
--- The place is that of the position. Where there is no position, there is no place.
+-- The place is that of the position. There is none if nothing is at the position, and for no position.
 abbrev pub IsPlaceFor : Text → Library → Option Position → Option Place → Type 0
 IsPlaceFor text library None place = place ≡ None
-IsPlaceFor text library (Some position) place = IfSome place (IsPlaceAt text library position)
+IsPlaceFor text library (Some position) place = MatchOption place (IsNowhere text library position) (IsPlaceAt text library position)

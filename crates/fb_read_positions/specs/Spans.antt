@@ -24,6 +24,7 @@ use Rattle.fb_read.specs.Front.{front}
 use Rattle.fb_read.specs.Located.{AreLocated}
 use Rattle.fb_read.specs.Refusals.{IsNext}
 use Rattle.fb_read.specs.Tokens.{Tokens, tokens_of, after_mark}
+use Rattle.fb_read.specs.Whole.{IsLibraryText}
 use Rattle.fb_read_positions.specs.declared.position.BasicPart.{BasicPart}
 use Rattle.fb_read_positions.specs.declared.position.BasicPart.TheVariants as basic_part
 use Rattle.fb_read_positions.specs.declared.position.ConnectionPart.{ConnectionPart}
@@ -145,3 +146,11 @@ pub record IsAt (text : Text) (library : Library) (position : Position) (span : 
   pub reached : to_position position (tokens_of placed) ≡ Ok (tt, here)
   pub next : IsNext (drop (length placed - length here) placed) text span.start span.end
   pub named : IsNamed text (name_at position library) span
+
+-- the text declares no library
+abbrev pub DeclaresNothing : Text → Type 0
+DeclaresNothing text = (library : Library) → IsLibraryText text library → ⊥
+
+-- If the text declares the library, nothing in it is at the position.
+abbrev pub IsNowhere : Text → Library → Position → Type 0
+IsNowhere text library position = IsLibraryText text library → (span : Span) → IsAt text library position span → ⊥

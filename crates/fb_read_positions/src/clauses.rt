@@ -1,11 +1,11 @@
 //! Clauses of IFs and REPEATs. They are searched in the tokens themselves: a clause may be far from the beginning of its
 //! statement, and the statements between them are not read.
 
-ghost use Rattle.std.specs.Prelude.{◌≡◌, ◌≤◌, ◌<◌, ◌^◌, ◌∷◌, ◌||◌, [], IfSome, length};
+ghost use Rattle.std.specs.Prelude.{◌≡◌, ◌≤◌, ◌<◌, ◌^◌, ◌∷◌, ◌||◌, [], length};
 ghost use Rattle.fb_read.specs.Parser.{is_mark};
 ghost use Rattle.fb_read.specs.Tokens.{tokens_of};
 ghost use Rattle.fb_read.specs.Whole.{most_bytes};
-ghost use Rattle.fb_read_positions.specs.Resumed.{Leaves};
+ghost use Rattle.fb_read_positions.specs.Resumed.{Leads};
 ghost use Rattle.fb_read_positions.specs.Walks as spec;
 
 use fb_read::token::{Located, Mark, Token};
@@ -84,7 +84,7 @@ fn depth_at(tokens: &[Located]) -> usize
 /// `None` if there is no such clause.
 pub(crate) fn clause_left(tokens: &[Located], count: usize) -> Option<usize>
     requires { length tokens.now ≤ most_bytes }
-    ensures { IfSome result (Leaves (spec.pass_clauses count) tokens.now) }
+    ensures { Leads (spec.pass_clauses count) tokens.now result }
 {
     let mut depth = depth_at(tokens);
     let mut before = count;

@@ -1,6 +1,6 @@
 //! Finds a position of a declaration in its text.
 
-ghost use Rattle.std.specs.Prelude.{◌≡◌, ◌≤◌, ◌<◌, ◌^◌, ◌-◌, IfOk, IfSome, IsTrue, List, Ok, length, drop};
+ghost use Rattle.std.specs.Prelude.{◌≡◌, ◌≤◌, ◌<◌, ◌^◌, ◌-◌, ◌↔◌, IfNone, IfOk, IfSome, IsTrue, List, MatchOption, Ok, length, drop};
 ghost use Rattle.std.specs.Option.{option_copied};
 ghost use Rattle.fb_read.specs.declared.token.Located.{Located};
 ghost use Rattle.fb_read.specs.declared.token.Token.TheVariants as variant;
@@ -8,13 +8,14 @@ ghost use Rattle.fb_read.specs.Located.{AreLocated};
 ghost use Rattle.fb_read.specs.Refusals.{IsNext};
 ghost use Rattle.fb_read.specs.Tokens.{after_mark};
 ghost use Rattle.fb_read.specs.Whole.{most_bytes};
-ghost use Rattle.fb_read_positions.specs.Spans.{IsAt, IsNamed};
+ghost use Rattle.fb_read_positions.specs.Spans.{DeclaresNothing, IsAt, IsNamed, IsNowhere};
 ghost use Rattle.fb_read_positions.specs.Resumed.{IsReached};
 
 use crate::names::name_at;
 use crate::position::Position;
 use crate::resume::{Reached, beginning, reach};
-use fb_read::front::front;
+use fb_read::ReadFault;
+use fb_read::front::{LexFault, front};
 use fb_read::read::span_before;
 use fb_read::token::{Located, Span, Token};
 use fb_read::tokens::lex;
@@ -23,7 +24,7 @@ use std::alloc::{AllocError, Global};
 
 /// Whether a token is this name.
 fn is_name(token: &Token, name: &Name) -> bool
-    ensures { IsTrue result → token.now ≡ variant.Name name.now }
+    ensures { IsTrue result ↔ (token.now ≡ variant.Name name.now) }
 {
     match token {
         Token::Name(found) => found.is(name),
@@ -34,38 +35,42 @@ fn is_name(token: &Token, name: &Name) -> bool
 /// Whether the first of these tokens, which is at these bytes, is the name that is asked for, if one is.
 fn is_named(alloc: Global, text: &[u8], span: Span, name: Option<&Name>) -> Result<bool, AllocError>
     requires { (left : List Located) × IsNext left text.now span.start span.end }
-    ensures { IfOk result (λ b. IsTrue b → IsNamed text.now (option_copied name.entry) span) }
+    ensures { IfOk result (λ b. IsTrue b ↔ IsNamed text.now (option_copied name.entry) span) }
 {
     let Some(name) = name else {
         return Ok(true);
     };
-    // It has been read before, so it fails for memory alone.
     match front(alloc, &text[span.start..]) {
         Ok((token, _len)) => {
             let found = is_name(&token, name);
             drop(token);
             Ok(found)
         }
-        Err(_) => Err(AllocError),
+        Err(LexFault::Memory) => Err(AllocError),
+        // No token is there, as at the end of the text.
+        Err(LexFault::Byte) => Ok(false),
+        Err(LexFault::Token) => Ok(false),
     }
 }
 
-/// The tokens of a text that was read before, for the bytes at positions in it.
+/// The tokens of a text, for the bytes at positions in it. `None` if the text is refused for a byte, a token or its
+/// length.
 ///
 /// # Errors
 ///
 /// When memory runs out.
-pub fn tokens_of(alloc: Global, text: &[u8]) -> Result<Items<Located>, AllocError>
-    ensures few { IfOk result (λ tokens. length tokens ≤ most_bytes) }
-    ensures located { IfOk result (λ tokens. AreLocated text.now tokens (after_mark text.now)) }
+pub fn tokens_of(alloc: Global, text: &[u8]) -> Result<Option<Items<Located>>, AllocError>
+    ensures few { IfOk result (λ o. IfSome o (λ tokens. length tokens ≤ most_bytes)) }
+    ensures located { IfOk result (λ o. IfSome o (λ tokens. AreLocated text.now tokens (after_mark text.now))) }
+    ensures none { IfOk result (λ o. IfNone o (DeclaresNothing text.now)) }
 {
-    // It has been read before, so it is short, and fails for memory alone.
     if text.len() > MOST_BYTES {
-        return Err(AllocError);
+        return Ok(None);
     }
     match lex(alloc, text) {
-        Ok(tokens) => Ok(tokens),
-        Err(_) => Err(AllocError),
+        Ok(tokens) => Ok(Some(tokens)),
+        Err(ReadFault::Memory) => Err(AllocError),
+        Err(ReadFault::Refused(_refusal)) => Ok(None),
     }
 }
 
@@ -100,7 +105,7 @@ pub(crate) fn span_from(
     requires few { length tokens.now ≤ most_bytes }
     requires located { AreLocated text.now tokens.now (after_mark text.now) }
     requires reached { IsReached tokens.now reached }
-    ensures found { IfOk result (λ f. IfSome f.span (IsAt text.now library.now position)) }
+    ensures found { IfOk result (λ f. MatchOption f.span (IsNowhere text.now library.now position) (IsAt text.now library.now position)) }
     ensures reached { IfOk result (λ f. IsReached tokens.now f.reached) }
 {
     let Some(stop) = reach(alloc, tokens, reached, position)? else {
@@ -111,7 +116,8 @@ pub(crate) fn span_from(
     };
     let reached = stop.reached;
     let span = span_before(alloc, text, tokens, stop.left)?;
-    if is_named(alloc, text, span, name_at(position, library))? {
+    let is_there = is_named(alloc, text, span, name_at(position, library))?;
+    if is_there {
         Ok(Found {
             span: Some(span),
             reached,
@@ -129,16 +135,18 @@ pub(crate) fn span_from(
 ///
 /// # Errors
 ///
-/// When memory runs out, or if the text can't be read.
+/// When memory runs out.
 pub fn span_of(
     alloc: Global,
     text: &[u8],
     library: &Library,
     position: Position,
 ) -> Result<Option<Span>, AllocError>
-    ensures { IfOk result (λ o. IfSome o (IsAt text.now library.now position)) }
+    ensures { IfOk result (λ o. MatchOption o (IsNowhere text.now library.now position) (IsAt text.now library.now position)) }
 {
-    let tokens = tokens_of(alloc, text)?;
+    let Some(tokens) = tokens_of(alloc, text)? else {
+        return Ok(None);
+    };
     let found = span_from(
         alloc,
         text,

@@ -88,7 +88,7 @@ pub fn is_keyword(alloc: Global, token: &[u8]) -> bool {
     if !is_letter(*first) {
         return false;
     }
-    let Ok(tokens) = tokens_of(alloc, token) else {
+    let Ok(Some(tokens)) = tokens_of(alloc, token) else {
         return false;
     };
     let found = matches!(

@@ -73,7 +73,7 @@ pub fn push_else_if(alloc: Global, message: &mut Text, before: &[u8], expected: 
     if !is_among(b"END_IF", expected) {
         return;
     }
-    let Ok(tokens) = tokens_of(alloc, before) else {
+    let Ok(Some(tokens)) = tokens_of(alloc, before) else {
         return;
     };
     if has_else_if(tokens.as_slice()) {

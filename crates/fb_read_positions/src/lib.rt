@@ -4,10 +4,11 @@
 //!
 //! Guarantees to callers. `find::span_of`: the bytes are those of a token of the text. The parser of `fb_read` reads
 //! the tokens before it as the entries before the position. If the library has a name at the position, the token is
-//! this name. `position_places`: a place has the line and the column of the token at its position. `finding_positions`:
-//! a finding is shown at the position of what it is about, and what is given twice at its later occurrence.
-//! `lookup::BlockTypes` has the ports of the type that a name represents. The words of `headings`, `hints` and
-//! `habits`, and what `source_line` shows, are not part of any contract.
+//! this name. If no bytes are found, no such token is in a text that declares the library. `position_places`: a place
+//! has the line and the column of the token at its position. `finding_positions`: a finding is shown at the position of
+//! what it is about, and what is given twice at its later occurrence. `lookup::BlockTypes` has the ports of the type
+//! that a name represents. The words of `headings`, `hints` and `habits`, and what `source_line` shows, are not part of
+//! any contract.
 //!
 //! Read in this order: `position`; `lists`, the item to which a position belongs; `step`, `network`, `ports`, `basic`
 //! and `walk`, the way to it; `statements` and `clauses`, which are searched in the tokens; `resume`, from one

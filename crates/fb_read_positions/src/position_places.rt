@@ -1,13 +1,13 @@
 //! Where a position is in the text of a declaration, with its line and its column.
 
-ghost use Rattle.std.specs.Prelude.{◌≤◌, List, IfOk, IfSome, length};
+ghost use Rattle.std.specs.Prelude.{◌≤◌, List, IfOk, IfSome, MatchOption, Some, length};
 ghost use Rattle.std.specs.List.{AllZip};
 ghost use Rattle.fb_read.specs.Located.{AreLocated};
 ghost use Rattle.fb_read.specs.Tokens.{after_mark};
 ghost use Rattle.fb_read.specs.Whole.{most_bytes};
 ghost use Rattle.fb_read.specs.declared.token.Located.{Located};
-ghost use Rattle.fb_read_positions.specs.Places.{IsPlace, IsPlaceAt, IsPlaceFor};
-ghost use Rattle.fb_read_positions.specs.Spans.{IsAt};
+ghost use Rattle.fb_read_positions.specs.Places.{IsPlace, IsPlaceFor};
+ghost use Rattle.fb_read_positions.specs.Spans.{DeclaresNothing, IsAt, IsNowhere};
 ghost use Rattle.fb_read_positions.specs.declared.position.Position.{Position};
 ghost use Rattle.fb_types.specs.declared.library.Library.{Library};
 
@@ -30,7 +30,7 @@ pub fn place_at(
     library: &Library,
     position: Position,
 ) -> Result<Option<Place>, AllocError>
-    ensures { IfOk result (λ o. IfSome o (IsPlaceAt declaration.now library.now position)) }
+    ensures { IfOk result (IsPlaceFor declaration.now library.now (Some position)) }
 {
     let span = span_of(alloc, declaration, library, position)?;
     Ok(place_of(declaration, None, span))
@@ -39,7 +39,7 @@ pub fn place_at(
 /// The place of these bytes, if there are any, with lines that are counted on from an earlier place.
 fn place_of(declaration: &[u8], earlier: Option<Place>, span: Option<Span>) -> Option<Place>
     requires { IfSome earlier (IsPlace declaration.now) }
-    ensures { (position : Position) (library : Library) → IfSome span (IsAt declaration.now library position) → IfSome result (IsPlaceAt declaration.now library position) }
+    ensures { (position : Position) (library : Library) → MatchOption span (IsNowhere declaration.now library position) (IsAt declaration.now library position) → IsPlaceFor declaration.now library (Some position) result }
 {
     match span {
         Some(span) => place_counted_from(declaration, earlier, span.start, span.end),
@@ -76,6 +76,22 @@ fn places_among(
     Ok(places)
 }
 
+/// No place for any of these positions. The text declares no library.
+fn no_places(
+    alloc: Global,
+    declaration: &[u8],
+    positions: &[Option<Position>],
+) -> Result<Vec<Option<Place>>, AllocError>
+    requires { DeclaresNothing declaration.now }
+    ensures { (library : Library) → IfOk result (λ places. AllZip (IsPlaceFor declaration.now library) positions.now places.items) }
+{
+    let mut places = Vec::with_capacity(alloc, positions.len())?;
+    for _position in positions {
+        places.push_reserved(None);
+    }
+    Ok(places)
+}
+
 /// Where positions of a library are in the text that declares it, each at the index of its position. `None` stands for
 /// no position and no place. The text is read again for that; positions that follow the order of a list are found by
 /// one walk.
@@ -91,7 +107,9 @@ pub fn places_of(
 ) -> Result<Vec<Option<Place>>, AllocError>
     ensures { IfOk result (λ places. AllZip (IsPlaceFor declaration.now library.now) positions.now places.items) }
 {
-    let tokens = tokens_of(alloc, declaration)?;
+    let Some(tokens) = tokens_of(alloc, declaration)? else {
+        return no_places(alloc, declaration, positions);
+    };
     let places = places_among(alloc, declaration, tokens.as_slice(), library, positions);
     discard(tokens);
     places

@@ -1,11 +1,13 @@
 //! Positions one after another: a position goes on from where an earlier one of the same list was.
 
-ghost use Rattle.std.specs.Prelude.{◌≡◌, ◌≤◌, ◌-◌, List, IfOk, IfSome, IsTrue, Ok, drop, length};
+ghost use Rattle.std.specs.Prelude.{◌≡◌, ◌≤◌, ◌-◌, List, IfOk, IfSome, IsTrue, drop, length};
+ghost use Rattle.fb_read.specs.Parser.{Reads};
+ghost use Rattle.fb_read.specs.Tokens.{Tokens, tokens_of};
 ghost use Rattle.fb_read.specs.Whole.{most_bytes};
 ghost use Rattle.fb_read.specs.declared.token.Located.{Located};
-ghost use Rattle.fb_read_positions.specs.Resumed.{IsAhead, IsListed, IsReached, IsStop, Leaves};
+ghost use Rattle.fb_read_positions.specs.Resumed.{IsAhead, IsListed, IsReached, IsStop, Leads, StopsAt};
 ghost use Rattle.fb_read_positions.specs.Walks as spec;
-ghost use Rattle.fb_read_positions.specs.Walks.{to_item, to_item_if, to_owner, to_position};
+ghost use Rattle.fb_read_positions.specs.Walks.{Walk, to_item, to_item_if, to_owner, to_position};
 
 use crate::clauses::clause_left;
 use crate::lists::{InnerList, Item, ItemList, OuterList, is_same, item_of, owner_of};
@@ -69,14 +71,16 @@ fn last(tokens: &[Located], left: usize) -> &[Located]
     &tokens[index..]
 }
 
-/// The number of tokens that are left, if everything before them was read, and memory did not run out for it.
+/// The number of tokens that are left, if everything before them was read. `None` if it was refused.
 fn left_if(read: Result<(), ParseFault>, left: usize) -> Result<Option<usize>, AllocError>
-    ensures { IfOk result (λ o. IfSome o (λ n. (read ≡ Ok tt) × (n ≡ left))) }
+    ensures { (walk : Walk) → (tokens : List Located) → (rest : Tokens) → Reads (walk (tokens_of tokens)) read rest → left ≡ length rest → IfOk result (Leads walk tokens) }
 {
     match read {
         Ok(()) => Ok(Some(left)),
-        Err(ParseFault::Memory) => Err(AllocError),
-        Err(_) => Ok(None),
+        Err(fault) => match fault {
+            ParseFault::Memory => Err(AllocError),
+            _ => Ok(None),
+        },
     }
 }
 
@@ -137,7 +141,7 @@ fn with_list(reached: Reached, listed: Listed) -> Reached
 
 /// The end of a walk up to an item, if this number of tokens is left there.
 fn stop_at(reached: Reached, item: Item, left: Option<usize>) -> Option<Stop>
-    ensures { (tokens : List Located) → IsReached tokens reached → IfSome left (Leaves (to_item item) tokens) → IfSome result (IsStop tokens (to_item item)) }
+    ensures { (tokens : List Located) → IsReached tokens reached → Leads (to_item item) tokens left → StopsAt tokens (to_item item) result }
 {
     let left = left?;
     Some(Stop {
@@ -154,7 +158,7 @@ fn left_past(
     count: usize,
 ) -> Result<Option<usize>, AllocError>
     requires { length tokens.now ≤ most_bytes }
-    ensures { IfOk result (λ o. IfSome o (Leaves (spec.pass steps.now count) tokens.now)) }
+    ensures { IfOk result (Leads (spec.pass steps.now count) tokens.now) }
 {
     let mut cursor = Cursor::new(alloc, tokens);
     left_if(pass(&mut cursor, steps, count), cursor.left())
@@ -167,7 +171,7 @@ fn left_past_actions(
     count: usize,
 ) -> Result<Option<usize>, AllocError>
     requires { length tokens.now ≤ most_bytes }
-    ensures { IfOk result (λ o. IfSome o (Leaves (spec.pass_actions count) tokens.now)) }
+    ensures { IfOk result (Leads (spec.pass_actions count) tokens.now) }
 {
     let mut cursor = Cursor::new(alloc, tokens);
     left_if(pass_actions(&mut cursor, count), cursor.left())
@@ -180,7 +184,7 @@ fn left_at_name(
     index: usize,
 ) -> Result<Option<usize>, AllocError>
     requires { length tokens.now ≤ most_bytes }
-    ensures { IfOk result (λ o. IfSome o (Leaves (λ ts. spec.to_name ts index) tokens.now)) }
+    ensures { IfOk result (Leads (λ ts. spec.to_name ts index) tokens.now) }
 {
     let mut cursor = Cursor::new(alloc, tokens);
     left_if(to_name(&mut cursor, index), cursor.left())
@@ -195,7 +199,7 @@ fn left_past_inner(
     count: usize,
 ) -> Result<Option<usize>, AllocError>
     requires { length tokens.now ≤ most_bytes }
-    ensures { IfOk result (λ o. IfSome o (Leaves (spec.pass_inner list count) tokens.now)) }
+    ensures { IfOk result (Leads (spec.pass_inner list count) tokens.now) }
 {
     let comma = Step::Mark(Mark::Comma);
     match list {
@@ -215,7 +219,7 @@ fn left_past_items(
     count: usize,
 ) -> Result<Option<usize>, AllocError>
     requires { length tokens.now ≤ most_bytes }
-    ensures { IfOk result (λ o. IfSome o (Leaves (spec.pass_items list count) tokens.now)) }
+    ensures { IfOk result (Leads (spec.pass_items list count) tokens.now) }
 {
     match list {
         ItemList::Outer(list) => left_past(alloc, tokens, past_outer(list), count),
@@ -231,7 +235,7 @@ fn left_at_first(
     list: ItemList,
 ) -> Result<Option<usize>, AllocError>
     requires { length tokens.now ≤ most_bytes }
-    ensures { IfOk result (λ o. IfSome o (Leaves (spec.to_first list) tokens.now)) }
+    ensures { IfOk result (Leads (spec.to_first list) tokens.now) }
 {
     let mut cursor = Cursor::new(alloc, tokens);
     left_if(to_first(&mut cursor, list), cursor.left())
@@ -265,7 +269,7 @@ fn reach_within(
 ) -> Result<Option<Stop>, AllocError>
     requires few { length tokens.now ≤ most_bytes }
     requires owner { IsStop tokens.now (to_owner item.list) owner }
-    ensures { IfOk result (λ o. IfSome o (IsStop tokens.now (to_item item))) }
+    ensures { IfOk result (StopsAt tokens.now (to_item item)) }
 {
     let here = last(tokens, owner.left);
     let Some(first) = left_at_first(alloc, here, item.list)? else {
@@ -285,7 +289,7 @@ fn reach_item(
 ) -> Result<Option<Stop>, AllocError>
     requires few { length tokens.now ≤ most_bytes }
     requires reached { IsReached tokens.now reached }
-    ensures { IfOk result (λ o. IfSome o (IsStop tokens.now (to_item_if item))) }
+    ensures { IfOk result (StopsAt tokens.now (to_item_if item)) }
 {
     let Some(item) = item else {
         return Ok(Some(Stop {
@@ -311,7 +315,7 @@ pub(crate) fn reach(
 ) -> Result<Option<Stop>, AllocError>
     requires few { length tokens.now ≤ most_bytes }
     requires reached { IsReached tokens.now reached }
-    ensures { IfOk result (λ o. IfSome o (IsStop tokens.now (to_position position))) }
+    ensures { IfOk result (StopsAt tokens.now (to_position position)) }
 {
     let Some(at_item) = reach_item(alloc, tokens, reached, item_of(position))? else {
         return Ok(None);

@@ -1,12 +1,12 @@
 //! Statements. They are searched in the tokens themselves: a CASE may have thousands of labels, and between statements
 //! each token is passed in a few instructions.
 
-ghost use Rattle.std.specs.Prelude.{◌≡◌, ◌≤◌, ◌∷◌, [], true, IfSome, length};
+ghost use Rattle.std.specs.Prelude.{◌≡◌, ◌≤◌, ◌∷◌, [], true, length};
 ghost use Rattle.fb_read.specs.Parser.{is_mark};
 ghost use Rattle.fb_read.specs.Statements.{begins_statement};
 ghost use Rattle.fb_read.specs.Tokens.{tokens_of};
 ghost use Rattle.fb_read.specs.Whole.{most_bytes};
-ghost use Rattle.fb_read_positions.specs.Resumed.{Leaves};
+ghost use Rattle.fb_read_positions.specs.Resumed.{Leads};
 ghost use Rattle.fb_read_positions.specs.Walks as spec;
 
 use fb_read::cursor::Cursor;
@@ -49,7 +49,7 @@ fn begins(alloc: Global, tokens: &[Located]) -> bool
 /// `None` if there is no such statement.
 pub(crate) fn statement_left(alloc: Global, tokens: &[Located], count: usize) -> Option<usize>
     requires { length tokens.now ≤ most_bytes }
-    ensures { IfSome result (Leaves (λ ts. spec.to_statement ts true count) tokens.now) }
+    ensures { Leads (λ ts. spec.to_statement ts true count) tokens.now result }
 {
     let mut ready = true;
     let mut before = count;

@@ -1,11 +1,13 @@
 //! Where the operation of a stop is in the text of the declaration.
 
-ghost use Rattle.std.specs.Prelude.{◌≡◌, ◌<◌, ◌-◌, ◌+◌, IfOk, IfSome, drop, Some};
+ghost use Rattle.std.specs.Prelude.{◌≡◌, ◌≤◌, ◌+◌, IfNone, IfOk, IfSome, MatchOption, length};
 ghost use Rattle.fb_read.specs.Located.{AreLocated};
-ghost use Rattle.fb_read.specs.Refusals.{IsNext};
 ghost use Rattle.fb_read.specs.Tokens.{after_mark};
+ghost use Rattle.fb_types.specs.declared.library.Library.{Library};
+ghost use Rattle.fb_read_positions.specs.Spans.{IsAt};
+ghost use Rattle.fb_read_positions.specs.declared.position.Position.{Position};
 ghost use Rattle.fb_stop.specs.Shown as spec;
-ghost use Rattle.fb_stop.specs.Shown.{IsAssignedShown, IsOperationShown, IsShownAmong, IsStopShown, IsTokenAt};
+ghost use Rattle.fb_stop.specs.Shown.{HasNoToken, IsAssignedShown, IsOperationShown, IsShownAmong, IsShownOrNot, IsStopShown, IsTokenAt, IsTokenOf, IsUnshown, IsUnshownAmong};
 
 use crate::found::{FoundStop, StopSite};
 use crate::place::position_of;
@@ -30,7 +32,7 @@ pub struct Shown {
 
 /// The index of the token at an offset.
 fn token_at(tokens: &[Located], offset: usize) -> Option<usize>
-    ensures { IfSome result (IsTokenAt tokens.now offset) }
+    ensures { MatchOption result (HasNoToken tokens.now offset) (IsTokenAt tokens.now offset) }
 {
     for (index, token) in tokens.iter().enumerate() {
         if token.index == offset {
@@ -40,7 +42,7 @@ fn token_at(tokens: &[Located], offset: usize) -> Option<usize>
     None
 }
 
-/// The bytes of the token at an index, if there is one.
+/// The bytes of the token that is this many tokens after another, if there is one.
 fn span_at(
     alloc: Global,
     text: &[u8],
@@ -49,14 +51,14 @@ fn span_at(
     offset: usize,
 ) -> Result<Option<Span>, AllocError>
     requires { AreLocated text.now tokens.now (after_mark text.now) }
-    ensures { IfOk result (λ o. IfSome o (λ span. IsNext (drop (begin + offset) tokens.now) text.now span.start span.end)) }
+    ensures { IfOk result (λ o. MatchOption o (length tokens.now ≤ begin + offset) (λ span. IsTokenOf text.now tokens.now (begin + offset) span.start span.end)) }
 {
-    match begin.checked_add(offset) {
-        Some(index) if index < tokens.len() => {
-            let span = span_before(alloc, text, tokens, tokens.len() - index)?;
-            Ok(Some(span))
-        }
-        _ => Ok(None),
+    let after = tokens.len().saturating_sub(begin);
+    if offset < after {
+        let span = span_before(alloc, text, tokens, after - offset)?;
+        Ok(Some(span))
+    } else {
+        Ok(None)
     }
 }
 
@@ -69,7 +71,7 @@ fn shown_from(
     operation: Operation,
 ) -> Result<Option<Shown>, AllocError>
     requires { AreLocated text.now tokens.now (after_mark text.now) }
-    ensures { IfOk result (λ o. IfSome o (IsShownAmong text.now tokens.now begin operation)) }
+    ensures { IfOk result (λ o. MatchOption o (IsUnshownAmong text.now tokens.now begin operation) (IsShownAmong text.now tokens.now begin operation)) }
 {
     let last = operation.end.saturating_sub(1);
     let Some(first) = span_at(alloc, text, tokens, begin, operation.first)? else {
@@ -86,6 +88,23 @@ fn shown_from(
         start: first.start,
         end: last.end,
     }))
+}
+
+/// The bytes of an operation whose tokens are counted from the one at these bytes.
+fn shown_in(
+    alloc: Global,
+    text: &[u8],
+    tokens: &[Located],
+    span: Span,
+    operation: Operation,
+) -> Result<Option<Shown>, AllocError>
+    requires { AreLocated text.now tokens.now (after_mark text.now) }
+    ensures { IfOk result (λ o. (library : Library) → (position : Position) → IsAt text.now library position span → IsShownOrNot text.now library position operation o) }
+{
+    match token_at(tokens, span.start) {
+        Some(begin) => shown_from(alloc, text, tokens, begin, operation),
+        None => Ok(None),
+    }
 }
 
 /// The operation of a place in a statement.
@@ -152,7 +171,7 @@ fn shown_with(
     stop: &FoundStop,
     operation: Option<Operation>,
 ) -> Result<Option<Shown>, AllocError>
-    ensures { IfOk result (λ o. IfSome o (IsOperationShown text.now system.now stop.now operation)) }
+    ensures { IfOk result (λ o. MatchOption o (IsUnshown text.now system.now stop.now operation) (IsOperationShown text.now system.now stop.now operation)) }
 {
     let Some(position) = position_of(system, stop) else {
         return Ok(None);
@@ -163,17 +182,16 @@ fn shown_with(
     let Some(span) = span_of(alloc, text, system.library(), position)? else {
         return Ok(None);
     };
-    let tokens = tokens_of(alloc, text)?;
-    let found = match token_at(tokens.as_slice(), span.start) {
-        Some(begin) => shown_from(alloc, text, tokens.as_slice(), begin, operation),
-        None => Ok(None),
+    let Some(tokens) = tokens_of(alloc, text)? else {
+        return Ok(None);
     };
+    let found = shown_in(alloc, text, tokens.as_slice(), span, operation);
     discard(tokens);
     found
 }
 
 /// The operation at which a simulation stops, in the text that declares the system. `None` if no operation is without a
-/// value.
+/// value, or the stop is not one of the system.
 ///
 /// # Errors
 /// When memory runs out.
@@ -183,7 +201,8 @@ pub fn shown_of(
     system: &System,
     stop: &FoundStop,
 ) -> Result<Option<Shown>, AllocError>
-    ensures { IfOk result (λ o. IfSome o (IsStopShown text.now system.now stop.now)) }
+    ensures found { IfOk result (λ o. IfSome o (IsStopShown text.now system.now stop.now)) }
+    ensures none { IfOk result (λ o. IfNone o (IsUnshown text.now system.now stop.now (spec.operation_at stop.now.site))) }
 {
     shown_with(alloc, text, system, stop, operation_at(stop.site))
 }
@@ -195,7 +214,8 @@ pub(crate) fn assigned_of(
     system: &System,
     stop: &FoundStop,
 ) -> Result<Option<Shown>, AllocError>
-    ensures { IfOk result (λ o. IfSome o (IsAssignedShown text.now system.now stop.now)) }
+    ensures found { IfOk result (λ o. IfSome o (IsAssignedShown text.now system.now stop.now)) }
+    ensures none { IfOk result (λ o. IfNone o (IsUnshown text.now system.now stop.now (spec.assigned_at stop.now.site))) }
 {
     shown_with(alloc, text, system, stop, assigned_at(stop.site))
 }

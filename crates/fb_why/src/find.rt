@@ -44,12 +44,12 @@ fn end_of_tokens(alloc: Global, text: &[u8]) -> Option<usize>
     ensures { IfSome result (EndsAt text.now) }
 {
     match tokens_of(alloc, text) {
-        Ok(tokens) => {
+        Ok(Some(tokens)) => {
             let end = end_of_last(alloc, text, tokens.as_slice());
             discard_tokens(tokens);
             end
         }
-        Err(_) => None,
+        Ok(None) | Err(_) => None,
     }
 }
 

@@ -18,6 +18,10 @@ same-found p q e = cc
 not_both : (o : Found) → o ≡ Err bad_byte → (p : Token × ℕ) → o ≡ Ok p → ⊥
 not_both o h p e = cc
 
+-- one token is at the front of a text
+pub front-token : (t u : Token) (m n : ℕ) (o : Found) → o ≡ Ok (t, m) → o ≡ Ok (u, n) → t ≡ u
+front-token t u m n o h k = ap (λ (q : Token × ℕ). q.0) (same-found (t, m) (u, n) (sym h ∙ k))
+
 -- a token that is at these bytes is as long as they are
 pub as_long : (left : List Located) (text : Text) (start end len : ℕ) (n : Name) → IsNext left text start end → IsNameOf (drop start text) n len → IsNameOf (drop start text) n (end - start)
 as_long [] text start end len n next named =

@@ -94,6 +94,12 @@ pub begins_none : (a b : Bool) → b ≡ false → (a && b) ≡ false
 begins_none true b is = is
 begins_none false b is = refl
 
+-- where no token is left, no statement begins
+pub none_stated : (ready : Bool) (n : ℕ) (here : Tokens) → to_statement [] ready n ≡ Ok (tt, here) → ⊥
+unfolding to_statement
+none_stated ready zero here e = cc
+none_stated ready (suc n) here e = cc
+
 -- ---- Clauses
 
 -- none begins where no token is left
@@ -122,6 +128,12 @@ past_no_clause [] depth zero none = refl
 past_no_clause [] depth (suc n) none = refl
 past_no_clause (t ∷ ts) depth zero none = rw none refl
 past_no_clause (t ∷ ts) depth (suc n) none = rw none refl
+
+-- where no token is left, no clause begins
+pub no_clause_begun : (depth n : ℕ) (here : Tokens) → to_clause [] depth n ≡ Ok (tt, here) → ⊥
+unfolding to_clause
+no_clause_begun depth zero here e = cc
+no_clause_begun depth (suc n) here e = cc
 
 -- one more at most
 pub depth_more : (ts : Tokens) (depth : ℕ) → depth_after ts depth ≤ suc depth

@@ -1,5 +1,5 @@
 -- Walks that go on where an earlier one has been.
-use Rattle.fb_types.proofs.Common.{◌≡◌, ◌-◌, ◌+◌, ℕ, zero, suc, Bool, true, false, cond, List, [], ◌∷◌, ◌++◌, map, length, drop, Ok, refl, sym, ◌∙◌, ap, subst, arith, ◌&&◌, length-append, length-map}
+use Rattle.fb_types.proofs.Common.{◌≡◌, ◌-◌, ◌+◌, ℕ, zero, suc, Bool, true, false, cond, List, [], ◌∷◌, ◌++◌, map, length, drop, Option, Ok, refl, sym, ◌∙◌, ap, subst, arith, ◌&&◌, length-append, length-map}
 use Rattle.fb_read.specs.Parser.{◌>>◌, pure}
 use Rattle.fb_read.specs.Statements.{begins_statement}
 use Rattle.fb_read.specs.Tokens.{Tokens, tokens_of}
@@ -8,7 +8,7 @@ use Rattle.fb_read.specs.declared.token.Token.{Token}
 use Rattle.fb_read.specs.declared.token.Token.TheVariants as token
 use Rattle.fb_read.proofs.lemmas.rules.Steps.{both_ok}
 use Rattle.fb_read_positions.specs.Lists.{item_of, owner_of}
-use Rattle.fb_read_positions.specs.Resumed.{IsAhead, IsListed, IsReached, IsStop, Leaves}
+use Rattle.fb_read_positions.specs.Resumed.{IsAhead, IsListed, IsReached, IsStop, Leads, Leaves, Refuses}
 use Rattle.fb_read_positions.specs.Walks.{Walk, begins_clause, depth_after, depth_at, opens, pass, pass_inner, pass_items, past_outer, take_all, to_clause, to_first, to_inner, to_item, to_item_if, to_name, to_outer, to_owner, to_part, to_position, to_statement}
 use Rattle.fb_read_positions.specs.declared.lists.InnerList.{InnerList}
 use Rattle.fb_read_positions.specs.declared.lists.InnerList.TheVariants as inner_list
@@ -23,6 +23,7 @@ use Rattle.fb_read_positions.specs.declared.step.Step.{Step}
 use Rattle.fb_read_positions.proofs.lemmas.ClauseSteps.{depth_there}
 use Rattle.fb_read_positions.proofs.lemmas.EndsOfWalks.{Ends, ends-first, ends-item, ends-item_if, ends-owner, nothing_read}
 use Rattle.fb_read_positions.proofs.lemmas.ReadingLoops.{at_clause, at_statement, pass_more, past_no_clause, past_token, then_on}
+use Rattle.fb_read_positions.proofs.lemmas.TokensLeft.{leads_as}
 
 -- ---- The tokens that are left
 
@@ -155,31 +156,48 @@ item_further l j m ts mid e =
 
 -- from an earlier item of its list
 pub item_after :
-    (ps rest : List Located) (i : Item) (from : Listed) (n : ℕ) → IsListed ps from → IsAhead i from → rest ≡ drop (length ps - from.left) ps
-    → Leaves (pass_items i.list (i.index - from.item.index)) rest n → Leaves (to_item i) ps n
-item_after ps rest i from n listed ahead given passed =
+    (ps rest : List Located) (i : Item) (from : Listed) (o : Option ℕ) → IsListed ps from → IsAhead i from → rest ≡ drop (length ps - from.left) ps
+    → Leads (pass_items i.list (i.index - from.item.index)) rest o → Leads (to_item i) ps o
+item_after ps rest i from o listed ahead given passed =
     let j = from.item.index in
     let there : Leaves (to_item (item_at i.list j)) ps from.left = subst (λ (l : ItemList). Leaves (to_item (item_at l j)) ps from.left) ahead.list_is listed in
     let same : tokens_of rest ≡ there.0 = from_left (to_item (item_at i.list j)) ps from.left (tokens_of rest) (ends-item (item_at i.list j)) there (ap tokens_of given) in
-    let e : to_item i (tokens_of ps) ≡ Ok (tt, passed.0) =
+    let e : to_item i (tokens_of ps) ≡ pass_items i.list (i.index - j) (tokens_of rest) =
     ap (λ k. to_item (item_at i.list k) (tokens_of ps)) (let k : i.index ≡ j + (i.index - j) = omega (arith, ahead.below) in k)
     ∙ item_further i.list j (i.index - j) (tokens_of ps) there.0 there.1
-    ∙ ap (pass_items i.list (i.index - j)) (sym same) ∙ passed.1 in
-    (passed.0, e, passed.2)
+    ∙ ap (pass_items i.list (i.index - j)) (sym same) in
+    leads_as (pass_items i.list (i.index - j)) (to_item i) rest ps o (sym e) passed
 
--- from where what has its list begins: `here` from there on, `rest` from its first item on
-pub item_within :
-    (ps here rest : List Located) (i : Item) (owner n : ℕ) (mid : Tokens) → Leaves (to_owner i.list) ps owner → here ≡ drop (length ps - owner) ps → to_first i.list (tokens_of here) ≡ Ok (tt, mid)
-    → rest ≡ drop (length here - length mid) here → Leaves (pass_items i.list i.index) rest n → Leaves (to_item i) ps n
+-- from where what has its list begins: `here` from there on
+module _ (ps here : List Located) (i : Item) (owner : ℕ) (there : Leaves (to_owner i.list) ps owner) (given : here ≡ drop (length ps - owner) ps) where
+  past_owner : to_item i (tokens_of ps) ≡ (to_first i.list >> pass_items i.list i.index) (tokens_of here)
+  unfolding to_item
+  past_owner =
+      then_on (to_owner i.list (tokens_of ps)) (λ x. to_first i.list >> pass_items i.list i.index) tt there.0 there.1
+      ∙ ap (λ (ts : Tokens). (to_first i.list >> pass_items i.list i.index) ts) (sym (from_left (to_owner i.list) ps owner (tokens_of here) (ends-owner i.list) there (ap tokens_of given)))
+
+  -- `rest` from its first item on
+  pub item_within :
+      (rest : List Located) (mid : Tokens) (o : Option ℕ) → to_first i.list (tokens_of here) ≡ Ok (tt, mid) → rest ≡ drop (length here - length mid) here → Leads (pass_items i.list i.index) rest o
+      → Leads (to_item i) ps o
+  item_within rest mid o first left passed =
+      let begins : tokens_of rest ≡ mid = ap tokens_of left ∙ last_tokens (to_first i.list) here mid (ends-first i.list) first in
+      let e : to_item i (tokens_of ps) ≡ pass_items i.list i.index (tokens_of rest) =
+      past_owner ∙ then_on (to_first i.list (tokens_of here)) (λ x. pass_items i.list i.index) tt mid first ∙ ap (pass_items i.list i.index) (sym begins) in
+      leads_as (pass_items i.list i.index) (to_item i) rest ps o (sym e) passed
+
+  -- the list has no first item
+  pub no_first_item : Refuses (to_first i.list) here → Refuses (to_item i) ps
+  no_first_item none = λ rest e.
+      let w = both_ok (to_first i.list (tokens_of here)) (λ x. pass_items i.list i.index) (tt, rest) (sym past_owner ∙ e) in
+      none w.1 w.2
+
+-- what has its list is not reached
+pub no_owner : (ps : List Located) (i : Item) (w : Walk) → to_owner i.list ≡ w → Refuses w ps → Refuses (to_item i) ps
 unfolding to_item
-item_within ps here rest i owner n mid there given first left passed =
-    let same : tokens_of here ≡ there.0 = from_left (to_owner i.list) ps owner (tokens_of here) (ends-owner i.list) there (ap tokens_of given) in
-    let begins : tokens_of rest ≡ mid = ap tokens_of left ∙ last_tokens (to_first i.list) here mid (ends-first i.list) first in
-    let e : to_item i (tokens_of ps) ≡ Ok (tt, passed.0) =
-    then_on (to_owner i.list (tokens_of ps)) (λ x. to_first i.list >> pass_items i.list i.index) tt there.0 there.1
-    ∙ then_on (to_first i.list there.0) (λ x. pass_items i.list i.index) tt mid (ap (to_first i.list) (sym same) ∙ first)
-    ∙ ap (pass_items i.list i.index) (sym begins) ∙ passed.1 in
-    (passed.0, e, passed.2)
+no_owner ps i w same none = λ rest e.
+    let x = both_ok (to_owner i.list (tokens_of ps)) (λ x. to_first i.list >> pass_items i.list i.index) (tt, rest) e in
+    none x.1 (ap (λ (v : Walk). v (tokens_of ps)) (sym same) ∙ x.2)
 
 -- what has a list, in place of the walk up to it
 pub stop_as : (ps : List Located) (v w : Walk) (s : Stop) → v ≡ w → IsStop ps w s → IsStop ps v s
@@ -211,10 +229,28 @@ taken_once steps ts here e =
     let w = both_ok (take_all steps ts) (λ x. pass steps zero) (tt, here) e in
     w.2 ∙ ap (λ (us : Tokens). Ok (w.0, us)) (nothing_read w.1 here tt w.3)
 
-pub at_position :
-    (ps : List Located) (p : Position) (n : ℕ) (ts here : Tokens) → Leaves (to_item_if (item_of p)) ps n → ts ≡ tokens_of (drop (length ps - n) ps)
-    → take_all (to_part p) ts ≡ Ok (tt, here) → to_position p (tokens_of ps) ≡ Ok (tt, here)
+once_taken : (steps : List Step) (ts here : Tokens) → take_all steps ts ≡ Ok (tt, here) → pass steps 1 ts ≡ Ok (tt, here)
+unfolding pass
+once_taken steps ts here e = pass_more steps zero ts here e
+
+-- the item to which it belongs is not reached
+pub no_item : (ps : List Located) (p : Position) (w : Walk) → to_item_if (item_of p) ≡ w → Refuses w ps → Refuses (to_position p) ps
 unfolding to_position
-at_position ps p n ts here there given e =
-    then_on (to_item_if (item_of p) (tokens_of ps)) (λ x. take_all (to_part p)) tt there.0 there.1
-    ∙ ap (take_all (to_part p)) (sym (from_left (to_item_if (item_of p)) ps n ts (ends-item_if (item_of p)) there given)) ∙ e
+no_item ps p w same none = λ here e.
+    let x = both_ok (to_item_if (item_of p) (tokens_of ps)) (λ x. take_all (to_part p)) (tt, here) e in
+    none x.1 (ap (λ (v : Walk). v (tokens_of ps)) (sym same) ∙ x.2)
+
+module _ (ps : List Located) (p : Position) (n : ℕ) (ts : Tokens) (there : Leaves (to_item_if (item_of p)) ps n) (given : ts ≡ tokens_of (drop (length ps - n) ps)) where
+  past_item : to_position p (tokens_of ps) ≡ take_all (to_part p) ts
+  unfolding to_position
+  past_item =
+      then_on (to_item_if (item_of p) (tokens_of ps)) (λ x. take_all (to_part p)) tt there.0 there.1
+      ∙ ap (take_all (to_part p)) (sym (from_left (to_item_if (item_of p)) ps n ts (ends-item_if (item_of p)) there given))
+
+  pub at_position : (here : Tokens) → take_all (to_part p) ts ≡ Ok (tt, here) → to_position p (tokens_of ps) ≡ Ok (tt, here)
+  at_position here e = past_item ∙ e
+
+  -- the part is not reached
+  pub no_part : (steps : List Step) → steps ≡ to_part p → ((here : Tokens) → pass steps 1 ts ≡ Ok (tt, here) → ⊥) → Refuses (to_position p) ps
+  no_part steps are none = λ here e.
+      none here (once_taken steps ts here (ap (λ (taken : List Step). take_all taken ts) are ∙ (sym past_item ∙ e)))

@@ -3,3 +3,4 @@ pub mod OperationPlaces
 pub mod FirstWithoutValue
 pub mod Insides
 pub mod OutermostOperations
+pub mod OperationTokens

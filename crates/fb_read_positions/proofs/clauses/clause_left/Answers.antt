@@ -1,8 +1,10 @@
-use Rattle.std.proofs.Common.{◌≡◌, ◌≤◌, ℕ, suc, ◌-◌, ◌+◌, [], ◌∷◌, drop, sym, ap, ◌∙◌, arith}
+use Rattle.std.proofs.Common.{◌≡◌, ◌≤◌, ℕ, suc, ◌-◌, ◌+◌, List, [], ◌∷◌, drop, sym, ap, ◌∙◌, arith}
+use Rattle.fb_types.proofs.Common.{drop_all}
 use Rattle.fb_read.specs.Tokens.{tokens_of}
+use Rattle.fb_read.specs.declared.token.Located.{Located}
 use Rattle.fb_read_positions.specs.Walks.{depth_after, to_clause}
 use Rattle.fb_read_positions.proofs.lemmas.ClauseSteps.{clause_here, clause_passed, depth_at_most, left_from, moved_clause, no_clause_passed, other_passed}
-use Rattle.fb_read_positions.proofs.lemmas.ReadingLoops.{depth_more}
+use Rattle.fb_read_positions.proofs.lemmas.ReadingLoops.{depth_more, no_clause_begun}
 use Rattle.fb_read_positions.proofs.clauses.clause_left.Goals.{then-is_of_clauses, then-begins_clause+else-before-eq0, else-begins_clause, else-is_of_clauses}
 use Rattle.fb_read_positions.proofs.clauses.clause_left.Goals as goal
 
@@ -56,3 +58,10 @@ loop-index-preserved c =
         omega (arith, w.depth-is, l.invariant.1),
       )
     ]
+
+pub returns : goal.returns
+returns c = λ here e.
+    let l = c.loop-index in
+    let ps = c.args.tokens.now in
+    let over : drop l.index ps ≡ [] = drop_all l.index ps c.loop-index-test.false in
+    no_clause_begun l.depth l.before here (sym (l.invariant.0 ∙ ap (λ (qs : List Located). to_clause (tokens_of qs) l.depth l.before) over) ∙ e)

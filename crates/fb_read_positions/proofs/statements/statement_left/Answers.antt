@@ -1,10 +1,11 @@
-use Rattle.fb_types.proofs.Common.{◌≡◌, ℕ, suc, ◌-◌, true, false, drop, ap, ◌∙◌, arith, ◌&&◌, length-drop}
+use Rattle.fb_types.proofs.Common.{◌≡◌, ℕ, suc, ◌-◌, true, false, List, [], drop, sym, ap, ◌∙◌, arith, ◌&&◌, drop_all, length-drop}
 use Rattle.fb_read.specs.Statements.{begins_statement}
 use Rattle.fb_read.specs.Tokens.{tokens_of}
+use Rattle.fb_read.specs.declared.token.Located.{Located}
 use Rattle.fb_read_positions.specs.Walks.{to_statement}
 use Rattle.fb_read_positions.proofs.lemmas.ClauseSteps.{left_from}
 use Rattle.fb_read_positions.proofs.lemmas.StatementSteps.{begins_there, statement_passed, token_passed}
-use Rattle.fb_read_positions.proofs.lemmas.ReadingLoops.{at_statement, begins_none, not_ready}
+use Rattle.fb_read_positions.proofs.lemmas.ReadingLoops.{at_statement, begins_none, none_stated, not_ready}
 use Rattle.fb_read_positions.proofs.statements.statement_left.Goals.{then-ready+then-begins+else-before-eq0, else-ready, else-ready-via-then-ready+else-begins, else-ready-via-else-ready}
 use Rattle.fb_read_positions.proofs.statements.statement_left.Goals as goal
 
@@ -41,3 +42,10 @@ loop-index-preserved c =
           ] in
           l.invariant ∙ token_passed ps i x c.loop-index-test.true c.index-tokens-index.is l.ready b l.before c.if-ready.before none c.opens-ready.ensures w.before-is
     ]
+
+pub returns : goal.returns
+returns c = λ here e.
+    let l = c.loop-index in
+    let ps = c.args.tokens.now in
+    let over : drop l.index ps ≡ [] = drop_all l.index ps c.loop-index-test.false in
+    none_stated l.ready l.before here (sym (l.invariant ∙ ap (λ (qs : List Located). to_statement (tokens_of qs) l.ready l.before) over) ∙ e)

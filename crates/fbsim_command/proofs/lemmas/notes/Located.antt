@@ -8,7 +8,7 @@ use Rattle.fb_stop.specs.Places.{IsStopPosition}
 use Rattle.fb_stop.specs.Shown.{IsStopShown}
 use Rattle.fb_stop.specs.declared.found.FoundStop.{FoundStop}
 use Rattle.fb_stop.specs.declared.shown.Shown.{Shown}
-use Rattle.fb_read_positions.specs.Places.{IsPlaceAt, IsPlace, IsStretch}
+use Rattle.fb_read_positions.specs.Places.{IsPlaceAt, IsPlaceFor, IsPlace, IsStretch}
 use Rattle.fbsim_command.specs.Stops.{IsNoteAtStop, IsNoteOfRun, IsNoteOfStop, IsStopPlace}
 use Rattle.fbsim_command.specs.declared.join.FileLines.{FileLines}
 
@@ -39,7 +39,7 @@ hears_no_more old new first heard h = subst (λ (t : List ℕ). Hears heard old 
 
 -- the place of a position
 pub placed : (text : Text) (i : Inputs) (stop : FoundStop) (p : Position) (library : Library) {E : Type 0} (r : Result (Option Place) E) → IsStopPosition i stop p → library ≡ i.library
-    → IfOk r (λ o. IfSome o (IsPlaceAt text library p)) → IfOk r (IsStopPlace text i stop)
+    → IfOk r (IsPlaceFor text library (Some p)) → IfOk r (IsStopPlace text i stop)
 placed text i stop p library (Ok None) is same h = tt
 placed text i stop p library (Ok (Some at)) is same h = inr (p, is, subst (λ (l : Library). IsPlaceAt text l p at) same h)
 placed text i stop p library (Err e) is same h = tt
