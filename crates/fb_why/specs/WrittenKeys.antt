@@ -41,6 +41,10 @@ pub record IsReadAt (text : Text) (key : toml.Key) (span : Span) : Type 0 where
   pub reads : toml.key line ≡ Some (key, rest)
   pub end : span.end + length rest ≡ span.start + length line
 
+-- It is a key that begins with this name.
+abbrev pub IsKeyNamed : Text → (name : Text) → Span → Type 0
+IsKeyNamed text name span = (key : toml.Key) × IsReadAt text key span × (first_part key ≡ name)
+
 -- The bytes begin with a bracket, and end with a key that TOML reads.
 pub record IsHeadingRead (text : Text) (key : toml.Key) (span : Span) : Type 0 where
   pub from : ℕ

@@ -4,6 +4,7 @@ ghost use Rattle.std.specs.Prelude.{IfSome};
 ghost use Rattle.fb_why.specs.InputPlaces as spec;
 ghost use Rattle.fb_why.specs.InputPlaces.{IsFurtherAt, IsKeyOrHeading};
 
+use crate::inline::inline_span;
 use crate::written::written_span;
 use fb_inputs::{TableLocation, heading_span, named_key_span};
 use fb_read::token::Span;
@@ -80,7 +81,10 @@ fn key_or_heading(alloc: Global, bytes: &[u8], table: TableLocation, key: &str) 
             Some(span) => Some(span),
             None => written_span(alloc, bytes, table, key),
         },
-        (None, _) => written_span(alloc, bytes, table, key),
+        (None, _) => match written_span(alloc, bytes, table, key) {
+            Some(span) => Some(span),
+            None => inline_span(alloc, bytes, table, key),
+        },
     }
 }
 

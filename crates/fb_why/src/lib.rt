@@ -10,7 +10,7 @@
 //!
 //! Read in this order: `explanation` and `table`; `cause` and `location`, what each number is about, and where.
 //! Then the bytes: `find`, the refusal of a text and its location; `further`, keys that a table may not have, and
-//! `written`, how TOML writes them. Then a location as text: `messages`, with `contents`. Then `refused`,
+//! `written` and `inline`, how TOML writes them. Then a location as text: `messages`, with `contents`. Then `refused`,
 //! `roots` and `declared`, locations in bytes and in what they declare; `place` and `input_place`, where a location is in
 //! its text; `listing` and `finding`, which reads the bytes again. All of this runs only after a refusal.
 #![tactic(auto)]
@@ -22,6 +22,7 @@ pub mod explanation;
 pub mod find;
 pub mod finding;
 mod further;
+mod inline;
 pub mod input_place;
 pub mod listing;
 pub mod location;

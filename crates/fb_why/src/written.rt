@@ -1,9 +1,10 @@
 //! Keys of a deployment that are not written as their name alone: in quotes, dotted, or in the heading of a table.
+//! `inline` has those of inline tables.
 
 ghost use Rattle.std.specs.Prelude.{◌≡◌, ◌≤◌, IfSome, IsTrue, length, option_map, slice_index};
 ghost use Rattle.toml_parser.specs.Reading.{key_view};
 ghost use Rattle.fb_why.specs.WrittenKeys as spec;
-ghost use Rattle.fb_why.specs.WrittenKeys.{IsFront, IsHeadingRead, IsInHeading, IsOf, IsOpening, IsReadAt, IsWritten};
+ghost use Rattle.fb_why.specs.WrittenKeys.{IsFront, IsHeadingRead, IsInHeading, IsKeyNamed, IsOf, IsOpening, IsReadAt, IsWritten};
 
 use fb_inputs::TableLocation;
 use fb_read::token::Span;
@@ -103,6 +104,19 @@ fn key_at(alloc: Global, text: &[u8], at: usize) -> Option<WrittenKey>
     }
 }
 
+/// The bytes of the key at an offset, if it begins with this name.
+pub(crate) fn named_key_at(alloc: Global, text: &[u8], at: usize, name: &str) -> Option<Span>
+    requires { at ≤ length text.now }
+    ensures { IfSome result (IsKeyNamed text.now name.now) }
+{
+    let WrittenKey { key, span } = key_at(alloc, text, at)?;
+    if first_part(&key) == name {
+        Some(span)
+    } else {
+        None
+    }
+}
+
 /// The heading that begins with a bracket at an offset. What follows the bracket and blanks is at `inside`.
 fn heading_at(alloc: Global, text: &[u8], bracket: usize, inside: usize) -> Option<Heading>
     requires within { inside ≤ length text.now }
@@ -161,7 +175,7 @@ fn second_part(key: &Key) -> Option<&str>
 }
 
 /// The key of the array of tables that a table is in.
-fn array_of(table: TableLocation) -> Option<&'static str>
+pub(crate) fn array_of(table: TableLocation) -> Option<&'static str>
     ensures { option_map (λ s. s.now) result ≡ spec.array_of table }
 {
     match table {

@@ -1,0 +1,111 @@
+//! Keys of the inline tables of a deployment, which are elements of an array.
+
+ghost use Rattle.std.specs.Prelude.{IfSome};
+ghost use Rattle.fb_why.specs.WrittenKeys.{IsKeyNamed, IsWritten};
+
+use crate::written::{array_of, named_key_at, written_span};
+use fb_inputs::TableLocation;
+use fb_read::token::Span;
+use std::alloc::Global;
+use std::str::from_utf8;
+use toml_parser::text::{first, skip, skip_blank, skip_ws};
+use toml_parser::{quoted, starts_string};
+
+/// What follows the next byte, if it is this one and ASCII.
+fn past_byte(rest: &str, byte: u8) -> Option<&str> {
+    if 0 < byte && byte < 128 && first(rest) == byte {
+        Some(skip(rest, 1))
+    } else {
+        None
+    }
+}
+
+/// What follows the next byte or the next string.
+fn past_piece(alloc: Global, rest: &str) -> Option<&str> {
+    if starts_string(rest) {
+        return match quoted(alloc, rest) {
+            Ok((text, after)) => {
+                drop(text);
+                Some(after)
+            }
+            Err(_) => None,
+        };
+    }
+    past_byte(rest, first(rest))
+}
+
+/// From the end of an element of an array, or of a key of an inline table with its value: from the comma or the bracket
+/// after it. Strings, comments and what is in brackets are passed.
+fn past_item(alloc: Global, item: &str) -> Option<&str> {
+    let mut rest = item;
+    let mut depth: usize = 0;
+    for _turn in 0..item.len() {
+        rest = skip_blank(rest, true);
+        match first(rest) {
+            b',' | b']' | b'}' if depth == 0 => return Some(rest),
+            b'[' | b'{' => depth = depth.saturating_add(1),
+            b']' | b'}' => depth = depth.saturating_sub(1),
+            _ => {}
+        }
+        rest = past_piece(alloc, rest)?;
+    }
+    None
+}
+
+/// The item after one that begins here, of the same array or inline table.
+fn next_item(alloc: Global, item: &str) -> Option<&str> {
+    let end = past_item(alloc, item)?;
+    Some(skip_blank(past_byte(end, b',')?, true))
+}
+
+/// The elements of the array that is the value of a key of the document.
+fn elements_of<'a>(alloc: Global, text: &'a [u8], array: &str) -> Option<&'a str> {
+    let key = written_span(alloc, text, TableLocation::Top, array)?;
+    let Ok(after) = from_utf8(text.get(key.end..)?) else {
+        return None;
+    };
+    let value = skip_ws(past_byte(after, b'=')?);
+    Some(skip_blank(past_byte(value, b'[')?, true))
+}
+
+/// The keys of the inline table that is the element of an array at an index.
+fn keys_of(alloc: Global, elements: &str, index: usize) -> Option<&str> {
+    let mut element = elements;
+    for _passed in 0..index {
+        element = next_item(alloc, element)?;
+    }
+    Some(skip_blank(past_byte(element, b'{')?, true))
+}
+
+/// A key among keys of an inline table, which are an end of the text.
+fn key_among(alloc: Global, text: &[u8], keys: &str, name: &str) -> Option<Span>
+    ensures { IfSome result (IsKeyNamed text.now name.now) }
+{
+    let mut key = keys;
+    for _turn in 0..text.len() {
+        let at = text.len().checked_sub(key.len())?;
+        if let Some(span) = named_key_at(alloc, text, at, name) {
+            return Some(span);
+        }
+        key = next_item(alloc, key)?;
+    }
+    None
+}
+
+/// The bytes of a key of an inline table, which is an element of the array that the table is in.
+pub(crate) fn inline_span(
+    alloc: Global,
+    text: &[u8],
+    table: TableLocation,
+    name: &str,
+) -> Option<Span>
+    ensures { IfSome result (IsWritten text.now table name.now) }
+{
+    let index = match table {
+        TableLocation::Top => return None,
+        TableLocation::Resource(index) | TableLocation::Link(index) => index,
+    };
+    let elements = elements_of(alloc, text, array_of(table)?)?;
+    let keys = keys_of(alloc, elements, index)?;
+    key_among(alloc, text, keys, name)
+}
