@@ -5,3 +5,5 @@ pub mod CheckedLocations
 pub mod PlacedFindings
 pub mod PairedLists
 pub mod InputPlaces
+pub mod Mismatching
+pub mod Marking

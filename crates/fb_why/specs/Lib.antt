@@ -3,6 +3,9 @@ pub mod InputStretches
 pub mod Explained
 pub mod Causes
 pub mod Positions
+pub mod Tokens
+pub mod Mismatches
+pub mod Marks
 pub mod Places
 pub mod WrittenKeys
 pub mod InputPlaces

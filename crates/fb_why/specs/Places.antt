@@ -1,11 +1,12 @@
 -- Where a location is in the text of the declaration (this project's own).
-use Rattle.std.specs.Prelude.{◌≡◌, ◌⊎◌, Some, IfSome}
+use Rattle.std.specs.Prelude.{◌≡◌, Bool, true, false, Option, Some, None, IfSome}
 use Rattle.fb_types.specs.declared.library.Library.{Library}
 use Rattle.fb_read.specs.Blank.{Text}
 use Rattle.fb_read.specs.Whole.{IsLibraryText}
 use Rattle.fb_read_positions.specs.declared.position.Position.{Position}
 use Rattle.fb_read_positions.specs.Places.{IsPlaceAt}
 use Rattle.fb_read_positions.specs.declared.places.Place.{Place}
+use Rattle.fb_why.specs.Marks.{IsMarkedPlace, is_of_expression}
 use Rattle.fb_why.specs.Positions.{position_of}
 use Rattle.fb_why.specs.declared.place.PlacedFinding.{PlacedFinding}
 use Rattle.fb_check.specs.declared.location.Location.{Location}
@@ -20,10 +21,21 @@ pub record IsShown (text : Text) (location : Location) (place : Place) : Type 0 
   pub position_is : position_of library location ≡ Some position
   pub placed : IsPlaceAt text library position place
 
+-- A location that is about an expression is shown at what is marked in this, and another one at its position.
+abbrev pub IsPlaceBy : Bool → Text → Location → Place → Type 0
+IsPlaceBy true text location place = IsMarkedPlace text location place
+IsPlaceBy false text location place = IsShown text location place
+
+abbrev pub IsCheckedPlace : Text → Location → Place → Type 0
+IsCheckedPlace text location place = IsPlaceBy (is_of_expression location) text location place
+
+abbrev pub IsCheckedPlaceIf : Text → Location → Option Place → Type 0
+IsCheckedPlaceIf text location place = IfSome place (IsCheckedPlace text location)
+
 -- The place is the location itself, or that of what was declared.
 abbrev pub IsPlaceOf : Text → FindingLocation → Place → Type 0
 IsPlaceOf text (at.Text location) place = location ≡ place
-IsPlaceOf text (at.Check location) place = IsShown text location place
+IsPlaceOf text (at.Check location) place = IsCheckedPlace text location place
 IsPlaceOf text (at.Deployment location) place = ⊥
 IsPlaceOf text (at.Stimuli location) place = ⊥
 

@@ -4,21 +4,24 @@
 //! Guarantees to callers: `explanation::explain` has an explanation for each refusal and each reason of a stop, and for
 //! nothing else. The locations that `finding::findings_of` reports are in the bytes or in what they declare, and the
 //! refusal applies there. Each place is in the text of the declaration, and the token there is the name that the
-//! library has at this location. For the numbers of the check, whose locations the check lists, it reports none only if
-//! the inputs are refused for something else or can't be read. `find::text_refusal` returns a location in the text,
-//! with its line and column, at which a declaration is refused. The wording of the texts is not part of any contract.
+//! library has at this location; a wrong kind of an expression is at the operand that does not fit. For the numbers of
+//! the check, whose locations the check lists, it reports none only if the inputs are refused for something else or
+//! can't be read. `find::text_refusal` returns a location in the text, with its line and column, at which a declaration
+//! is refused. The wording of the texts is not part of any contract.
 //!
-//! Read in this order: `explanation` and `table`; `cause` and `location`, what each number is about, and where.
-//! Then the bytes: `find`, the refusal of a text and its location; `further`, keys that a table may not have, and
-//! `written` and `inline`, how TOML writes them. Then a location as text: `messages`, with `contents`. Then `refused`,
-//! `roots` and `declared`, locations in bytes and in what they declare; `place` and `input_place`, where a location is in
-//! its text; `listing` and `finding`, which reads the bytes again. All of this runs only after a refusal.
+//! Read in this order: `explanation` and `table`; `cause` and `location`, what each number is about, and where. Then
+//! the bytes: `find`, the refusal of a text and its location; `further`, keys that a table may not have, and `written`
+//! and `inline`, how TOML writes them. Then a location as text: `messages`, with `contents`. Then `refused`, `roots`
+//! and `declared`, locations in bytes and in what they declare; `tokens`, `expression` and `mismatch`, the operand of
+//! an expression that does not fit, and `marks`, its place; `place` and `input_place`, where a location is in its text;
+//! `listing` and `finding`, which reads the bytes again. All of this runs only after a refusal.
 #![tactic(auto)]
 
 pub mod cause;
 mod contents;
 mod declared;
 pub mod explanation;
+mod expression;
 pub mod find;
 pub mod finding;
 mod further;
@@ -26,11 +29,14 @@ mod inline;
 pub mod input_place;
 pub mod listing;
 pub mod location;
+mod marks;
 pub mod messages;
+mod mismatch;
 pub mod place;
 mod refused;
 mod roots;
 pub mod table;
+mod tokens;
 mod written;
 
 pub use cause::Cause;

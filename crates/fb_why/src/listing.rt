@@ -9,6 +9,7 @@ ghost use Rattle.fb_why.specs.declared.location.FindingLocation.TheVariants.{Che
 
 use crate::contents::Contents;
 use crate::location::{Finding, FindingLocation};
+use crate::marks::marked_places;
 use crate::messages::flaw::push_flaw;
 use crate::place::{PlacedFinding, position_of};
 use fb_check::{Case, Location};
@@ -100,7 +101,8 @@ pub(crate) fn listed(
         positions.push(position_of(case.library, *location))?;
     }
     let places = places_of(alloc, declaration, case.library, positions.as_slice())?;
-    let shown = shown_at(alloc, case, first, places.as_slice())?;
+    let marked = marked_places(alloc, declaration, case.library, first, places)?;
+    let shown = shown_at(alloc, case, first, marked.as_slice())?;
     Ok(Findings { shown, more })
 }
 

@@ -1,5 +1,5 @@
 -- The place at which a location of what was declared is shown.
-use Rattle.fb_types.proofs.Common.{◌≡◌, ◌∷◌, ◌++◌, ◌+◌, ◌<◌, [], ℕ, List, length, get_or, map, take, Option, Some, None, refl, sym, ◌∙◌, ap, subst, length-map, map-append, take_more, All-cons, All-nil, AllZip, All, IfSome}
+use Rattle.fb_types.proofs.Common.{◌≡◌, ◌∷◌, ◌++◌, ◌+◌, ◌<◌, ◌||◌, [], ℕ, Bool, true, false, List, length, get_or, map, take, Option, Some, None, refl, sym, ◌∙◌, ap, subst, list_any, map-append, take_more, true≢false, All-cons, All-nil, AllZip, All, IfSome}
 use Rattle.fb_types.specs.declared.library.Library.{Library}
 use Rattle.std.proofs.lemmas.Slice.Zip.{AllZip-long}
 use Rattle.fb_read.specs.Blank.{Text}
@@ -7,7 +7,8 @@ use Rattle.fb_read.specs.Whole.{IsLibraryText}
 use Rattle.fb_read_positions.specs.declared.position.Position.{Position}
 use Rattle.fb_read_positions.specs.Places.{IsPlaceFor}
 use Rattle.fb_read_positions.specs.declared.places.Place.{Place}
-use Rattle.fb_why.specs.Places.{IsPlaceOf, IsPlacedFinding}
+use Rattle.fb_why.specs.Marks.{IsMarkedPlace, is_of_expression}
+use Rattle.fb_why.specs.Places.{IsCheckedPlaceIf, IsPlaceBy, IsPlaceOf, IsPlacedFinding}
 use Rattle.fb_why.specs.Positions.{position_of}
 use Rattle.fb_why.specs.declared.place.PlacedFinding.{PlacedFinding}
 use Rattle.fb_check.specs.declared.location.Location.{Location}
@@ -21,12 +22,39 @@ pub is_elsewhere : (text : Text) (o : Option PlacedFinding) → IfSome o (λ r. 
 is_elsewhere text None h = tt
 is_elsewhere text (Some r) h = subst (λ (q : Option Place). IfSome q (IsPlaceOf text r.finding.location)) (sym h) tt
 
-placed_for :
-    (text : Text) (library : Library) (location : Location) (p : Option Position) (place : Option Place) → IsLibraryText text library → position_of library location ≡ p
-    → IsPlaceFor text library p place → IfSome place (IsPlaceOf text (found.Check location))
-placed_for text library location None place read is holds = subst (λ (q : Option Place). IfSome q (IsPlaceOf text (found.Check location))) (sym holds) tt
-placed_for text library location (Some p) None read is holds = tt
-placed_for text library location (Some p) (Some x) read is holds = record { library = library; read = read; position = p; position_is = is; placed = holds }
+-- a location that is about no expression is shown at its position
+pub shown_for :
+    (text : Text) (library : Library) (location : Location) (p : Option Position) (place : Option Place) → IsLibraryText text library → position_of library location ≡ p → is_of_expression location ≡ false
+    → IsPlaceFor text library p place → IsCheckedPlaceIf text location place
+shown_for text library location None place read is whole holds = subst (λ (q : Option Place). IsCheckedPlaceIf text location q) (sym holds) tt
+shown_for text library location (Some p) None read is whole holds = tt
+shown_for text library location (Some p) (Some x) read is whole holds =
+    subst (λ (b : Bool). IsPlaceBy b text location x) (sym whole) (record { library = library; read = read; position = p; position_is = is; placed = holds })
+
+-- what is marked in an expression
+pub marked_for : (text : Text) (location : Location) (place : Option Place) → is_of_expression location ≡ true → IfSome place (IsMarkedPlace text location) → IsCheckedPlaceIf text location place
+marked_for text location None whole holds = tt
+marked_for text location (Some x) whole holds = subst (λ (b : Bool). IsPlaceBy b text location x) (sym whole) holds
+
+same_tail : (b c : Bool) → b || c ≡ false → c ≡ false
+same_tail true c h = absurd (true≢false h)
+same_tail false c h = h
+
+same_head : (b c : Bool) → b || c ≡ false → b ≡ false
+same_head true c h = h
+same_head false c h = refl
+
+-- locations of which none is about an expression
+pub all_shown :
+    (text : Text) (library : Library) (ls : List Location) (os : List (Option Place)) → IsLibraryText text library → list_any is_of_expression ls ≡ false
+    → AllZip (IsPlaceFor text library) (map (position_of library) ls) os → AllZip (IsCheckedPlaceIf text) ls os
+all_shown text library [] [] read none holds = tt
+all_shown text library [] (o ∷ os) read none holds = absurd holds
+all_shown text library (l ∷ ls) [] read none holds = absurd holds
+all_shown text library (l ∷ ls) (o ∷ os) read none holds =
+    let whole = same_head (is_of_expression l) (list_any is_of_expression ls) none in
+    let rest = same_tail (is_of_expression l) (list_any is_of_expression ls) none in
+    (shown_for text library l (position_of library l) o read refl whole holds.0, all_shown text library ls os read rest holds.1)
 
 abbrev pub locations : List PlacedFinding → List FindingLocation
 locations rs = map (λ r. r.finding.location) rs
@@ -43,33 +71,28 @@ same_first x y xs ys h = cc
 same_rest : (x y : FindingLocation) (xs ys : List FindingLocation) → x ∷ xs ≡ y ∷ ys → xs ≡ ys
 same_rest x y xs ys h = cc
 
--- places of the positions at which locations are shown
-each_placed :
-    (text : Text) (library : Library) (rs : List PlacedFinding) (ls : List Location) → IsLibraryText text library → locations rs ≡ checked ls
-    → AllZip (IsPlaceFor text library) (map (position_of library) ls) (places rs) → All (IsPlacedFinding text) rs
-each_placed text library [] ls read located holds = All-nil (IsPlacedFinding text)
-each_placed text library (r ∷ rs) [] read located holds = absurd holds
-each_placed text library (r ∷ rs) (l ∷ ls) read located holds =
+-- places at which locations are shown
+each_placed : (text : Text) (rs : List PlacedFinding) (ls : List Location) → locations rs ≡ checked ls → AllZip (IsCheckedPlaceIf text) ls (places rs) → All (IsPlacedFinding text) rs
+each_placed text [] ls located holds = All-nil (IsPlacedFinding text)
+each_placed text (r ∷ rs) [] located holds = absurd holds
+each_placed text (r ∷ rs) (l ∷ ls) located holds =
     All-cons (IsPlacedFinding text) r rs
-    (subst (λ (x : FindingLocation). IfSome r.place (IsPlaceOf text x)) (sym (same_first r.finding.location (found.Check l) (locations rs) (checked ls) located))
-    (placed_for text library l (position_of library l) r.place read refl holds.0))
-    (each_placed text library rs ls read (same_rest r.finding.location (found.Check l) (locations rs) (checked ls) located) holds.1)
+    (subst (λ (x : FindingLocation). IfSome r.place (IsPlaceOf text x)) (sym (same_first r.finding.location (found.Check l) (locations rs) (checked ls) located)) holds.0)
+    (each_placed text rs ls (same_rest r.finding.location (found.Check l) (locations rs) (checked ls) located) holds.1)
 
 pub all_placed :
-    (text : Text) (library : Library) (rs : List PlacedFinding) (ls : List Location) (ps : List (Option Position)) (os : List (Option Place)) → IsLibraryText text library
-    → locations rs ≡ checked ls → places rs ≡ os → ps ≡ map (position_of library) ls → AllZip (IsPlaceFor text library) ps os → All (IsPlacedFinding text) rs
-all_placed text library rs ls ps os read located placed are holds =
-    let R = IsPlaceFor text library in
-    each_placed text library rs ls read located
-    (subst (λ (qs : List (Option Place)). AllZip R (map (position_of library) ls) qs) (sym placed)
-    (subst (λ (qs : List (Option Position)). AllZip R qs os) are holds))
+    (text : Text) (rs : List PlacedFinding) (ls : List Location) (os : List (Option Place)) → locations rs ≡ checked ls → places rs ≡ os → AllZip (IsCheckedPlaceIf text) ls os → All (IsPlacedFinding text) rs
+all_placed text rs ls os located placed holds =
+    each_placed text rs ls located (subst (λ (qs : List (Option Place)). AllZip (IsCheckedPlaceIf text) ls qs) (sym placed) holds)
 
-pub as_many :
-    (text : Text) (library : Library) (ls : List Location) (ps : List (Option Position)) (os qs : List (Option Place)) → AllZip (IsPlaceFor text library) ps os → ps ≡ map (position_of library) ls
-    → qs ≡ os → length qs ≡ length ls
-as_many text library ls ps os qs holds are same =
-    ap (λ (xs : List (Option Place)). length xs) same ∙ AllZip-long (IsPlaceFor text library) ps os holds ∙ ap (λ (xs : List (Option Position)). length xs) are
-    ∙ length-map ls (position_of library)
+-- the same places of the positions of locations
+pub of_positions :
+    (text : Text) (library : Library) (ls : List Location) (ps : List (Option Position)) (os : List (Option Place)) → ps ≡ map (position_of library) ls → AllZip (IsPlaceFor text library) ps os
+    → AllZip (IsPlaceFor text library) (map (position_of library) ls) os
+of_positions text library ls ps os are holds = subst (λ (qs : List (Option Position)). AllZip (IsPlaceFor text library) qs os) are holds
+
+pub as_many : (text : Text) (ls : List Location) (os qs : List (Option Place)) → AllZip (IsCheckedPlaceIf text) ls os → qs ≡ os → length qs ≡ length ls
+as_many text ls os qs holds same = ap (λ (xs : List (Option Place)). length xs) same ∙ AllZip-long (IsCheckedPlaceIf text) ls os holds
 
 -- ---- Findings one after another
 

@@ -2,10 +2,10 @@
 //! was expected.
 
 use crate::contents::Contents;
-use crate::messages::operand::kind_or_why;
-use fb_check::types::{
-    Typing, internals_of, port_type, value_kind_of, value_kind_of_type, variable_type,
-};
+use crate::expression::expression_of;
+use crate::messages::operand::push_mismatch;
+use crate::mismatch::mismatch_in;
+use fb_check::types::{Typing, internals_of, port_type, value_kind_of_type, variable_type};
 use fb_check_names::{KindWrongAt, OutOfRangeAt, Site, StatementPart, Variables};
 use fb_read_positions::headings::{basic_at, network_at};
 use fb_read_positions::{BlockTypes, Text};
@@ -41,11 +41,12 @@ fn push_kind(
         ValueKind::TruthValue => ": a truth value is expected, and it is a number",
         ValueKind::WholeNumber => ": a number is expected, and it is a truth value",
     };
-    if value_kind_of(expr, basic).is_some() {
-        text.words(expected);
-    } else {
-        text.words(": ");
-        kind_or_why(alloc, text, basic, expr);
+    match mismatch_in(basic, expr, 0) {
+        Some(found) => {
+            text.words(": ");
+            push_mismatch(alloc, text, basic, found);
+        }
+        None => text.words(expected),
     }
 }
 
@@ -59,22 +60,6 @@ fn push_front(text: &mut Text, stmt: &Stmt, part: StatementPart) {
             text.numbered("IF .., ELSIF number ", choice, "");
         }
         _ => {}
-    }
-}
-
-/// The expression that is a part of a statement.
-fn expression_of(stmt: &Stmt, part: StatementPart) -> Option<&Expr> {
-    match (stmt, part) {
-        (Stmt::Assign(_, expr), _) => Some(expr),
-        (Stmt::If(choices, _), StatementPart::Choice(choice)) => {
-            Some(&choices.get(choice)?.condition)
-        }
-        (Stmt::Case(selector, _, _), _) => Some(selector),
-        (Stmt::While(condition, _) | Stmt::Repeat(_, condition), _) => Some(condition),
-        (Stmt::For(_, start, _, _, _), StatementPart::Start) => Some(start),
-        (Stmt::For(_, _, end, _, _), StatementPart::End) => Some(end),
-        (Stmt::For(_, _, _, step, _), StatementPart::Step) => step.as_ref(),
-        _ => None,
     }
 }
 
@@ -115,9 +100,9 @@ fn push_part(alloc: Global, text: &mut Text, basic: &BasicType, stmt: &Stmt, par
             text.words(" is a data input");
         }
         _ => {
-            if let Some(expr) = expression_of(stmt, part) {
+            if let Some(found) = expression_of(stmt, part) {
                 let required = required_of(basic, stmt, part);
-                push_kind(alloc, text, basic, (words_of(part), required), expr);
+                push_kind(alloc, text, basic, (words_of(part), required), found.expr);
             }
         }
     }

@@ -4,7 +4,7 @@ use Rattle.fb_types.proofs.lemmas.lists.LoopSteps.{mapped_next}
 use Rattle.fb_check.specs.declared.location.Location.{Location}
 use Rattle.fb_why.specs.declared.location.FindingLocation.TheVariants.{Check}
 use Rattle.fb_why.specs.Positions.{position_of}
-use Rattle.fb_why.proofs.lemmas.PlacedFindings.{all_placed, as_many}
+use Rattle.fb_why.proofs.lemmas.PlacedFindings.{all_placed, as_many, of_positions}
 use Rattle.fb_why.proofs.listing.listed.Goals as goal
 
 pub loop-location-init : goal.loop-location-init
@@ -15,20 +15,21 @@ loop-location-preserved c =
     mapped_next (position_of c.args.case.now.library.now) (take c.min.result c.args.locations.now) c.loop-location.location-index _ _ _ _ c.loop-location-test.true c.position_of.ensures c.loop-location.invariant
     c.in_ok-push.ensures.items
 
-pub shown_at-requires : goal.shown_at-requires
-shown_at-requires c =
+pub marked_places-requires-clause-places : goal.marked_places-requires-clause-places
+marked_places-requires-clause-places c =
     let lib = c.args.case.now.library.now in
     let first = take c.min.result c.args.locations.now in
     let are = c.as_slice.ensures.value ∙ c.loop-location.invariant ∙ ap (map (position_of lib)) (take_all c.loop-location.location-index first c.loop-location-test.false) in
-    as_many c.args.declaration.now lib first c.as_slice.result.now c.in_ok-places.places.items c.as_slice-2.result.now c.in_ok-places.ensures are c.as_slice-2.ensures.value
+    of_positions c.args.declaration.now lib first c.as_slice.result.now c.in_ok-places.places.items are c.in_ok-places.ensures
+
+pub shown_at-requires : goal.shown_at-requires
+shown_at-requires c =
+    as_many c.args.declaration.now (take c.min.result c.args.locations.now) c.in_ok-marked.marked.items c.as_slice-2.result.now c.in_ok-marked.ensures c.as_slice-2.ensures.value
 
 pub returns-clause-placed : goal.returns-clause-placed
 returns-clause-placed c =
-    let lib = c.args.case.now.library.now in
-    let first = take c.min.result c.args.locations.now in
-    let are = c.as_slice.ensures.value ∙ c.loop-location.invariant ∙ ap (map (position_of lib)) (take_all c.loop-location.location-index first c.loop-location-test.false) in
-    all_placed c.args.declaration.now lib c.in_ok-shown.shown.items first c.as_slice.result.now c.in_ok-places.places.items c.requires c.in_ok-shown.ensures.found
-    (c.in_ok-shown.ensures.placed ∙ c.as_slice-2.ensures.value) are c.in_ok-places.ensures
+    all_placed c.args.declaration.now c.in_ok-shown.shown.items (take c.min.result c.args.locations.now) c.in_ok-marked.marked.items c.in_ok-shown.ensures.found
+    (c.in_ok-shown.ensures.placed ∙ c.as_slice-2.ensures.value) c.in_ok-marked.ensures
 
 pub returns-clause-shown : goal.returns-clause-shown
 returns-clause-shown c =
