@@ -1,10 +1,10 @@
 #!/usr/bin/env python3
-"""tools/limits.py [PROGRAM]: calls the built program with a system that is at all its limits at once, and with rules, a text and names at
-theirs. What it must write follows from docs/FORMATS.md and docs/PROFILE.md.
+"""tools/limits.py [PROGRAM]: calls the built program with a system that is at all its limits at once, and with rules at theirs. What it
+must write follows from docs/FORMATS.md and docs/PROFILE.md.
 
 The system has 4,096 merges in 256 resources with 1,024 links, and 100,000 stimuli, the last of them in the last tick. The first 1,024
-merges send, each over a link of its own; the next 1,024 receive. The others are alone. A contract may allow a function to answer that
-it is out of memory. So each command must answer otherwise here.
+merges send, each over a link of its own; the next 1,024 receive. The others are alone. Each text has as many bytes as it may have. A
+contract may allow a function to answer that it is out of memory. So each command must answer otherwise here.
 
 ./gate makes these calls each time it has run the program. Without ./gate they use the program that ./simulate built."""
 
@@ -17,7 +17,7 @@ PROGRAM = os.path.join(os.path.dirname(os.path.abspath(__file__)), os.pardir, "s
 INSTANCES, RESOURCES, LINKS, ROWS = 4_096, 256, 1_024, 100_000
 HORIZON, STEPS, WORKERS, RULES = 10**12, 10**7, 64, 1_000
 LAST = HORIZON - 1
-TEXT = 1_048_576
+TEXT, STIMULI, COMMAND, BREAKS = 1_048_576, 16_777_216, 65_536, 100
 # The ticks of the stimuli, in the order of the rows from 0. The last message of the tick before the last one arrives in the last tick.
 TICKS = (LAST, 0, 10**11, 1, LAST - 10**6, 999, 5 * 10**11, 10**6)
 # A table of latencies with as many entries as it may have: from each of these ticks on, one tick more.
@@ -94,7 +94,7 @@ def trace_of(rows, form):
 def rules():
     """As many rules as a text may have, up to its last byte."""
     text = "".join(f"[[rule]]\nname = 'r{number}'\ncount = '* < S.COLD'\nmost = {number + 1}\n" for number in range(RULES))
-    return text + "#" * (TEXT - len(text))
+    return text.ljust(TEXT, "#")
 
 
 def report():
@@ -115,9 +115,11 @@ def calls():
     yield "coverage", ["coverage", *system, "trace", "--least", "100"], "", covered
     row = (LAST, 0, "EI1")
     answers = "".join(f"= row {number} {tick},{NAMES[at]}.{event},\n" for number, (tick, at, event) in enumerate([*rows, row]))
-    commands = f"give {LAST} M0.EI1\nuntil {HORIZON}\nend {HORIZON}\n"
+    # No event of the instance is in this resource, so no break pauses the session.
+    breaks = "".join(f"= break {number + 1}\n" for number in range(BREAKS))
+    commands = f"give {LAST} M0.EI1".ljust(COMMAND) + "\n" + "break R1 > M0.EI1\n" * BREAKS + f"until {HORIZON}\nend {HORIZON}\n"
     told = trace_of([*rows, row], 1).removesuffix(f"end {HORIZON}\n") + f"= at {HORIZON}\nend {HORIZON}\n"
-    yield "session", ["session", *system, "--stim", "stimuli", "--steps", str(STEPS)], commands, answers + told
+    yield "session", ["session", *system, "--stim", "stimuli", "--steps", str(STEPS)], commands, answers + breaks + told
     yield "rules", ["expect", "rules", "restart"], "", report()
 
 
@@ -126,7 +128,7 @@ def files():
     stimuli = "tick,event,values\n" + "".join(f"{tick},{NAMES[at]}.{event},\n" for tick, at, event in rows)
     restart = f"0 MAIN < S.COLD\nend {HORIZON}\n"
     texts = {"declaration": declaration(), "deployment": deployment(), "stimuli": stimuli, "trace": trace_of(rows, 1)}
-    return texts | {"rules": rules(), "restart": restart}
+    return texts | {"trace": trace_of(rows, 1), "rules": rules(), "restart": restart}
 
 
 def fails(name, words, text, wanted, folder, program):
