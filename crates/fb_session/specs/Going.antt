@@ -72,9 +72,10 @@ IsBeginning old p (fault.Write n) written now =
     × IsPartWritten written now (lines_text old.form (system_of old.inputs) (lines_of more) ++ end) n
 
 -- The writer got some first bytes of what there would have been, of this length, or of whole lines where memory ran out.
--- The session is then over.
+-- The session is then over, and has the fault. A call fails only while the session goes on.
 pub record HasFailed (old new : Talk) (e : SessionFault) (written now : Option (List ℕ)) : Type 0 where
-  pub failed : new.stage ≡ stage.Failed
+  pub running : old.stage ≡ stage.Running
+  pub failed : new.stage ≡ stage.Failed e
   pub of : IsOf old new
   pub counted : new.written ≡ old.written
   pub beginning : (p : Past) → StandsBy old p → IsBeginning old p e written now
@@ -123,11 +124,12 @@ TakesOne old new written now (Err e) = HasFailed old new e written now
 
 -- ---- The end, and what waits
 
--- With an end the trace is whole. Below the least tick nothing changes.
+-- With an end the trace is whole. Below the least tick nothing changes. An error is that of this call, or of the one that has
+-- failed before; then nothing changes.
 abbrev pub EndsAt : (to : ℕ) → (old new : Talk) → (written now : Option (List ℕ)) → Result End SessionFault → Type 0
 EndsAt to old new written now (Ok (end.Below n)) = (n ≡ old.reached) × (to < n) × Stays old new written now
 EndsAt to old new written now (Ok (end.Over o)) = IsWhole to old new written now (outcome.ending_of o)
-EndsAt to old new written now (Err e) = HasFailed old new e written now
+EndsAt to old new written now (Err e) = HasFailed old new e written now ⊎ ((old.stage ≡ stage.Failed e) × Stays old new written now)
 
 -- The least event that waits below the greatest tick, by its tick and its resource.
 pub record IsLeastOf (c : Config) (tick resource : ℕ) : Type 0 where

@@ -75,16 +75,22 @@ pub record IsRow (i : Inputs) (s : Stimulus) : Type 0 where
   pub good : IsGood i.library s
   pub early : s.tick ≤ 10 ^ 12
 
+-- a stage after no failure
+abbrev pub IsAlive : Stage → Type 0
+IsAlive stage.Running = Unit {0}
+IsAlive (stage.Stopped m) = Unit {0}
+IsAlive (stage.Failed fault) = ⊥
+
 -- how what was taken ended, if a resource stopped
 abbrev pub EndsBy : Stage → List Taken → Type 0
 EndsBy stage.Running ts = Each (λ (t : Taken). t.effect.stop ≡ None) ts
 EndsBy (stage.Stopped m) ts = (h : ℕ) → ending_of h ts ≡ AtStop m.tick m.resource m.reason
-EndsBy stage.Failed ts = Unit {0}
+EndsBy (stage.Failed fault) ts = Unit {0}
 
 -- A session that has not failed can take events from a tick on, and none was taken after that tick. While it goes on, rows come no earlier.
 abbrev pub CanGo : Talk → List Taken → Type 0
 CanGo t ts =
-    (t.stage ≡ stage.Failed → ⊥) → (from : ℕ) × (t.stage ≡ stage.Running → from ≤ t.reached) × IsReady t.inputs t.steps from t.machine
+    IsAlive t.stage → (from : ℕ) × (t.stage ≡ stage.Running → from ≤ t.reached) × IsReady t.inputs t.steps from t.machine
     × All (λ (x : Taken). x.key.tick ≤ from) ts
 
 -- The session stands where this past leads: its machine is at the configuration to which the takings lead from the opening
@@ -99,15 +105,15 @@ pub record StandsBy (t : Talk) (p : Past) : Type 0 where
   pub chain : Chain (system_of t.inputs) t.steps (opening_with t.inputs p.given) p.taken
   pub before : All (λ (x : Taken). x.key.tick < t.reached) p.taken
   pub ends : EndsBy t.stage p.taken
-  pub at : (t.stage ≡ stage.Failed → ⊥) → IsAt t.inputs (now t.inputs p).state (now t.inputs p).agenda t.machine
-  pub none : (t.stage ≡ stage.Failed → ⊥) → t.machine.traffic.effects.lines.items ≡ []
+  pub at : IsAlive t.stage → IsAt t.inputs (now t.inputs p).state (now t.inputs p).agenda t.machine
+  pub none : IsAlive t.stage → t.machine.traffic.effects.lines.items ≡ []
   pub goes : CanGo t p.taken
 
 -- the text of the lines of what was taken, and of the stop if there is one
 abbrev pub stop_text : System → Stage → List ℕ
 stop_text sys stage.Running = []
 stop_text sys (stage.Stopped m) = last_line sys (AtStop m.tick m.resource m.reason)
-stop_text sys stage.Failed = []
+stop_text sys (stage.Failed fault) = []
 
 abbrev pub told : Talk → Past → List ℕ
 told t p = lines_text t.form (system_of t.inputs) (lines_of p.taken) ++ stop_text (system_of t.inputs) t.stage

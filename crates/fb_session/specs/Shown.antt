@@ -17,7 +17,8 @@ use Rattle.fb_types.specs.declared.library.BasicType.{BasicType}
 use Rattle.fb_types.specs.declared.library.Ports.{Ports}
 use Rattle.fb_types.specs.declared.library.Variable.{Variable}
 use Rattle.fb_types.specs.declared.value.Value.{Value}
-use Rattle.fb_session.specs.Pasts.{Past, StandsBy, Talk, now}
+use Rattle.fb_session.specs.Pasts.{IsAlive, Past, StandsBy, Talk, now}
+use Rattle.fb_session.specs.declared.fault.SessionFault.{SessionFault}
 use Rattle.fb_session.specs.declared.stage.Stage.TheVariants as stage
 
 -- ---- Variables
@@ -99,8 +100,8 @@ pub record IsBlockShown (i : Inputs) (c : Config) (k : ℕ) (old new : List ℕ)
 -- What is shown of a path: what the model has of the instance with that path where the session stands; or nothing, if there is no
 -- such instance or the session has failed.
 abbrev pub ShowsPath : Talk → (path : List ℕ) → Option (List ℕ) → Type 0
-ShowsPath t path None = (t.stage ≡ stage.Failed) ⊎ ((k : ℕ) → of_system.IsInstance t.inputs k → path_text (path_at (system_of t.inputs) k) ≡ path → ⊥)
+ShowsPath t path None = ((fault : SessionFault) × (t.stage ≡ stage.Failed fault)) ⊎ ((k : ℕ) → of_system.IsInstance t.inputs k → path_text (path_at (system_of t.inputs) k) ≡ path → ⊥)
 ShowsPath t path (Some text) =
-    (t.stage ≡ stage.Failed → ⊥)
+    IsAlive t.stage
     × (k : ℕ) × of_system.IsInstance t.inputs k × (path_text (path_at (system_of t.inputs) k) ≡ path)
     × ((p : Past) → StandsBy t p → IsBlockShown t.inputs (now t.inputs p) k path text)

@@ -40,7 +40,7 @@ impl From<AllocError> for GiveFault {
 pub enum SessionFault {
     /// Out of memory.
     Memory,
-    /// The writer failed after this many bytes of the call.
+    /// The writer failed after this many bytes of the call that failed.
     Write(u128),
 }
 

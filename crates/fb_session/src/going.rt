@@ -123,7 +123,7 @@ impl Session<'_, '_> {
                             Ok(Until::Stop(mark))
                         }
                         Err(fault) => {
-                            self.stage = Stage::Failed;
+                            self.stage = Stage::Failed(fault);
                             Err(fault)
                         }
                     }
@@ -131,7 +131,7 @@ impl Session<'_, '_> {
                 Until::Stopped | Until::Below(_) => unreachable!(),
             },
             Err(fault) => {
-                self.stage = Stage::Failed;
+                self.stage = Stage::Failed(fault);
                 Err(fault)
             }
         }
@@ -151,7 +151,7 @@ impl Session<'_, '_> {
         let step = match self.machine.take_next(self.system, LATEST_TICK, self.steps) {
             Ok(step) => step,
             Err(_) => {
-                self.stage = Stage::Failed;
+                self.stage = Stage::Failed(SessionFault::Memory);
                 return Err(SessionFault::Memory);
             }
         };
@@ -163,7 +163,7 @@ impl Session<'_, '_> {
         ) {
             Ok(bytes) => bytes,
             Err(fault) => {
-                self.stage = Stage::Failed;
+                self.stage = Stage::Failed(SessionFault::Write(fault.written));
                 return Err(SessionFault::Write(fault.written));
             }
         };
@@ -187,7 +187,7 @@ impl Session<'_, '_> {
                         Ok(Next::Stop(mark))
                     }
                     Err(fault) => {
-                        self.stage = Stage::Failed;
+                        self.stage = Stage::Failed(fault);
                         Err(fault)
                     }
                 }
@@ -200,7 +200,7 @@ impl Session<'_, '_> {
     /// may go; then nothing is written, and the session goes on.
     ///
     /// # Errors
-    /// As `until`.
+    /// As `until`. After a call that failed it is the fault of that call, and nothing is written.
     pub fn end<W: Write>(&mut self, to: u64, out: &mut W) -> Result<End, SessionFault>
         requires stands { (p : Past) × StandsBy self.old p }
         requires most { to ≤ 10 ^ 12 }
@@ -210,12 +210,12 @@ impl Session<'_, '_> {
             return Ok(End::Below(self.reached));
         }
         match self.stage {
-            Stage::Failed => Err(SessionFault::Memory),
+            Stage::Failed(fault) => Err(fault),
             Stage::Stopped(mark) => Ok(End::Over(Outcome::Stop(mark))),
             Stage::Running => match self.finish(to, out) {
                 Ok(outcome) => Ok(End::Over(outcome)),
                 Err(fault) => {
-                    self.stage = Stage::Failed;
+                    self.stage = Stage::Failed(fault);
                     Err(fault)
                 }
             },
@@ -263,7 +263,7 @@ impl Session<'_, '_> {
     {
         match self.stage {
             Stage::Running => self.machine.first(LATEST_TICK),
-            Stage::Stopped(_) | Stage::Failed => None,
+            Stage::Stopped(_) | Stage::Failed(_) => None,
         }
     }
 }

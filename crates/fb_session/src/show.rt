@@ -296,7 +296,7 @@ impl Session<'_, '_> {
         requires { (p : Past) × StandsBy self.now p }
         ensures { IfOk result (λ o. ShowsPath self.now path.now (option_map (λ t. t.items) o)) }
     {
-        if let Stage::Failed = self.stage {
+        if let Stage::Failed(_) = self.stage {
             return Ok(None);
         }
         let Some(instance) = instance_at(self.system, path) else {

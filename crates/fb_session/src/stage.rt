@@ -1,5 +1,6 @@
 //! How far a session is.
 
+use crate::fault::SessionFault;
 use fb_types::StopMark;
 
 /// How far a session is.
@@ -9,6 +10,6 @@ pub enum Stage {
     Running,
     /// A resource has stopped.
     Stopped(StopMark),
-    /// A call ran out of memory or could not write.
-    Failed,
+    /// A call failed of this: it ran out of memory or could not write.
+    Failed(SessionFault),
 }

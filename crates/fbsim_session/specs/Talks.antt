@@ -10,7 +10,7 @@ use Rattle.fb_laws.specs.Sound.{AreGood}
 use Rattle.fb_trace.specs.End.{ending_of}
 use Rattle.fb_trace.specs.Progress.{bounded}
 use Rattle.fb_trace.specs.declared.last.Outcome.{Outcome}
-use Rattle.fb_session.specs.Pasts.{IsOf, IsRow, Past, StandsBy, Talk, told, with_rows}
+use Rattle.fb_session.specs.Pasts.{IsAlive, IsOf, IsRow, Past, StandsBy, Talk, told, with_rows}
 use Rattle.fb_session.specs.declared.fault.SessionFault.{SessionFault}
 use Rattle.fb_session.specs.declared.fault.SessionFault.TheVariants as fault
 use Rattle.fbsim_session.specs.declared.talking.Console.{Console}
@@ -106,9 +106,10 @@ pub record AreWhole (g : Opening) (ps : List Piece) (o : Outcome) : Type 0 where
   pub horizon : ℕ
   pub trace : IsTrace (with_rows g.inputs given) g.form horizon g.steps (told_of ps) (ending_of o)
 
--- While the session lives, the pieces of the trace are what it has told, and all bytes are counted.
+-- While the session goes on or has stopped, the pieces of the trace are what it has told, and all bytes are counted.
 pub record HasTold (g : Opening) (now : Option Text) (t : Spoken) : Type 0 where
   pub good : AreGood g.inputs
+  pub alive : IsAlive t.session.stage
   pub past : Past
   pub pieces : List Piece
   pub of : of_talk g.start t.session ≡ g
@@ -161,6 +162,7 @@ Concludes g now (Err e) = Fails g now e
 -- A call that writes nothing: the session stands where it stood, or by one row more.
 pub record Stays (old new : Spoken) : Type 0 where
   pub of : IsOf old.session new.session
+  pub stage : new.session.stage ≡ old.session.stage
   pub stands : (p : Past) → StandsBy old.session p → (q : Past) × StandsBy new.session q × (told new.session q ≡ told old.session p)
   pub counted : count_of new ≡ count_of old
 

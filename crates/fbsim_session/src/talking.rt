@@ -377,7 +377,8 @@ impl Console<'_, '_> {
     {
         match self.session.stage() {
             Stage::Stopped(mark) => Ok(Outcome::Stop(mark)),
-            Stage::Failed => Err(TalkFault::Memory),
+            // After a failure no command is read.
+            Stage::Failed(_) => unreachable!(),
             Stage::Running => self.write_rest(tick, out),
         }
     }

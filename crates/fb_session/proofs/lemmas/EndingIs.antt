@@ -83,7 +83,7 @@ module _ (old : Talk) (p : Past) where
 
   front : AreGood i → StandsBy old p → (s : Stage) → old.stage ≡ s → IsFront old p (told old p)
   front good was stage.Running is = front_on good was (ap (stop_text (system_of i)) is)
-  front good was stage.Failed is = front_on good was (ap (stop_text (system_of i)) is)
+  front good was (stage.Failed fault) is = front_on good was (ap (stop_text (system_of i)) is)
   front good was (stage.Stopped s) is = record {
     horizon = old.reached;
     end = AtStop s.tick s.resource s.reason;

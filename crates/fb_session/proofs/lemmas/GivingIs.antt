@@ -19,7 +19,7 @@ use Rattle.fb_sim_machine.specs.Machines.{IsAt, IsReady}
 use Rattle.fb_sim_machine.specs.declared.machine.Machine.{Machine}
 use Rattle.fb_inputs.specs.Words.{Text}
 use Rattle.fb_session.specs.Giving.{Gives, HasGiven, IsRead, Puts, row_text}
-use Rattle.fb_session.specs.Pasts.{IsRow, Past, StandsBy, Talk, with_rows}
+use Rattle.fb_session.specs.Pasts.{IsAlive, IsRow, Past, StandsBy, Talk, with_rows}
 use Rattle.fb_session.specs.declared.fault.GiveFault.{GiveFault}
 use Rattle.fb_session.specs.declared.fault.GiveFault.TheVariants as fault
 use Rattle.fb_session.specs.declared.give.GivenAnswer.{GivenAnswer}
@@ -67,7 +67,7 @@ module _ (old : Talk) (p : Past) (s : Stimulus) (g : GivenRow) (m : Machine) (wa
       let f = rows_may_follow (system_of i) old.steps ss (stimulus_of s) p.taken was.chain before in
       let d = last (opening (system_of i) ss) p.taken in
       let at = subst (λ (e : Key × Event). IsAt i d.state (with_all (e ∷ []) d.agenda) m) (row_is i ss s g tick same is count_is)
-      (given d.state d.agenda (was.at (λ failed. absurd (let no : stage.Running ≡ stage.Failed = sym running ∙ failed in cc)))) in
+      (given d.state d.agenda (was.at (subst IsAlive (sym running) tt))) in
       let here = subst (λ (z : State). IsAt i z (with_all (row_event (system_of i) (length ss) (stimulus_of s) ∷ []) d.agenda) m) (sym f.leads.state) at in
       record { here = here.here; sent = here.sent; agenda = λ j. f.leads.agenda j ∙ here.agenda j }
 

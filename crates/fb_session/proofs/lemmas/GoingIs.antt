@@ -8,7 +8,7 @@ use Rattle.fb_sim_machine.specs.declared.machine.Machine.{Machine}
 use Rattle.fb_sim_machine.proofs.lemmas.JoinedRuns.{chain_append, each_append, ending_append, last_append}
 use Rattle.fb_trace.specs.Progress.{IsPartWritten, bounded}
 use Rattle.fb_session.specs.Going.{IsBeginning}
-use Rattle.fb_session.specs.Pasts.{EndsBy, Past, StandsBy, Talk, now, opening_with}
+use Rattle.fb_session.specs.Pasts.{EndsBy, IsAlive, Past, StandsBy, Talk, now, opening_with}
 use Rattle.fb_session.specs.Running.{FailsRun, IsWriteAfter, text_of}
 use Rattle.fb_session.specs.declared.breaks.Break.{Break}
 use Rattle.fb_session.specs.declared.fault.SessionFault.{SessionFault}
@@ -35,8 +35,8 @@ module _ (old : Talk) (p : Past) (was : StandsBy old p) (running : old.stage ≡
   abbrev i : Inputs
   i = old.inputs
 
-  pub alive : old.stage ≡ stage.Failed → ⊥
-  alive failed = let no : stage.Running ≡ stage.Failed = sym running ∙ failed in absurd cc
+  pub alive : IsAlive old.stage
+  alive = subst IsAlive (sym running) tt
 
   pub going : Each (λ (t : Taken). t.effect.stop ≡ None) p.taken
   going = subst (λ (z : Stage). EndsBy z p.taken) running was.ends
@@ -62,7 +62,7 @@ module _ (old : Talk) (p : Past) (was : StandsBy old p) (running : old.stage ≡
         All-append (λ (x : Taken). x.key.tick ≤ t) p.taken more (λ j d less. let b = (was.goes alive).3 j d less in omega (arith, b, low)) y.before
 
     pub stands_on : (st : Stage) (r w k : ℕ) (bs : List Break) → r ≤ 10 ^ 12 → All (λ (x : Taken). x.key.tick < r) (p.taken ++ more) → EndsBy st (p.taken ++ more)
-        → ((st ≡ stage.Failed → ⊥) → (f : ℕ) × (st ≡ stage.Running → f ≤ r) × IsReady i old.steps f m × All (λ (x : Taken). x.key.tick ≤ f) (p.taken ++ more))
+        → (IsAlive st → (f : ℕ) × (st ≡ stage.Running → f ≤ r) × IsReady i old.steps f m × All (λ (x : Taken). x.key.tick ≤ f) (p.taken ++ more))
         → StandsBy (record old { stage = st; reached = r; written = w; set = k; breaks = bs; machine = m }) then
     stands_on st r w k bs early below ends goes = record {
       judged = was.judged;

@@ -1,5 +1,5 @@
 -- What a session has told after each call.
-use Rattle.fb_types.proofs.Common.{◌≡◌, ℕ, ◌+◌, ◌<◌, ◌≤◌, List, [], ◌∷◌, ◌++◌, length, All, Option, Result, Ok, Err, refl, sym, ap, ◌∙◌, subst, arith, append_assoc, append-nil, length-append, Appends, IsErrAnd, Appends-nil, All-nil, IsTrace, system_of, stimuli_of, Each, AtStop, Chain, Taken, ending_of, lines_of, last_line, lines_text}
+use Rattle.fb_types.proofs.Common.{◌≡◌, ℕ, ◌+◌, ◌<◌, ◌≤◌, List, [], ◌∷◌, ◌++◌, length, All, Option, Result, Ok, Err, refl, sym, ap, ◌∙◌, subst, arith, append_assoc, append-nil, inl, inr, length-append, Appends, IsErrAnd, Appends-nil, All-nil, IsTrace, system_of, stimuli_of, Each, AtStop, Chain, Taken, ending_of, lines_of, last_line, lines_text}
 use Rattle.fb_types.specs.declared.deploy.Stimulus.{Stimulus}
 use Rattle.fb_types.specs.declared.run.StopMark.{StopMark}
 use Rattle.std.specs.Io.KnownBytes.{Keeps}
@@ -17,8 +17,8 @@ use Rattle.fb_session.specs.Giving.{Gives}
 use Rattle.fb_session.specs.declared.fault.GiveFault.{GiveFault}
 use Rattle.fb_session.specs.declared.fault.GiveFault.TheVariants as ungiven
 use Rattle.fb_session.specs.declared.give.GivenAnswer.{GivenAnswer}
-use Rattle.fb_session.specs.Going.{GoesUntil, HasFailed, HasTaken, IsBeginning, IsWhole, TakesOne}
-use Rattle.fb_session.specs.Pasts.{EndsBy, IsOf, IsRow, now as now_in, Past, StandsBy, Talk, opening_with, stop_text, told, with_rows}
+use Rattle.fb_session.specs.Going.{EndsAt, GoesUntil, HasFailed, HasTaken, IsBeginning, IsWhole, TakesOne}
+use Rattle.fb_session.specs.Pasts.{EndsBy, IsAlive, IsOf, IsRow, now as now_in, Past, StandsBy, Talk, opening_with, stop_text, told, with_rows}
 use Rattle.fb_session.specs.Running.{text_of}
 use Rattle.fb_trace.specs.Progress.{bounded}
 use Rattle.fb_session.specs.declared.fault.SessionFault.{SessionFault}
@@ -128,6 +128,7 @@ module _ (g : Opening) (now : Option Text) (s : Spoken) (h : HasTold g now s) wh
       let v : Spoken = record { session = t; answered = bounded (s.answered + length a) } in
       let told : HasTold g new v = record {
         good = h.good;
+        alive = h.alive;
         past = h.past;
         pieces = ps;
         of = h.of;
@@ -142,6 +143,7 @@ module _ (g : Opening) (now : Option Text) (s : Spoken) (h : HasTold g now s) wh
   pub flushed : (new : Option Text) → Keeps now new → HasTold g new s
   flushed new k = record {
     good = h.good;
+    alive = h.alive;
     past = h.past;
     pieces = h.pieces;
     of = h.of;
@@ -157,6 +159,7 @@ module _ (g : Opening) (now : Option Text) (s : Spoken) (h : HasTold g now s) wh
       let q = x.stands h.past h.stands in
       record {
         good = h.good;
+        alive = subst IsAlive (sym x.stage) h.alive;
         past = q.0;
         pieces = h.pieces;
         of = of_alike g.start t u.session x.of ∙ h.of;
@@ -200,14 +203,15 @@ module _ (g : Opening) (now : Option Text) (s : Spoken) (h : HasTold g now s) wh
       ∙ sym (append_assoc (text_of i form ts) (text_of i form more) end)
       ∙ ap (λ (x : Text). x ++ end) (sym (text-append i form ts more))
 
-  pub gone : t.stage ≡ stage.Running → (new : Option Text) (u : Talk) (more : List Taken) → HasTaken t u h.past more now new → HasTold g new (record { session = u; answered = s.answered })
-  gone running new u more x =
+  pub gone : t.stage ≡ stage.Running → (new : Option Text) (u : Talk) (more : List Taken) → IsAlive u.stage → HasTaken t u h.past more now new → HasTold g new (record { session = u; answered = s.answered })
+  gone running new u more alive x =
       let ts = h.past.taken ++ more in
       let piece = Trace (text_of t.inputs t.form more ++ stop_text (system_of t.inputs) u.stage) in
       let alike : told u (record h.past { taken = ts }) ≡ text_of t.inputs t.form ts ++ stop_text (system_of t.inputs) u.stage =
       (λ k. lines_text (x.of.form k) (system_of (x.of.inputs k)) (lines_of ts) ++ stop_text (system_of (x.of.inputs k)) u.stage) in
       record {
         good = h.good;
+        alive = alive;
         past = record h.past { taken = ts };
         pieces = h.pieces ++ piece ∷ [];
         of = of_alike g.start t u x.of ∙ h.of;
@@ -310,18 +314,23 @@ module _ (g : Opening) (now : Option Text) (s : Spoken) (h : HasTold g now s) wh
     h.got,
   )
 
+-- while the session goes on it is the call that has failed
+pub has_failed : (t u : Talk) (e : SessionFault) (now new : Option Text) (to : ℕ) → t.stage ≡ stage.Running → EndsAt to t u now new (Err e) → HasFailed t u e now new
+has_failed t u e now new to running (inl x) = x
+has_failed t u e now new to running (inr x) = let no : stage.Running ≡ stage.Failed e = sym running ∙ x.0 in absurd cc
+
 -- ---- Calls that write nothing
 
 pub stays : (t : Spoken) → Stays t t
-stays t = record { of = of_same t.session; stands = λ p s. (p, s, refl); counted = refl }
+stays t = record { of = of_same t.session; stage = refl; stands = λ p s. (p, s, refl); counted = refl }
 
 pub stays_as : (t u : Spoken) → u ≡ t → Stays t u
 stays_as t u e = subst (λ (z : Spoken). Stays t z) (sym e) (stays t)
 
 -- the session alone changes, and not what it has written
-stays_at : (t u : Spoken) → IsOf t.session u.session → ((p : Past) → StandsBy t.session p → (q : Past) × StandsBy u.session q × (told u.session q ≡ told t.session p))
+stays_at : (t u : Spoken) → IsOf t.session u.session → u.session.stage ≡ t.session.stage → ((p : Past) → StandsBy t.session p → (q : Past) × StandsBy u.session q × (told u.session q ≡ told t.session p))
     → u.session.written ≡ t.session.written → u.answered ≡ t.answered → Stays t u
-stays_at t u of stands written same = record { of = of; stands = stands; counted = λ k. written k + same k }
+stays_at t u of stage stands written same = record { of = of; stage = stage; stands = stands; counted = λ k. written k + same k }
 
 stays_still : (t u : Spoken) → u.session ≡ t.session → u.answered ≡ t.answered → Stays t u
 stays_still t u session same = stays_as t u (λ k. record { session = session k; answered = same k })
@@ -345,13 +354,13 @@ stands_broken t u is p s = subst (λ (z : Talk). StandsBy z p) (sym is) (record 
 
 pub stays_broken : (t u : Spoken) → OnlyBreaks t.session u.session → u.answered ≡ t.answered → Stays t u
 stays_broken t u is same =
-    stays_at t u (record { inputs = ap (λ (z : Talk). z.inputs) is; steps = ap (λ (z : Talk). z.steps) is; form = ap (λ (z : Talk). z.form) is })
+    stays_at t u (record { inputs = ap (λ (z : Talk). z.inputs) is; steps = ap (λ (z : Talk). z.steps) is; form = ap (λ (z : Talk). z.form) is }) (ap (λ (z : Talk). z.stage) is)
     (λ p s. (p, stands_broken t.session u.session is p s, ap (λ (z : Talk). told z p) is)) (ap (λ (z : Talk). z.written) is) same
 
 pub stays_given : (tick event values : List ℕ) (t u : Spoken) (r : Result GivenAnswer GiveFault) → Gives tick event values t.session u.session r → u.answered ≡ t.answered → Stays t u
 stays_given tick event values t u (Ok a) x same =
     let is = x.7.talk in
-    stays_at t u (record { inputs = ap (λ (z : Talk). z.inputs) is; steps = ap (λ (z : Talk). z.steps) is; form = ap (λ (z : Talk). z.form) is })
+    stays_at t u (record { inputs = ap (λ (z : Talk). z.inputs) is; steps = ap (λ (z : Talk). z.steps) is; form = ap (λ (z : Talk). z.form) is }) (ap (λ (z : Talk). z.stage) is)
     (λ p s. let q = record p { given = p.given ++ x.0 ∷ [] } in (q, x.7.stands p s, ap (λ (z : Talk). told z q) is)) (ap (λ (z : Talk). z.written) is) same
 stays_given tick event values t u (Err ungiven.NotGoing) x same = stays_still t u x.1 same
 stays_given tick event values t u (Err (ungiven.Unread f)) x same = stays_still t u x.1 same
@@ -359,6 +368,10 @@ stays_given tick event values t u (Err (ungiven.Unfit s f)) x same = stays_still
 stays_given tick event values t u (Err (ungiven.Late k)) x same = stays_still t u x.5 same
 stays_given tick event values t u (Err ungiven.Full) x same = stays_still t u x.1 same
 stays_given tick event values t u (Err ungiven.Memory) x same = stays_still t u x same
+
+-- a stage that is one without a failure
+pub lives : (s z : Stage) → s ≡ z → IsAlive z → IsAlive s
+lives s z is alive = subst IsAlive (sym is) alive
 
 module _ (g : Opening) (now : Option Text) (t : Spoken) (h : HasTold g now t) where
   pub same : (u : Spoken) → u ≡ t → HasTold g now u
@@ -369,16 +382,16 @@ module _ (g : Opening) (now : Option Text) (t : Spoken) (h : HasTold g now t) wh
   still new u e w = subst (λ (z : Option Text). HasTold g z (record { session = u; answered = t.answered })) (sym w) (same _ (λ k. record { session = e k; answered = t.answered }))
 
   pub gone_until : t.session.stage ≡ stage.Running → (to : ℕ) (new : Option Text) (u : Talk) (r : Until) → GoesUntil to t.session u now new (Ok r) → HasTold g new (record { session = u; answered = t.answered })
-  gone_until running to new u until.At x = let m = x h.past h.stands in gone g now t h running new u m.0 m.1
-  gone_until running to new u (until.Break n k) x = let m = x h.past h.stands in gone g now t h running new u m.0 m.1
-  gone_until running to new u (until.Stop k) x = let m = x h.past h.stands in gone g now t h running new u m.0 m.1
+  gone_until running to new u until.At x = let m = x h.past h.stands in gone g now t h running new u m.0 (lives _ _ m.2.0 tt) m.1
+  gone_until running to new u (until.Break n k) x = let m = x h.past h.stands in gone g now t h running new u m.0 (lives _ _ m.2.0 tt) m.1
+  gone_until running to new u (until.Stop k) x = let m = x h.past h.stands in gone g now t h running new u m.0 (lives _ _ m.2.0 tt) m.1
   gone_until running to new u until.Stopped x = still new u x.1.0 x.1.1
   gone_until running to new u (until.Below n) x = still new u x.2.0 x.2.1
 
   pub gone_next : t.session.stage ≡ stage.Running → (new : Option Text) (u : Talk) (r : Next) → TakesOne t.session u now new (Ok r) → HasTold g new (record { session = u; answered = t.answered })
-  gone_next running new u next.Nothing x = gone g now t h running new u [] (x.3 h.past h.stands).0
-  gone_next running new u (next.Took k) x = let m = x.2 h.past h.stands in gone g now t h running new u (m.0 ∷ []) m.1
-  gone_next running new u (next.Stop k) x = let m = x.2 h.past h.stands in gone g now t h running new u (m.0 ∷ []) m.1
+  gone_next running new u next.Nothing x = gone g now t h running new u [] (lives _ _ x.1 tt) (x.3 h.past h.stands).0
+  gone_next running new u (next.Took k) x = let m = x.2 h.past h.stands in gone g now t h running new u (m.0 ∷ []) (lives _ _ x.0 tt) m.1
+  gone_next running new u (next.Stop k) x = let m = x.2 h.past h.stands in gone g now t h running new u (m.0 ∷ []) (lives _ _ x.0 tt) m.1
   gone_next running new u next.Stopped x = still new u x.1.0 x.1.1
 
 -- a session that has not changed
@@ -390,6 +403,7 @@ pub nothing_told : (g : Opening) (t : Spoken) → AreGood g.inputs → of_talk g
     → StandsBy t.session (record { given = []; taken = [] }) → HasTold g g.start t
 nothing_told g t good of running written answered stands = record {
   good = good;
+  alive = lives _ _ running tt;
   past = record { given = []; taken = [] };
   pieces = [];
   of = of;

@@ -27,6 +27,7 @@ returns-in-Err-write_lines_with_count g c =
     let on = c.in-Running.is in
     let m = c.take_next.new.self in
     rw (← c.self.view_is) (record {
+      running = on;
       failed = refl;
       of = record { inputs = refl; steps = refl; form = refl };
       counted = refl;
@@ -136,6 +137,7 @@ returns-in-Err-write_end g c =
     let got = rw c.lines.ensures at c.in-Ok-write_lines_with_count.ensures.whole in
     let counted = rw c.lines.ensures at c.in-Ok-write_lines_with_count.ensures.counted in
     rw (← c.self.view_is) (record {
+      running = on;
       failed = refl;
       of = record { inputs = refl; steps = refl; form = refl };
       counted = refl;

@@ -1,8 +1,17 @@
-use Rattle.fb_types.proofs.Common.{◌≡◌, ℕ, List, Some, inr, subst, sym, system_of, path_at, path_text}
+use Rattle.fb_types.proofs.Common.{◌≡◌, ℕ, List, Some, inr, refl, subst, sym, system_of, path_at, path_text}
 use Rattle.fb_types.specs.OfSystem.{IsInstance}
-use Rattle.fb_session.specs.Pasts.{StandsBy, Talk, now}
+use Rattle.fb_session.specs.Pasts.{IsAlive, StandsBy, Talk, now}
 use Rattle.fb_session.specs.Shown.{IsBlockShown, ShowsPath}
+use Rattle.fb_session.specs.declared.fault.SessionFault.{SessionFault}
+use Rattle.fb_session.specs.declared.stage.Stage.{Stage}
+use Rattle.fb_session.specs.declared.stage.Stage.TheVariants as stage
 use Rattle.fb_session.proofs.session.Session.show.Goals as goal
+
+-- no failure is left
+is_alive : (s : Stage) → ((fault : SessionFault) → s ≡ stage.Failed fault → ⊥) → IsAlive s
+is_alive stage.Running unfailed = tt
+is_alive (stage.Stopped m) unfailed = tt
+is_alive (stage.Failed fault) unfailed = unfailed fault refl
 
 pub returns-in_default-instance_at : goal.returns-in_default-instance_at
 returns-in_default-instance_at c =
@@ -13,7 +22,7 @@ pub put_block-requires : goal.put_block-requires
 put_block-requires c =
     let p = c.requires.0 in
     let was = subst (λ (t : Talk). StandsBy t p) (sym c.self.view_is) c.requires.1 in
-    let alive = c.in_default.not-Failed in
+    let alive = is_alive _ c.in_default.not-Failed in
     let goes = was.goes alive in
     record {
       instance = c.in-Some.ensures.some.0;
@@ -24,7 +33,7 @@ put_block-requires c =
 pub returns : goal.returns
 returns c =
     let i = c.self.inside.system.now in
-    let alive = c.in_default.not-Failed in
+    let alive = is_alive _ c.in_default.not-Failed in
     let k = c.in-Some.instance in
     let text = c.put_block.new.text.items in
     subst (λ (t : Talk). ShowsPath t c.args.path.now (Some text)) c.self.view_is (

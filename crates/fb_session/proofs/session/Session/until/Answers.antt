@@ -102,6 +102,7 @@ returns-in-Ok-write_end g c =
 
 pub returns-in-Err-write_end : goal.returns-in-Err-write_end
 returns-in-Err-write_end g c = rw (← c.self.view_is) (record {
+  running = c.in-Running.is;
   failed = refl;
   of = record { inputs = refl; steps = refl; form = refl };
   counted = refl;
@@ -112,6 +113,7 @@ returns-in-Err-write_end g c = rw (← c.self.view_is) (record {
 
 pub returns-in-Err : goal.returns-in-Err
 returns-in-Err g c = rw (← c.self.view_is) (record {
+  running = c.in-Running.is;
   failed = refl;
   of = record { inputs = refl; steps = refl; form = refl };
   counted = refl;
