@@ -1017,8 +1017,22 @@ CALLS += [
     of("expect rules trace nowhere --why", 3, err=b"file fault\ntrace nowhere: no file of this name can be read\n"),
     of("expect rules nowhere", 3, err=b"file fault\n"),
     of("expect rules . --why", 3, err=b"file fault\ntrace .: this is a folder, not a file\n"),
+    # A folder in the place of each file.
+    *(
+        of(f"{words} --why", 3, err=b"file fault\n%s .: this is a folder, not a file\n" % kind)
+        for words, kind in (
+            ("check .", b"declaration"), ("run . --horizon 1", b"declaration"), ("wave . trace", b"declaration"), ("inspect . trace", b"declaration"),
+            ("coverage . trace", b"declaration"), ("expect rules trace --decl .", b"declaration"), ("check lit --types .", b"types"),
+            ("check cycle --deploy .", b"deployment"), ("expect rules trace --decl cycle --deploy .", b"deployment"), ("run cycle --horizon 1 --stim .", b"stimuli"),
+            ("expect . trace", b"rules"), ("inspect cycle .", b"trace"), ("coverage cycle .", b"trace"), ("diff . trace", b"trace"), ("expect rules trace .", b"trace"),
+        )
+    ),
     # A file that opens, and fails where it is read.
     of("expect rules trace /proc/self/mem --why", 3, err=b"file fault\ntrace /proc/self/mem: this file can't be read to its end\n"),
+    *(
+        of(f"{command} cycle /proc/self/mem --why", 3, err=b"file fault\ntrace /proc/self/mem: this file can't be read to its end\n")
+        for command in ("wave", "wave --states", "inspect", "coverage")
+    ),
     of("diff trace /proc/self/mem --why", 3, err=b"file fault\ntrace /proc/self/mem: this file can't be read to its end\n"),
     of("diff /proc/self/mem trace --why", 3, err=b"file fault\ntrace /proc/self/mem: this file can't be read to its end\n"),
     of("diff /proc/self/mem trace", 3, err=b"file fault\n"),
