@@ -6,11 +6,12 @@ use Rattle.fb_read_positions.specs.declared.position.Position.{Position}
 use Rattle.fb_sim.specs.Given.{Given}
 use Rattle.fb_sim.specs.Serial.{Declares}
 use Rattle.fb_stop.specs.Found.{IsStop}
-use Rattle.fb_stop.specs.Places.{IsStopPosition}
-use Rattle.fb_stop.specs.Shown.{IsStopShown}
+use Rattle.fb_stop.specs.Places.{HasNoPosition, IsStopPosition}
+use Rattle.fb_stop.specs.Shown.{IsStopShown, IsUnshown, operation_at}
 use Rattle.fb_stop.specs.declared.found.FoundStop.{FoundStop}
 use Rattle.fb_stop.specs.declared.shown.Shown.{Shown}
 use Rattle.fb_read_positions.specs.Places.{IsPlaceAt}
+use Rattle.fb_read_positions.specs.Spans.{IsNowhere}
 use Rattle.fb_read_positions.specs.Places.{IsPlace, IsStretch}
 use Rattle.fb_read_positions.specs.declared.places.Place.{Place}
 use Rattle.fbsim_command.specs.Outcomes.{End}
@@ -28,10 +29,19 @@ pub record IsOperatorPlace (text : Text) (i : Inputs) (stop : FoundStop) (at : P
   pub there : IsStretch shown.operator.start shown.operator.end at
   pub located : IsPlace text at
 
--- The place of a stop is that of its operator, or of its position in the declaration.
+-- Where the position of a stop is in the declaration. There is no place only if there is no position, or if nothing is at it.
+abbrev pub IsPositionPlace : Text → Inputs → FoundStop → Option Place → Type 0
+IsPositionPlace text i stop None = HasNoPosition i stop ⊎ ((p : Position) × IsStopPosition i stop p × IsNowhere text i.library p)
+IsPositionPlace text i stop (Some at) = (p : Position) × IsStopPosition i stop p × IsPlaceAt text i.library p at
+
+-- no operation of the stop is shown
+abbrev pub IsUnshownStop : Text → Inputs → FoundStop → Type 0
+IsUnshownStop text i stop = IsUnshown text i stop (operation_at stop.site)
+
+-- The place of a stop is that of its operator, or, if no operation is shown, of its position in the declaration.
 abbrev pub IsStopPlace : Text → Inputs → FoundStop → Option Place → Type 0
-IsStopPlace text i stop None = Unit {0}
-IsStopPlace text i stop (Some at) = IsOperatorPlace text i stop at ⊎ ((p : Position) × IsStopPosition i stop p × IsPlaceAt text i.library p at)
+IsStopPlace text i stop None = IsUnshownStop text i stop × IsPositionPlace text i stop None
+IsStopPlace text i stop (Some at) = IsOperatorPlace text i stop at ⊎ (IsUnshownStop text i stop × IsPositionPlace text i stop (Some at))
 
 -- The note names the file, the line and the column of the place, or is the words.
 abbrev pub IsNoteAtStop : (types : List (List ℕ)) → (own : List ℕ) → (lines : List FileLines) → Option Place → (words note : List ℕ) → Type 0

@@ -1,9 +1,9 @@
 //! Where a run stops, which is reported after the run if that is asked for.
 
-ghost use Rattle.std.specs.Prelude.{◌≡◌, ◌^◌, ◌≤◌, ◌++◌, ℕ, codes, List, Option, map, IfOk, IfSome, string_bytes};
+ghost use Rattle.std.specs.Prelude.{◌≡◌, ◌^◌, ◌≤◌, ◌++◌, ℕ, codes, List, Option, map, IfNone, IfOk, IfSome, string_bytes};
 ghost use Rattle.fb_sim.specs.Reports.{Hears};
 ghost use Rattle.fb_stop.specs.Shown.{IsStopShown};
-ghost use Rattle.fbsim_command.specs.Stops.{AsksWhere, IsNoteAtStop, IsNoteOfRun, IsStopNote, IsStopPlace, ReportsStop};
+ghost use Rattle.fbsim_command.specs.Stops.{AsksWhere, IsNoteAtStop, IsNoteOfRun, IsPositionPlace, IsStopNote, IsStopPlace, IsUnshownStop, ReportsStop};
 ghost use Rattle.fbsim_command.specs.Texts.{given_of, lines_of};
 
 use crate::failure::Failure;
@@ -20,6 +20,21 @@ use fbsim_line::{Action, Task};
 use std::alloc::{AllocError, Global};
 use std::io::Write;
 
+/// Where the position of a stop is in the text that declares the system.
+fn place_of_position(
+    alloc: Global,
+    declaration: &[u8],
+    system: &System,
+    stop: &FoundStop,
+) -> Result<Option<Place>, AllocError>
+    ensures { IfOk result (IsPositionPlace declaration.now system.now stop.now) }
+{
+    match position_of(system, stop) {
+        Some(position) => place_at(alloc, declaration, system.library(), position),
+        None => Ok(None),
+    }
+}
+
 /// Where a stop is shown in the text that declares the system, if it has a place there.
 fn place_of(
     alloc: Global,
@@ -28,19 +43,17 @@ fn place_of(
     stop: &FoundStop,
     shown: Option<Shown>,
 ) -> Result<Option<Place>, AllocError>
-    requires { IfSome shown (IsStopShown declaration.now system.now stop.now) }
+    requires shown { IfSome shown (IsStopShown declaration.now system.now stop.now) }
+    requires unshown { IfNone shown (IsUnshownStop declaration.now system.now stop.now) }
     ensures { IfOk result (IsStopPlace declaration.now system.now stop.now) }
 {
-    if let Some(shown) = shown {
+    match shown {
         // The place of the operator of an operation.
-        let at = place_between(declaration, shown.operator.start, shown.operator.end);
-        if at.is_some() {
-            return Ok(at);
+        Some(shown) => {
+            let operator = shown.operator;
+            Ok(place_between(declaration, operator.start, operator.end))
         }
-    }
-    match position_of(system, stop) {
-        Some(position) => place_at(alloc, declaration, system.library(), position),
-        None => Ok(None),
+        None => place_of_position(alloc, declaration, system, stop),
     }
 }
 

@@ -1,15 +1,21 @@
 -- What is reported of a run that stopped.
 use Rattle.fbsim_command.proofs.lemmas.Common.{◌≡◌, ◌++◌, ◌∙◌, ◌∷◌, ℕ, Bool, true, List, [], Option, String, refl, sym, ap, subst, append_assoc, append-nil, Ok, Err, inl, inr, IfOk, IfSome, None, Result, Some, string_bytes, Inputs, Library, Given, Hears, Place, Held}
-use Rattle.fb_types.proofs.Common.{Appends-trans}
+use Rattle.fb_types.proofs.Common.{◌+◌, ◌≤◌, Appends-trans, IsTrue, arith, drop, false≢true, is_some, length}
 use Rattle.fb_read.specs.Blank.{Text}
+use Rattle.fb_read.specs.Located.{AreLocated}
+use Rattle.fb_read.specs.Refusals.{IsNext}
+use Rattle.fb_read.specs.Tokens.{after_mark}
+use Rattle.fb_read.specs.declared.token.Located.{Located}
+use Rattle.fb_read.proofs.lemmas.tokens.PrefixLaws.{next-after}
 use Rattle.fb_read_positions.specs.declared.position.Position.{Position}
 use Rattle.fb_stop.specs.Found.{IsStop}
 use Rattle.fb_stop.specs.Places.{IsStopPosition}
 use Rattle.fb_stop.specs.Shown.{IsStopShown}
 use Rattle.fb_stop.specs.declared.found.FoundStop.{FoundStop}
 use Rattle.fb_stop.specs.declared.shown.Shown.{Shown}
-use Rattle.fb_read_positions.specs.Places.{IsPlaceAt, IsPlaceFor, IsPlace, IsStretch}
-use Rattle.fbsim_command.specs.Stops.{IsNoteAtStop, IsNoteOfRun, IsNoteOfStop, IsStopPlace}
+use Rattle.fb_read_positions.specs.Places.{IsPlaceAt, IsPlaceFor, IsPlace, IsStretch, IsWithin}
+use Rattle.fb_read_positions.specs.Spans.{IsNowhere}
+use Rattle.fbsim_command.specs.Stops.{IsNoteAtStop, IsNoteOfRun, IsNoteOfStop, IsPositionPlace, IsStopPlace, IsUnshownStop}
 use Rattle.fbsim_command.specs.declared.join.FileLines.{FileLines}
 
 -- one report after another, of which all was taken
@@ -39,16 +45,36 @@ hears_no_more old new first heard h = subst (λ (t : List ℕ). Hears heard old 
 
 -- the place of a position
 pub placed : (text : Text) (i : Inputs) (stop : FoundStop) (p : Position) (library : Library) {E : Type 0} (r : Result (Option Place) E) → IsStopPosition i stop p → library ≡ i.library
-    → IfOk r (IsPlaceFor text library (Some p)) → IfOk r (IsStopPlace text i stop)
-placed text i stop p library (Ok None) is same h = tt
-placed text i stop p library (Ok (Some at)) is same h = inr (p, is, subst (λ (l : Library). IsPlaceAt text l p at) same h)
+    → IfOk r (IsPlaceFor text library (Some p)) → IfOk r (IsPositionPlace text i stop)
+placed text i stop p library (Ok None) is same h = inr (p, is, subst (λ (l : Library). IsNowhere text l p) same h)
+placed text i stop p library (Ok (Some at)) is same h = (p, is, subst (λ (l : Library). IsPlaceAt text l p at) same h)
 placed text i stop p library (Err e) is same h = tt
 
+-- the place of the position, where no operation is shown
+pub positioned : (text : Text) (i : Inputs) (stop : FoundStop) {E : Type 0} (r : Result (Option Place) E) → IsUnshownStop text i stop → IfOk r (IsPositionPlace text i stop) → IfOk r (IsStopPlace text i stop)
+positioned text i stop (Ok None) unshown h = (unshown, h)
+positioned text i stop (Ok (Some at)) unshown h = inr (unshown, h)
+positioned text i stop (Err e) unshown h = tt
+
+-- a token of a text is in it, after its byte order mark
+next-within : (text : Text) (ps : List Located) (k start end : ℕ) → AreLocated text ps (after_mark text) → IsNext (drop k ps) text start end → IsWithin text start end
+next-within text ps k start end located next = go (drop k ps) next (next-after text k start end ps (after_mark text) located next)
+  where
+    go : (left : List Located) → IsNext left text start end → length text ≤ start + length (after_mark text) → IsWithin text start end
+    go [] x after = record { after = after; ordered = omega (arith, x.0, x.1); within = omega (arith, x.1) }
+    go (q ∷ left) x after = record { after = after; ordered = omega (arith, x.2); within = x.3 }
+
+-- the operator of an operation is in the text
+operator-within : (text : Text) (i : Inputs) (stop : FoundStop) (x : Shown) → IsStopShown text i stop x → IsWithin text x.operator.start x.operator.end
+operator-within text i stop x is =
+    let s = is.shown in
+    next-within text s.tokens (s.begin + is.operation.operator) x.operator.start x.operator.end s.located s.shown.operator.1
+
 -- the place of an operator
-pub operated : (text : Text) (i : Inputs) (stop : FoundStop) (x : Shown) (o : Option Place) → IsStopShown text i stop x → IfSome o (IsPlace text)
+pub operated : (text : Text) (i : Inputs) (stop : FoundStop) (x : Shown) (o : Option Place) → IsStopShown text i stop x → (IsWithin text x.operator.start x.operator.end → IsTrue (is_some o)) → IfSome o (IsPlace text)
     → IfSome o (λ at. IsStretch x.operator.start x.operator.end at) → IsStopPlace text i stop o
-operated text i stop x None is located there = tt
-operated text i stop x (Some at) is located there = inl (record { shown = x; is = is; there = there; located = located })
+operated text i stop x None is some located there = absurd (false≢true (some (operator-within text i stop x is)))
+operated text i stop x (Some at) is some located there = inl (record { shown = x; is = is; there = there; located = located })
 
 -- the note with a place, if there is one, as that of a stop
 pub noted_at :
