@@ -3,19 +3,19 @@
 that fails.
 
 The texts are the literals in the code of crates/*/src, without contracts and tests. Each place at which the code of the program refers to
-one is changed by itself, in a copy: it then refers to other bytes, so another text of the same length is printed. If no case fails, a
-byte of the text is changed where it stands, and then where the function has it among the numbers of its instructions, by which it
-compares. So it is with texts that the compiler put into instructions or copies in parts. The cases are those of cases/*.toml, the calls
-of tools/calls.py, docs/HELP.md and the explanations. Each of them is first run with break points at all these places (reached.c). For a
-place those are run that come by there, until one fails: first those that print the text, and most of the other texts of its file.
+one is changed by itself: it then refers to other bytes, so another text of the same length is printed. If no case fails, a byte of the text
+is changed where it stands, and then where the function has it among the numbers of its instructions, by which it compares. So it is with
+texts that the compiler put into instructions or copies in parts. Cases have these changes in memory (tools/served.py), calls in a copy of
+the program. The cases are those of cases/*.toml, the calls of tools/calls.py, docs/HELP.md and the explanations. Each of them is first run
+with break points at all these places (reached.c). For a place those are run that come by there, until one fails: first those that print
+the text, then those that are given it, and most of the other texts of its file.
 
-It lists the texts whose place no case reaches, and those that are changed and no case fails, and counts those without a place: they have
-three bytes or fewer. What it lists is no gap where
-- a write fails, or memory runs out: calls with that are left out here, and tools/narrow.py and tools/refuse.py make them
-- no input reaches the place: it is there because the type of a value has more than its callers give
-- one byte of a text is compared, which is a number in an instruction that other numbers look like
-So ./gate does not run it. With files it is about the texts of these alone. --list runs nothing: it lists the texts that no case shows.
-Without --program it takes the program that ./simulate built. tools/texts_test.py tests this, in ./gate."""
+It lists the texts whose place no case reaches, and those of two bytes or more that are changed and no case fails. It counts those without a
+place: they have three bytes or fewer. A single byte that is compared is a number of an instruction. tools/texts_unshown.toml has those of which this is no gap, with the reason. They are counted, and not listed. What it
+has of texts that are no longer there, or for which a case fails, is listed.
+
+./gate does not run this, since it takes long. With files it is about the texts of these alone. --list runs nothing: it lists the texts that
+no case shows. Without --program it takes the program that ./simulate built. tools/texts_test.py tests this, in ./gate."""
 
 import bisect
 import glob
@@ -25,8 +25,10 @@ import os
 import re
 import shutil
 import struct
+import subprocess
 import sys
 import tempfile
+import tomllib
 from collections import defaultdict
 from contextlib import ExitStack
 from typing import NamedTuple
@@ -36,6 +38,7 @@ import cases
 import unbuilt
 from kit import TOP, rt
 from program import SECONDS, Room
+from served import Served
 
 PROGRAM = "fbsim"
 # The most cases that are run for one change before the text counts as shown by none.
@@ -56,6 +59,8 @@ LEAST, WORD = 4, 8
 SHORTEST, COMPARISON = 2, rb"\x66(?:\x3d|\x81[\xf8-\xff]|\x81[\x38-\x3f]|\x81[\x78-\x7f].)"
 # Crates that print nothing, or only for tests.
 SILENT = ("fb_tests",)
+# The texts that no case has to show.
+UNSHOWN = f"{TOP}/tools/texts_unshown.toml"
 
 TOKEN = re.compile(
     r"""(?P<note>//[^\n]*)
@@ -227,6 +232,13 @@ class Elf:
                 return address - begin + offset
         return None
 
+    def in_memory(self, at, new):
+        """Returns the change of the loaded program that is that of an offset in the file: an address, and bytes or another address."""
+        _, begin, size = self.sections[".rela.dyn"]
+        if begin <= at < begin + size:
+            return struct.unpack_from("<Q", self.data, at - (at - begin) % 24)[0], struct.unpack("<q", new)[0]
+        return next((address + at - offset, new) for address, offset, size in self.sections.values() if address and offset <= at < offset + size)
+
     def references(self):
         """Returns each reference to constants: its target, the address of the reference, the offset and the form of its number."""
         begin, offset, size = self.sections[".text"]
@@ -337,10 +349,19 @@ def uses_of(data, literals):
             # (a reference may be read by no code any more, which then has the bytes themselves)
             changes = [(place, struct.pack(form, number)), changed_byte(best.text, elf.offset(target)), *compared(elf, best.text, where)]
             uses.append(Use(symbol, best, changes, *passing(where)))
+    uses = without_libraries(uses, {it.path.split("/")[1] for it in literals})
     referred = {it.literal.text for it in uses}
     for text in by_text.keys() - referred:
         uses += copies(elf, by_text[text])
     return uses
+
+
+def without_libraries(uses, crates):
+    """Returns the uses without those in functions of libraries, of texts that a function of these crates uses too. There an empty text begins
+    at the same address, or another one that begins with the same bytes."""
+    is_own = [it.symbol.split("::")[0] in crates or "::" not in it.symbol for it in uses]
+    texts = {it.literal.text for it, own in zip(uses, is_own) if own}
+    return [it for it, own in zip(uses, is_own) if own or it.literal.text not in texts]
 
 
 def changed_byte(text, at):
@@ -397,24 +418,27 @@ def passes(elf, references):
 
 
 class Oracle(NamedTuple):
-    """Something to run: its name, what it must print, and the test of whether a program, in a room for it, does so."""
+    """Something to run: its name, what it must print, the test of whether a program, in a room for it, does so, and what it is given."""
 
     name: str
     shown: bytes
     holds: object
     size: int
+    given: bytes = b""
 
 
 def of_case(case):
     _, wrote, errors = cases.expected_result(case)
-    return Oracle(case.place, wrote + errors, lambda rooms: cases.fault_of(rooms.cases, case) is None, sum(map(len, case.fields.values())))
+    given = b" ".join([case.command.encode(), *case.fields.values()])
+    return Oracle(case.place, wrote + errors, lambda rooms: cases.fault_of(rooms.cases, case) is None, len(given), given)
 
 
 def of_call(call):
     shown = (call.out or b"") + (call.err or b"") + "\n".join(call.has).encode()
     size = len(shown) + 1000 * (call.memory is not None)
     name = f"calls.py, {' '.join(map(str, call.words))[:80]}"
-    return Oracle(name, shown, lambda rooms: not calls.make(call, rooms.words, rooms.calls.room), size)
+    given = b" ".join([*map(os.fsencode, call.words), call.given])
+    return Oracle(name, shown, lambda rooms: not calls.make(call, rooms.words, rooms.calls.room), size, given)
 
 
 def of_words(words, shown):
@@ -424,7 +448,7 @@ def of_words(words, shown):
         ran = rooms.cases.call(words)
         return (ran.returncode, ran.stdout, ran.stderr) == (0, shown, b"")
 
-    return Oracle(" ".join(words), shown, holds, len(shown))
+    return Oracle(" ".join(words), shown, holds, len(shown), " ".join(words).encode())
 
 
 def printed_texts():
@@ -515,17 +539,17 @@ class Watched:
 
 
 class Rooms:
-    """Copies of a program, for cases and for calls, in which the same bytes are changed."""
+    """A program in memory, for cases, and a copy of it, for calls, in which the same bytes are changed."""
 
-    def __init__(self, program):
-        self.cases = Room(program)
-        self.calls = calls.Prepared(program)
+    def __init__(self, program, elf):
+        self.cases, self.calls, self.elf = Served(program), calls.Prepared(program), elf
 
     def write(self, at, new):
-        for path in (self.cases.program, self.calls.program):
-            with open(path, "r+b") as it:
-                it.seek(at)
-                it.write(new)
+        is_whole = self.elf.data[at : at + len(new)] == new
+        self.cases.changes = [] if is_whole else [self.elf.in_memory(at, new)]
+        with open(self.calls.program, "r+b") as it:
+            it.seek(at)
+            it.write(new)
 
     def __enter__(self):
         self.cases.__enter__()
@@ -544,16 +568,19 @@ class Ranking:
         self.reached = reached
         texts = sorted({it.text for it in literals})
         self.found, self.bits = found, {text: 1 << at for at, text in enumerate(texts)}
-        self.shown = [sum(bit for text, bit in self.bits.items() if text in it.shown) for it in found]
+        self.shown, self.given = ([self.texts_in(it.shown) for it in found], [self.texts_in(it.given[:MOST_SHOWN]) for it in found])
         self.of_file, self.of_function = defaultdict(int), defaultdict(int)
         for it in literals:
             if len(it.text) >= TELLING:
                 self.of_file[it.path] |= self.bits[it.text]
                 self.of_function[it.path, it.function] |= self.bits[it.text]
 
+    def texts_in(self, whole):
+        return sum(bit for text, bit in self.bits.items() if text in whole)
+
     def order(self, use):
         """Returns the oracles that come by where a text is used, or all if it is not sure where that is. Those that show the text come first,
-        then those that come by, and of these those that show most of the texts of its function and its file."""
+        then those that are given it, then those that come by, and of these those that show most of the texts of its function and its file."""
         literal = use.literal
         bit = self.bits[literal.text]
         own, near = self.of_function[literal.path, literal.function], self.of_file[literal.path]
@@ -562,7 +589,7 @@ class Ranking:
         def rank(at):
             texts = self.shown[at]
             is_other = use.passed not in self.reached[at]
-            return not texts & bit, is_other, -(texts & own).bit_count(), -(texts & near).bit_count(), self.found[at].size
+            return not texts & bit, not self.given[at] & bit, is_other, -(texts & own).bit_count(), -(texts & near).bit_count(), self.found[at].size
 
         return [self.found[at] for at in heapq.nsmallest(MOST_TRIED, fit, key=rank)]
 
@@ -570,6 +597,14 @@ class Ranking:
 def is_noticed(rooms, data, use, order):
     """Returns whether one of the oracles fails for a changed program, and holds for the program as it is."""
     return any(is_change_noticed(rooms, data, change, order) for change in use.changes)
+
+
+def holds_in_time(oracle, rooms):
+    """Returns whether an oracle holds. A changed program may go on without end."""
+    try:
+        return oracle.holds(rooms)
+    except subprocess.TimeoutExpired:
+        return False
 
 
 def is_change_noticed(rooms, data, change, order):
@@ -580,7 +615,7 @@ def is_change_noticed(rooms, data, change, order):
         NOTICED[change] = False
         for oracle in order:
             rooms.write(at, new)
-            holds = oracle.holds(rooms)
+            holds = holds_in_time(oracle, rooms)
             rooms.write(at, old)
             if not holds and oracle.holds(rooms):
                 NOTICED[change] = True
@@ -633,6 +668,7 @@ def try_uses(rooms, data, uses, ranking):
     for number, (noticed, is_reached) in enumerate(side_by_side(rooms, tried, len(uses))):
         if not noticed:
             (survived if is_reached else unreached).append(uses[number])
+            print(f"texts: no case fails for {shown(uses[number])}", file=sys.stderr, flush=True)
         if number % 100 == 99:
             print(f"texts: {number + 1} of {len(uses)}, {len(survived)} survived", file=sys.stderr, flush=True)
     return unreached, survived
@@ -641,6 +677,24 @@ def try_uses(rooms, data, uses, ranking):
 def shown(use):
     it = use.literal
     return f"{it.path}:{it.line}: {it.function}: {it.text.decode(errors='replace')!r}" + f" (in {use.symbol})" * (use.symbol != "")
+
+
+def name_of(literal):
+    """Returns what names a text in texts_unshown.toml: its file, its function and itself."""
+    return literal.path, literal.function, literal.text.decode()
+
+
+def no_gaps():
+    """Returns the names of the texts that no case has to show."""
+    with open(UNSHOWN, "rb") as it:
+        return [tuple(name) for group in tomllib.load(it)["group"] for name in group["texts"]]
+
+
+def sorted_out(found, known, literals):
+    """Returns the uses that were found and are not known, and the names that are known, and of these literals, and were not found."""
+    here = {it.path for it in literals}
+    was = {name_of(it.literal) for it in found}
+    return [it for it in found if name_of(it.literal) not in known], [it for it in known if it[0] in here and it not in was]
 
 
 def report(literals, uses, lacks, unshown, survived):
@@ -655,12 +709,32 @@ def report(literals, uses, lacks, unshown, survived):
     return not unshown and not survived
 
 
+def without_copies(unreached, survived, uses):
+    """Returns the uses that no case reaches, without those of texts for which a case fails at another place of the same function. A compiler
+    makes copies of code for cases that can't be."""
+    lacking = {id(it) for it in (*unreached, *survived)}
+    noticed = {name_of(it.literal) for it in uses if id(it) not in lacking}
+    return [it for it in unreached if name_of(it.literal) not in noticed]
+
+
+def report_new(literals, uses, unreached, survived):
+    """Prints what was found and is not known, and what is known and was not found. Returns whether that is nothing."""
+    known, unreached = no_gaps(), without_copies(unreached, survived, uses)
+    longer = [it for it in survived if len(it.literal.text) >= SHORTEST]
+    new, gone = sorted_out([*unreached, *longer], known, literals)
+    for file, function, text in gone:
+        print(f"no more without a case, or no more a text: {file}: {function}: {text!r}")
+    print(f"texts: {len(unreached) + len(survived) - len(new)} that no case fails for and none has to")
+    return report(literals, uses, "no case reaches", *([it for it in them if it in new] for them in (unreached, longer))) and not gone
+
+
 def try_all(program, paths=()):
     """Changes each text of a program, or those of these files, and returns whether a case fails for each."""
     literals, found = all_literals(), oracles()
     with open(program, "rb") as it:
         data = it.read()
     uses = [it for it in uses_of(data, literals) if not paths or it.literal.path in paths]
+    literals = [it for it in literals if not paths or it.path in paths]
     # Each run of a system is on one thread: the texts are the same for each number of workers.
     ways, cases.WAYS = cases.WAYS, {command: ways[:1] for command, ways in cases.WAYS.items()}
     try:
@@ -668,12 +742,13 @@ def try_all(program, paths=()):
             # (the help has the name by which the program is called)
             called = f"{kept.enter_context(tempfile.TemporaryDirectory(prefix='texts-'))}/{PROGRAM}"
             shutil.copyfile(program, called)
-            ranking = Ranking(literals, found, places_reached(called, Elf(data), uses, found))
-            rooms = [kept.enter_context(Rooms(called)) for _ in range(rt.processors())]
+            elf = Elf(data)
+            ranking = Ranking(literals, found, places_reached(called, elf, uses, found))
+            rooms = [kept.enter_context(Rooms(called, elf)) for _ in range(rt.processors())]
             unreached, survived = try_uses(rooms, data, uses, ranking)
     finally:
         cases.WAYS = ways
-    return report([it for it in literals if not paths or it.path in paths], uses, "no case reaches", unreached, survived)
+    return report_new(literals, uses, unreached, survived)
 
 
 def list_unshown(paths):

@@ -12,6 +12,7 @@ import tempfile
 import program
 import texts
 from kit import rtlib
+from served import Served
 
 LOADER = "/lib64/ld-linux-x86-64.so.2"
 
@@ -68,34 +69,30 @@ __attribute__((noinline)) void print(char number) {
     case '6': put("the sixth text", 14); break;
     }
 }
-__attribute__((force_align_arg_pointer)) void _start(void) {
+int main(void) {
     char number = 0;
     while (call(0, 0, (long)&number, 1) == 1) print(number);
-    call(60, 0, 0, 0);
+    return 0;
 }
+__asm__(".globl _start; _start: xor %ebp, %ebp; mov %rdx, %r9; pop %rsi; mov %rsp, %rdx; and $-16, %rsp; push %rax; push %rsp;"
+        "xor %r8d, %r8d; xor %ecx, %ecx; lea main(%rip), %rdi; call *__libc_start_main@GOTPCREL(%rip); hlt");
 """
 TEXTS = {"1": b"the first text", "2": b"the second text", "3": b"the third text", "4": b"the fourth text", "5": b"and five", "6": b"the sixth text"}
 
 
-class Copy:
-    """A copy of a program in which bytes are changed."""
+class Copy(Served):
+    """A copy of a program that is changed in memory."""
 
-    def __init__(self, folder, data):
-        self.path = f"{folder}/copy"
-        self.write_all(data)
-
-    def write_all(self, data):
-        with open(self.path, "wb") as it:
-            it.write(data)
-        os.chmod(self.path, 0o755)
+    def __init__(self, path, data):
+        super().__init__(path)
+        self.elf = texts.Elf(data)
 
     def write(self, at, new):
-        with open(self.path, "r+b") as it:
-            it.seek(at)
-            it.write(new)
+        self.changes = [] if self.elf.data[at : at + len(new)] == new else [self.elf.in_memory(at, new)]
 
     def printed(self, numbers):
-        return subprocess.run([self.path], input=numbers.encode(), capture_output=True, check=True).stdout
+        ran = self.call([], numbers.encode())
+        return ran.stdout if (ran.returncode, ran.stderr) == (0, b"") else None
 
 
 def made(folder):
@@ -129,7 +126,7 @@ def reached(folder, data, uses, found):
 def oracle(numbers, looks_at):
     """Returns an oracle that compares the first bytes of what the numbers print, this many."""
     shown = b"".join(TEXTS[it] for it in numbers)
-    return texts.Oracle(numbers, shown, lambda rooms: rooms.printed(numbers)[:looks_at] == shown[:looks_at], len(shown))
+    return texts.Oracle(numbers, shown, lambda rooms: (rooms.printed(numbers) or b"")[:looks_at] == shown[:looks_at], len(shown))
 
 
 def faults_of_program():
@@ -137,22 +134,24 @@ def faults_of_program():
     literals = [texts.Literal("crates/fb_stub/src/words.rt", 1, "print", it) for it in TEXTS.values()]
     with tempfile.TemporaryDirectory(prefix="texts-") as folder:
         data = made(folder)
-        copy = Copy(folder, data)
         uses = texts.uses_of(data, literals)
         # The second text is shown, and no case looks at it. No case shows the sixth.
         found = [oracle("1", 99), oracle("12", 14), oracle("34", 99), oracle("5", 99)]
-        if not all(it.holds(copy) for it in found):
-            return ["the small program does not print what it should"]
-        places = reached(folder, data, uses, found)
-        unreached, survived = texts.try_uses([copy], data, uses, texts.Ranking(literals, found, places))
-        with open(copy.path, "rb") as it:
-            is_whole = it.read() == data
+        with Copy(f"{folder}/stub", data) as copy:
+            if not all(it.holds(copy) for it in found):
+                return ["the small program does not print what it should"]
+            places = reached(folder, data, uses, found)
+            unreached, survived = texts.try_uses([copy], data, uses, texts.Ranking(literals, found, places))
+            is_whole = all(it.holds(copy) for it in found)
+    # Of the two texts that are listed as no gaps, a case shows the first one.
+    listed = [texts.name_of(it) for it in literals[:2]]
+    new, shown = texts.sorted_out([*unreached, *survived], listed, literals)
     of = {text: {it.passed for it in uses if it.literal.text == text and it.is_sure} for text in TEXTS.values()}
     by_oracle = [{text for text in TEXTS.values() if of[text] & it} for it in places]
     five = TEXTS["5"]  # its place is the beginning of the function
-    came = ({it.literal.text for it in uses}, by_oracle, {it.literal.text for it in unreached}, {it.literal.text for it in survived}, is_whole)
+    came = ({it.literal.text for it in uses}, by_oracle, *({it.literal.text for it in them} for them in (unreached, survived, new)), shown, is_whole)
     by_numbers = [{TEXTS["1"], five}, {TEXTS["1"], TEXTS["2"], five}, {five}, {five}]
-    expected = ({*TEXTS.values()}, by_numbers, {TEXTS["6"]}, {TEXTS["2"]}, True)
+    expected = ({*TEXTS.values()}, by_numbers, {TEXTS["6"]}, {TEXTS["2"]}, {TEXTS["6"]}, listed[:1], True)
     return [f"expected {it}; got {was}" for it, was in zip(expected, came) if it != was]
 
 
