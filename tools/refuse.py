@@ -7,7 +7,8 @@ its output must be a beginning of the first one's that ends at the end of a line
 
 This shows what no proof says: out of memory is answered wherever it occurs, and a call that promises to change nothing then changes
 nothing. It also shows that no request comes after the first byte of a round, or of what a run on one agenda writes at once: if the
-lines of each round are known and memory runs out, the output ends where a round ends.
+lines of each round are known and memory runs out, the output ends where a round ends. A refusal is reported whole, with the line of the
+refusal alone, or as out of memory.
 
 ./gate runs this when it has run the program, for the runs in RUNS with --serial, one worker and two, and for the calls in COMMANDS with
 the traces of TRACED. Without ./gate and without words it uses the program that ./simulate built. A test that the kit built is a program too: its name is the word. Its status for out of
@@ -31,7 +32,7 @@ from kit import TOP, rt, rtlib
 from program import SECONDS, Room, side_by_side
 
 PROGRAM = "fbsim"
-OUT_OF_MEMORY = 4
+REFUSAL, OUT_OF_MEMORY = 2, 4
 # The status of a test that answers a failure.
 FAILED_TEST = 101
 # The output of a test that ends itself because a call ran out of memory, and that of the kit. An assertion that fails has another one.
@@ -167,6 +168,32 @@ count = "* < *"
 most = 1
 """
 
+# Calls that are refused: their words, their texts, and what standard error gets. The rules are those of docs/FORMATS.md.
+OF_EVENTS = "APPLICATION A FBS S : E_RESTART; M : E_MERGE; END_FBS EVENT_CONNECTIONS\n{}END_CONNECTIONS END_APPLICATION\n"
+REFUSED = {
+    "a section that has another end": (
+        ["check", "d.iec", "--why"],
+        {"d.iec": "FUNCTION_BLOCK F EVENT_INPUT A; END_EVENT\nEC_STATES S; END_STATES\nEND_FUNCTION_BLOC\n"},
+        "refused E03 line 3\n"
+        "d.iec:3:1: E03: found END_FUNCTION_BLOC, expected one of END_FUNCTION_BLOCK EC_TRANSITIONS ALGORITHM\nEND_FUNCTION_BLOC\n^\n",
+    ),
+    "two ends of connections that are none": (
+        ["check", "d.iec", "--why"],
+        {"d.iec": OF_EVENTS.format("S.COLD TO M.EI3;\nS.HOT TO M.EI1;\n")},
+        "refused E21\n"
+        "d.iec:2:13: E21: application A: event connection S.COLD TO M.EI3: E_MERGE has no event input EI3 (it has EI1, EI2)\n"
+        "S.COLD TO M.EI3;\n            ^\n"
+        "d.iec:3:3: E21: application A: event connection S.HOT TO M.EI1: E_RESTART has no event output HOT (it has COLD, WARM, STOP)\n"
+        "S.HOT TO M.EI1;\n  ^\n",
+    ),
+    "a value that is none": (
+        ["check", "d.iec", "--stim", "s.csv", "--why"],
+        {"d.iec": OF_EVENTS.format("S.COLD TO M.EI1;\n"), "s.csv": "tick,event,values\n1,M.EI1,X=2 Y=q\n"},
+        "refused E14\n"
+        's.csv:2:13: E14: row 0: the word "Y=q": its value is neither a number nor TRUE or FALSE\n1,M.EI1,X=2 Y=q\n            ^\n',
+    ),
+}
+
 # The commands of a session of these two resources, each of them at least once, with errors of each kind.
 SESSION = "".join(
     f"{it}\n" for it in (
@@ -220,6 +247,10 @@ class Refusals:
         is_end = len(part) in self.ends if self.ends is not None else not part or part.endswith(b"\n")
         return is_end and whole.startswith(part)
 
+    def may_be(self, ended, part, whole):
+        """Whether a run may end so that has a request refused, and does not end like the first one."""
+        return ended == self.memory and self.is_beginning(part, whole)
+
     def faults(self, status, output):
         """Refuses each request once. Returns the faults, a line each, and the number of refused requests."""
         faults, first = [], 1
@@ -228,10 +259,20 @@ class Refusals:
             for number, ended, wrote, has_refused in itertools.chain(*side_by_side(self.runs, parts)):
                 if not has_refused:
                     return faults, number - 1
-                is_whole = (ended, wrote) == (status, output)
-                if not is_whole and not (ended == self.memory and self.is_beginning(wrote, output)):
+                if (ended, wrote) != (status, output) and not self.may_be(ended, wrote, output):
                     faults.append(f"request {number} refused: status {ended}, {len(wrote)} wrong bytes")
             first = parts[-1].stop
+
+
+class Reports(Refusals):
+    """The same of a call that is refused, with standard error in place of the output."""
+
+    def result(self, number, status, has_refused):
+        _, errors = (self.taken(f"{name}-{number}") for name in ("out", "err"))
+        return number, os.waitstatus_to_exitcode(status), errors, bool(has_refused)
+
+    def may_be(self, ended, part, whole):
+        return (ended, part) in [(self.memory, b"out of memory\n"), (REFUSAL, whole[: whole.index(b"\n") + 1])]
 
 
 def tell(name, faults, made):
@@ -292,9 +333,20 @@ def try_session(program):
 
 
 def try_all(program):
-    """Does this for all of RUNS in each way, for all COMMANDS and for a session, and returns whether there were no faults."""
+    """Does this for all of RUNS in each way, for all COMMANDS, for a session and for REFUSED, and returns whether there were no faults."""
     runs = [try_run(program, it, way) for it in RUNS for way in WAYS]
-    return all(runs + [try_command(program, command, it) for command in COMMANDS for it in TRACED] + [try_session(program)])
+    commands = [try_command(program, command, it) for command in COMMANDS for it in TRACED]
+    return all(runs + commands + [try_session(program)] + [try_refusal(program, name, *of) for name, of in REFUSED.items()])
+
+
+def try_refusal(program, name, words, texts, errors):
+    """Refuses each request of a call that is refused. With all memory standard error must be as it is given."""
+    with Room(program, {name: text.encode() for name, text in texts.items()}) as room:
+        reports = Reports(room, words, OUT_OF_MEMORY)
+        [(_, status, wrote, _)] = reports.runs([0])
+        if (status, wrote) != (REFUSAL, errors.encode()):
+            return tell(f"{PROGRAM}, {name}", [f"with memory: status {status}, {wrote[:400]!r}"], 0)
+        return tell(f"{PROGRAM}, {name}", *reports.faults(status, wrote))
 
 
 def try_alone(program, words, memory):
