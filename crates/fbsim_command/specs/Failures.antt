@@ -58,6 +58,7 @@ failure_of_refusal (of.Deployment e) = failure_of_input e
 failure_of_refusal (of.Stimuli e) = failure_of_input e
 failure_of_refusal (of.Check e) = failure_of_check e
 
+-- Only a simulation that is used after a failed call answers `Failed`, and the program has none.
 abbrev pub failure_of : RunError → Failure
 failure_of (run.Refused r) = failure_of_refusal r
 failure_of run.Memory = Memory

@@ -12,6 +12,7 @@ use crate::failure::{Failure, RefusalLine};
 use crate::inside_notes::{note_of_inside, note_of_open};
 use crate::line_notes::note_of_wave;
 use crate::notes::{note_of_file, note_of_rest};
+use crate::opening::open_inputs;
 use crate::output::write_text;
 use crate::own_lines::end_with;
 use crate::shown::shown_name;
@@ -20,7 +21,7 @@ use crate::statuses::Done;
 use crate::texts::{cut_of, files_of, read_files};
 use fb_coverage::{Marks, is_below, report_of};
 use fb_inspect::{Covered, Extent, InspectError, RefusedLine, Terms, cover};
-use fb_sim::{Inputs, discard, open};
+use fb_sim::{Inputs, discard};
 use fb_system::System;
 use fbsim_line::Coverage;
 use std::alloc::{AllocError, Global};
@@ -283,7 +284,7 @@ fn write_report<S: Streams, W: Write>(
     ensures written { WritesReport S.opens inputs.now coverage.now source.old source.new (W.contents out.old) (W.contents out.new) result }
     ensures noted { NotesTrace coverage.now (option_map string_bytes note.old) → NotesTrace coverage.now (option_map string_bytes note.new) }
 {
-    let system = open(alloc, inputs)?;
+    let system = open_inputs(alloc, inputs)?;
     let reported = report(alloc, &system, coverage, note, source);
     // Dropped by one call: the end of its scope would prove the drop part by part.
     discard(system);

@@ -5,13 +5,14 @@ ghost use Rattle.fb_types.specs.Headline.{inputs};
 ghost use Rattle.fbsim_command.specs.Drawing.{Draws, WritesGraph, graph_of};
 
 use crate::failure::{Failure, RefusalLine};
+use crate::opening::open_inputs;
 use crate::output::write_text;
 use crate::own_lines::end_with;
 use crate::sources::Source;
 use crate::statuses::Done;
 use crate::texts::{files_of, read_files};
 use fb_inputs::name;
-use fb_sim::{Inputs, discard, open};
+use fb_sim::{Inputs, discard};
 use fb_system::System;
 use fbsim_line::Draw;
 use std::alloc::{AllocError, Global};
@@ -46,7 +47,7 @@ fn write_graph<W: Write>(
 ) -> Result<Done, Failure>
     ensures { WritesGraph inputs.now (option_map (λ t. t.now) block_type.entry) (W.contents out.old) (W.contents out.new) result }
 {
-    let system = open(alloc, inputs)?;
+    let system = open_inputs(alloc, inputs)?;
     let drawn = graph(alloc, &system, block_type);
     // Dropped by one call: the end of its scope would prove the drop part by part.
     discard(system);

@@ -15,6 +15,7 @@ use crate::inside_notes::note_of_open;
 use crate::join::FileLines;
 use crate::known::has_names;
 use crate::notes::{note_of_name, note_of_rest};
+use crate::opening::open_inputs;
 use crate::output::write_text;
 use crate::own_lines::end_in;
 use crate::rules_notes::{note_of_names, note_of_rules, note_to_held};
@@ -26,7 +27,7 @@ use fb_expect::{
     Cut, Difference, Judged, Of, PartFault, Rule, SUITES_HEAD, SUITES_TAIL, TraceError,
     UNKNOWN_NAME, are_well, difference_text, judge, part, plan, put_points, put_suite, read_rules,
 };
-use fb_sim::{discard, open};
+use fb_sim::discard;
 use fb_types::Items;
 use fbsim_line::{Diff, Expect};
 use std::alloc::{AllocError, Global};
@@ -259,7 +260,7 @@ fn checked_rules(
     let Some(texts) = declared else {
         return Ok(rules);
     };
-    let system = open(alloc, &texts.inputs())?;
+    let system = open_inputs(alloc, &texts.inputs())?;
     let known = has_names(alloc, &system, rules.as_slice());
     // Dropped by one call: the end of its scope would prove the drop part by part.
     discard(system);

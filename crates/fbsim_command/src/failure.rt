@@ -4,6 +4,7 @@ ghost use Rattle.std.specs.Prelude.{◌≡◌};
 ghost use Rattle.fbsim_command.specs.Failures.{failure_of, failure_of_check, failure_of_read, failure_of_input, failure_of_refusal, failure_of_rules, failure_of_source, failure_of_part, IsInspectionFailure, IsWaveFailure};
 ghost use Rattle.fbsim_command.specs.declared.failure.Failure.TheVariants.{Memory};
 ghost use Rattle.fb_inspect.specs.declared.error.InspectError.TheVariants as inspection;
+ghost use Rattle.fb_sim.specs.declared.outcome.RunError.TheVariants as run;
 ghost use Rattle.fb_wave.specs.declared.error.WaveError.TheVariants as wave;
 
 use crate::sources::SourceFault;
@@ -102,21 +103,6 @@ impl From<Refusal> for Failure {
     }
 }
 
-impl From<RunError> for Failure {
-    ghost from_gives = { λ error failure. failure ≡ failure_of error };
-
-    fn from(error: RunError) -> Failure {
-        match error {
-            RunError::Refused(refusal) => Failure::from(refusal),
-            RunError::Memory => Failure::Memory,
-            RunError::Write(written) => Failure::Write(written),
-            RunError::BadOption => Failure::BadOption,
-            // Only a simulation that is used after a failed call answers so, and the program has none.
-            RunError::Failed => Failure::Memory,
-        }
-    }
-}
-
 impl From<PartFault> for Failure {
     ghost from_gives = { λ fault failure. failure ≡ failure_of_part fault };
 
@@ -147,6 +133,21 @@ impl From<SourceFault> for Failure {
             SourceFault::File | SourceFault::Folder => Failure::File,
             SourceFault::Memory => Failure::Memory,
         }
+    }
+}
+
+/// The failure for which inputs are not accepted, or a run is not whole. Only a simulation that is used after a failed
+/// call answers `Failed`.
+pub(crate) fn failure_of_run(error: RunError) -> Failure
+    requires { error ≡ run.Failed → ⊥ }
+    ensures { result ≡ failure_of error }
+{
+    match error {
+        RunError::Refused(refusal) => Failure::from(refusal),
+        RunError::Memory => Failure::Memory,
+        RunError::Write(written) => Failure::Write(written),
+        RunError::BadOption => Failure::BadOption,
+        RunError::Failed => unreachable!(),
     }
 }
 

@@ -13,12 +13,13 @@ use crate::failure::{Failure, failure_of_inspection};
 use crate::inside_notes::{note_of_gone, note_of_open};
 use crate::line_notes::note_of_wave;
 use crate::notes::{note_of_file, note_of_trace_end};
+use crate::opening::open_inputs;
 use crate::own_lines::end_with;
 use crate::sources::{Source, Streams};
 use crate::statuses::Done;
 use crate::texts::{cut_of, files_of, read_files};
 use fb_inspect::{EventFilter, InspectError, Inspection, RefusedLine, Terms};
-use fb_sim::{Inputs, discard, open};
+use fb_sim::{Inputs, discard};
 use fb_system::System;
 use fb_types::Name;
 use fbsim_line::Inspect;
@@ -97,9 +98,9 @@ fn write_inspected<R: BufRead, W: Write>(
     ensures inspected { Inspects inputs.now inspect.now (R.remaining trace.old) (W.contents out.old) (W.contents out.new) result.0 }
     ensures noted { NotesInside inspect.now.why result.0 (option_map string_bytes result.1) }
 {
-    let system = match open(alloc, inputs) {
+    let system = match open_inputs(alloc, inputs) {
         Ok(system) => system,
-        Err(error) => return (Err(Failure::from(error)), None),
+        Err(failure) => return (Err(failure), None),
     };
     let mut refused = RefusedLine::new(alloc);
     let gone = go(alloc, &system, inspect, &mut refused, trace, out);

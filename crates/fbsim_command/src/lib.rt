@@ -6,7 +6,7 @@
 //!
 //! Read in this order: `sources`, where files come from; `files`, those of the machine; `program`, the call;
 //! `texts`, what is read, with `join`, a declaration in several files, and `own_lines`, how its refusals name a file
-//! and a line, which agree by `laws`; `lint`, with `call_names`, `selectors`, `row_places` and
+//! and a line, which agree by `laws`; `opening`, what is declared; `lint`, with `call_names`, `selectors`, `row_places` and
 //! `warning_lines`, the lines of warnings;
 //! `late_rows`, rows that a run does not come to; `located_stop`, where a run stops; `wave`, with `state_dump` and `line_notes`; `draw`; `inspect` and `coverage`,
 //! with `inside_notes`; `session`, commands and their answers; `expect`, rules and traces, with `known` and `possible`,
@@ -32,6 +32,7 @@ mod lint;
 mod located_stop;
 mod near;
 mod notes;
+mod opening;
 pub mod output;
 mod own_lines;
 mod possible;

@@ -9,12 +9,13 @@ ghost use Rattle.fbsim_command.specs.WarningLines.{AreSorted, AreWarnings, namin
 
 use crate::call_names::Naming;
 use crate::failure::Failure;
+use crate::opening::open_inputs;
 use crate::output::write_text;
 use crate::selectors::Sorting;
 use crate::statuses::Done;
 use crate::warning_lines::{Reported, all_lines};
 use fb_lint::warnings;
-use fb_sim::{Inputs, discard, open};
+use fb_sim::{Inputs, discard};
 use fb_system::System;
 use fb_trace::write_front;
 use std::alloc::{AllocError, Global};
@@ -44,7 +45,7 @@ fn lines_of(
     ensures lines { IfOk result (λ r. AreWarnings (naming_of naming.now) inputs.now sorting.now r.lines.items r.is_denied) }
     ensures refused { IfErr result (IsUndeclared inputs.now) }
 {
-    let system = open(alloc, inputs)?;
+    let system = open_inputs(alloc, inputs)?;
     let lines = lines_in(alloc, naming, inputs, sorting, &system);
     // Dropped by one call: the end of its scope would prove the drop part by part.
     discard(system);

@@ -3,6 +3,7 @@
 ghost use Rattle.std.specs.Io.KnownBytes.{Appends};
 ghost use Rattle.std.specs.Prelude.{◌≡◌, ◌++◌, ℕ, List, [], Option, None, false, true, map, option_map, Result, IfOk, IfErr, IsTrue, OnOk, string_bytes};
 ghost use Rattle.fb_sim.specs.Reports.{Hears};
+ghost use Rattle.fb_sim.specs.declared.outcome.RunError.TheVariants as run;
 ghost use Rattle.fbsim_command.specs.Command.{Checks, Does, Explains, ExplainsRefusal, IsDoneOf, IsEndOf, Meets, Performs, Reports, ReportsOn, Runs};
 ghost use Rattle.fbsim_line.specs.Line.{AreCall, AreNoCall, AskHelp, IsFault, IsHelp, IsTaken};
 ghost use Rattle.fbsim_command.specs.Notes.{NotesOf};
@@ -17,12 +18,13 @@ use crate::call_names::Naming;
 use crate::coverage::show_coverage;
 use crate::draw::show_graph;
 use crate::expect::{diff, expect};
-use crate::failure::Failure;
+use crate::failure::{Failure, failure_of_run};
 use crate::inspect::show_insides;
 use crate::late_rows::report_rows_after;
 use crate::lint::check_and_warn;
 use crate::located_stop::report_stop_after;
 use crate::notes::{note_of, note_of_file};
+use crate::opening::accept_inputs;
 use crate::output::write_text;
 use crate::own_lines::end_with;
 use crate::selectors::{Sorting, sorting_of};
@@ -33,7 +35,7 @@ use crate::texts::{Texts, read_files};
 use crate::wave::show;
 use fb_phase::OpenGate;
 use fb_sim::{
-    Inputs, NoClock, Options, Outcome, ReportedRun, RunError, check, run_serial, run_with_clock,
+    Inputs, NoClock, Options, Outcome, ReportedRun, RunError, run_serial, run_with_clock,
     run_with_progress,
 };
 use fb_why::{Explanation, explain};
@@ -49,7 +51,7 @@ use std::time::{Clock, CpuClock};
 fn check_inputs<W: Write>(alloc: Global, inputs: &Inputs<'_>, out: &mut W) -> Result<Done, Failure>
     ensures { Checks false inputs.now (W.contents out.old) (W.contents out.new) result }
 {
-    check(alloc, inputs)?;
+    accept_inputs(alloc, inputs)?;
     write_text(out, b"accepted\n")?;
     Ok(Done::Accepted)
 }
@@ -65,11 +67,12 @@ fn done_of(outcome: Outcome) -> Done
 
 /// How a call ends as its run did.
 fn end_of_run(end: Result<Outcome, RunError>) -> Result<Done, Failure>
+    requires { IfErr end (λ error. error ≡ run.Failed → ⊥) }
     ensures { IsEndOf end result }
 {
     match end {
         Ok(outcome) => Ok(done_of(outcome)),
-        Err(error) => Err(Failure::from(error)),
+        Err(error) => Err(failure_of_run(error)),
     }
 }
 

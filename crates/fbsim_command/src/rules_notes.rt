@@ -14,6 +14,7 @@ use crate::failure::Failure;
 use crate::input_notes::InputNames;
 use crate::known::unknown_location;
 use crate::notes::{matter_at, note_of_file, note_of_name, note_of_number, number_of};
+use crate::opening::open_inputs;
 use crate::own_lines::placed;
 use crate::sources::SourceFault;
 use crate::statuses::Done;
@@ -24,7 +25,7 @@ use fb_expect::{
     rules_location,
 };
 use fb_read_positions::{Text, place_between};
-use fb_sim::{discard, open};
+use fb_sim::discard;
 use fb_system::System;
 use fb_why::{pattern_message, rule_span, rules_message, unknown_key_message};
 use fbsim_line::Expect;
@@ -143,7 +144,7 @@ fn unknown_of(
 ) -> Result<Option<(usize, RuleKey, String)>, Failure>
     ensures { IfOk result (λ o. IfSome o (λ p. (i : Inputs) × Declares (given_of texts.now) i × IsUnknownAt i rules.now p.0 p.1)) }
 {
-    let system = open(alloc, &texts.inputs())?;
+    let system = open_inputs(alloc, &texts.inputs())?;
     let found = why_unknown(alloc, &system, rules, expect.deploy.is_some());
     // Dropped by one call: the end of its scope would prove the drop part by part.
     discard(system);

@@ -4,11 +4,12 @@ ghost use Rattle.std.specs.Prelude.{map, ◌≡◌};
 ghost use Rattle.fbsim_command.specs.Sessions.{Answers, TalksIn, end_of_talk};
 
 use crate::failure::Failure;
+use crate::opening::open_inputs;
 use crate::own_lines::end_with;
 use crate::sources::{Source, Streams};
 use crate::statuses::Done;
 use crate::texts::{read_files, run_files_of};
-use fb_sim::{Inputs, discard, open};
+use fb_sim::{Inputs, discard};
 use fb_trace::Outcome;
 use fb_types::MOST_STEPS;
 use fbsim_line::SessionCall;
@@ -49,10 +50,7 @@ fn answer<R: BufRead, W: Write>(
     if call.steps > MOST_STEPS {
         return Err(Failure::BadOption);
     }
-    let system = match open(alloc, inputs) {
-        Ok(system) => system,
-        Err(error) => return Err(Failure::from(error)),
-    };
+    let system = open_inputs(alloc, inputs)?;
     let ended = talk(alloc, &system, call.steps, call.form, input, out);
     // Dropped by one call: the end of its scope would prove the drop part by part.
     discard(system);

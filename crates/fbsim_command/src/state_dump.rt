@@ -6,9 +6,10 @@ ghost use Rattle.fbsim_command.specs.StateDumping.{DumpsStates};
 
 use crate::failure::{Failure, failure_of_inspection};
 use crate::inside_notes::note_of_gone;
+use crate::opening::open_inputs;
 use crate::statuses::Done;
 use fb_inspect::{RefusedLine, Terms, write_states};
-use fb_sim::{Inputs, discard, open};
+use fb_sim::{Inputs, discard};
 use std::alloc::Global;
 use std::io::{BufRead, Write};
 
@@ -25,9 +26,9 @@ pub(crate) fn dump_states<R: BufRead, W: Write>(
     ensures dumped { DumpsStates terms.cut terms.steps inputs.now (R.remaining trace.old) (W.contents out.old) (W.contents out.new) result.0 }
     ensures noted { NotesInside why result.0 (option_map string_bytes result.1) }
 {
-    let system = match open(alloc, inputs) {
+    let system = match open_inputs(alloc, inputs) {
         Ok(system) => system,
-        Err(error) => return (Err(Failure::from(error)), None),
+        Err(failure) => return (Err(failure), None),
     };
     let mut refused = RefusedLine::new(alloc);
     let gone = write_states(alloc, &system, terms, &mut refused, trace, out);

@@ -7,13 +7,14 @@ ghost use Rattle.fbsim_command.specs.Showing.{DumpsAs, IsTraceFileNote, NotesAs,
 use crate::failure::{Failure, failure_of_wave};
 use crate::line_notes::{note_of_trace_line, note_of_wave};
 use crate::notes::{note_of_file, note_of_name, note_of_trace_end};
+use crate::opening::open_inputs;
 use crate::own_lines::end_with;
 use crate::sources::{Source, SourceFault, Streams};
 use crate::state_dump::dump_states;
 use crate::statuses::Done;
 use crate::texts::{cut_of, files_of, read_files};
 use fb_inspect::Terms;
-use fb_sim::{Inputs, discard, open};
+use fb_sim::{Inputs, discard};
 use fb_wave::{CurrentLine, write_wave_with};
 use fbsim_line::Wave;
 use std::alloc::Global;
@@ -39,9 +40,9 @@ fn dump<R: BufRead, W: Write>(
         };
         return dump_states(alloc, wave.why, terms, inputs, trace, out);
     }
-    let system = match open(alloc, inputs) {
+    let system = match open_inputs(alloc, inputs) {
         Ok(system) => system,
-        Err(error) => return (Err(Failure::from(error)), None),
+        Err(failure) => return (Err(failure), None),
     };
     let mut current = CurrentLine::new(alloc);
     let written = write_wave_with(alloc, &system, cut, &mut current, trace, out);

@@ -1,11 +1,6 @@
 -- How a call that talks to a session ends.
-use Rattle.fbsim_command.proofs.lemmas.Common.{◌≡◌, ℕ, Option, Some, None, Result, Ok, Err, inl, inr, refl, Inputs, ReadError, Given, Declares, IsRefusal, IsRightly, RunError, failure_of, numbered_input, Held}
-use Rattle.fb_read.specs.declared.error.ReadError.TheVariants as read
-use Rattle.fb_check.specs.Refusals as check
-use Rattle.fb_inputs.specs.Refusals as input
-use Rattle.fb_sim.specs.declared.outcome.Refusal as sim
-use Rattle.fb_sim.specs.declared.outcome.Refusal.TheVariants as of
-use Rattle.fb_sim.specs.declared.outcome.RunError.TheVariants as run
+use Rattle.fbsim_command.proofs.lemmas.Common.{◌≡◌, ℕ, Option, Some, None, Result, Ok, Err, inl, inr, refl, Inputs, Given, Declares, Held, Failure, Refused, RefusedTrace, File, Write, Memory, Line, BadOption, IsErrAnd, subst, sym, End}
+use Rattle.fbsim_command.specs.Outcomes.{IsUndeclared}
 use Rattle.fb_trace.specs.declared.last.Outcome.{Outcome}
 use Rattle.fb_trace.specs.declared.last.Outcome.TheVariants as outcome
 use Rattle.fbsim_command.specs.Sessions.{Answers, end_of_talk}
@@ -15,30 +10,18 @@ use Rattle.fbsim_session.specs.declared.talking.TalkFault.{TalkFault}
 use Rattle.fbsim_session.specs.declared.talking.TalkFault.TheVariants as fault
 
 -- nothing is written where the inputs are refused
-pub answers_none : (given : Given) (x : SessionCall) (old : Held) (error : RunError) → IsRefusal given error → Answers given x old old (Err (failure_of error))
-answers_none given x old (run.Refused r) is = refusal r is
+pub answers_none : (given : Given) (x : SessionCall) (old : Held) (end : End) (f : Failure) → IsErrAnd end (λ g. g ≡ f) → IsUndeclared given f → Answers given x old old end
+answers_none given x old (Ok d) f bad is = absurd bad
+answers_none given x old (Err g) f same is = by g (subst (IsUndeclared given) (sym same) is)
   where
-    numbered : (r : sim.Refusal) → IsRightly given r → (o : Option ℕ) → failure_of (run.Refused r) ≡ numbered_input o → Answers given x old old (Err (numbered_input o))
-    numbered r is (Some n) reported = (record { error = run.Refused r; refused = is; reported = reported }, refl)
-    numbered r is None reported = inl refl
-
-    unread : (e : ReadError) → IsRightly given (of.Declaration e) → Answers given x old old (Err (failure_of (run.Refused (of.Declaration e))))
-    unread read.Memory is = inl refl
-    unread read.Byte is = (record { error = run.Refused (of.Declaration read.Byte); refused = is; reported = refl }, refl)
-    unread read.Token is = (record { error = run.Refused (of.Declaration read.Token); refused = is; reported = refl }, refl)
-    unread (read.Syntax line) is = (record { error = run.Refused (of.Declaration (read.Syntax line)); refused = is; reported = refl }, refl)
-    unread read.TooLong is = (record { error = run.Refused (of.Declaration read.TooLong); refused = is; reported = refl }, refl)
-    unread read.Nesting is = (record { error = run.Refused (of.Declaration read.Nesting); refused = is; reported = refl }, refl)
-
-    refusal : (r : sim.Refusal) → IsRightly given r → Answers given x old old (Err (failure_of (run.Refused r)))
-    refusal (of.Declaration e) is = unread e is
-    refusal (of.Deployment e) is = numbered (of.Deployment e) is (input.number_of e) refl
-    refusal (of.Stimuli e) is = numbered (of.Stimuli e) is (input.number_of e) refl
-    refusal (of.Check e) is = numbered (of.Check e) is (check.number_of e) refl
-answers_none given x old run.Memory is = inl refl
-answers_none given x old (run.Write n) is = absurd is
-answers_none given x old run.BadOption is = absurd is
-answers_none given x old run.Failed is = absurd is
+    by : (g : Failure) → IsUndeclared given g → Answers given x old old (Err g)
+    by (Refused refusal) is = (is, refl)
+    by Memory is = inl refl
+    by (RefusedTrace text) is = absurd is
+    by File is = absurd is
+    by (Write n) is = absurd is
+    by (Line message) is = absurd is
+    by BadOption is = absurd is
 
 -- the session of accepted inputs ended
 pub answers_so : (given : Given) (x : SessionCall) (old new : Held) (i : Inputs) → Declares given i → (r : Result Outcome TalkFault) → Talks i x.steps x.form old new r

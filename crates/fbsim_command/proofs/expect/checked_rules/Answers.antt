@@ -1,4 +1,4 @@
-use Rattle.fbsim_command.proofs.lemmas.Common.{◌∙◌, inr, option_map, ap, refl, subst, sym, system_of, Given, Declares, failure_of, given_of, Refused}
+use Rattle.fbsim_command.proofs.lemmas.Common.{◌∙◌, inr, option_map, ap, refl, subst, sym, system_of, Given, Declares, given_of, Refused}
 use Rattle.fbsim_command.specs.Expecting.{IsUnnamed, RefusesFor}
 use Rattle.fbsim_command.specs.Known.{has_names}
 use Rattle.fbsim_command.specs.declared.failure.RefusalLine.TheVariants.{Numbered}
@@ -16,10 +16,10 @@ pub returns-in_err-system-clause-refused : goal.returns-in_err-system-clause-ref
 returns-in_err-system-clause-refused c =
     let declared = option_map given_of c.args.declared.now in
     let rs = c.in_ok-rules.rules in
-    let f = failure_of c.in_err-system.field-0.0 in
+    let f = c.in_err-system.field-0.0 in
     passed-on c.from_residual-in_err-system.result f (RefusesFor c.args.bytes.now declared) c.from_residual-in_err-system.ensures.1
     (unnamed c.args.bytes.now declared (given_of c.in-Some.texts) rs f (ap (option_map given_of) c.in-Some.is) c.in_ok-rules.ensures
-    (subst (λ (g : Given). IsUnnamed g rs f) c.inputs.ensures (refused-inputs c.inputs.result rs c.in_err-system.field-0.0 c.in_err-system.ensures.refused)))
+    (subst (λ (g : Given). IsUnnamed g rs f) c.inputs.ensures (refused-inputs c.inputs.result rs f c.in_err-system.ensures.refused)))
 
 pub returns-then-not-branch-clause-refused : goal.returns-then-not-branch-clause-refused
 returns-then-not-branch-clause-refused c =

@@ -1,4 +1,4 @@
-use Rattle.fbsim_command.proofs.lemmas.Common.{◌≡◌, Err, string_bytes, subst, sym, IfErr, IfSome, OnErr, OnOk, system_of, OfRefusal, IsWrongIn, Failure}
+use Rattle.fbsim_command.proofs.lemmas.Common.{◌≡◌, string_bytes, subst, IfErr, IfSome, OnErr, OnOk, system_of, OfRefusal, IsWrongIn}
 use Rattle.fb_inspect.specs.Inspections.{IsShownBy, ShowsRead}
 use Rattle.fb_inspect.specs.Refusals.{IsPathFault}
 use Rattle.fb_inspect.specs.declared.error.InspectError.TheVariants as inspection
@@ -11,8 +11,7 @@ pub returns-in-Err-clause-inspected : goal.returns-in-Err-clause-inspected
 returns-in-Err-clause-inspected g c =
     let out = g.W.Write.contents c.args.out.now in
     let trace = g.R.Read.remaining c.args.trace.now in
-    subst (λ (f : Failure). Inspects c.args.inputs.now c.args.inspect.now trace out out (Err f)) (sym c.from.ensures)
-    (inspects_none c.args.inputs.now c.args.inspect.now trace out c.in-Err.error c.in-Err.ensures.refused)
+    inspects_none c.args.inputs.now c.args.inspect.now trace out c.in-Err.failure c.in-Err.ensures.refused
 
 pub returns-in-Ok-gone-clause-inspected : goal.returns-in-Ok-gone-clause-inspected
 returns-in-Ok-gone-clause-inspected g c =

@@ -1,12 +1,7 @@
 -- Traces that are gone through one after the other, and how the report of what they cover ends.
-use Rattle.fbsim_command.proofs.lemmas.Common.{◌≡◌, ◌<◌, ◌≤◌, ◌+◌, ◌⊎◌, ℕ, Bool, true, false, Bor, List, [], ◌∷◌, ◌++◌, drop, get_or, length, map, option_map, take, codes, Option, Some, None, Result, Ok, Err, refl, sym, ◌∙◌, ap, subst, inl, inr, Appends, IfErr, IfOk, IfSome, IsTrue, drop_more, map-append, take-append-drop, take_all, take_more, Inputs, system_of, IsErrAnd, ReadError, Given, Declares, IsRefusal, IsRightly, RunError, Cut, WritesPart, failure_of, failure_of_source, numbered_input, Notes, NotesOf, End, Held, IsWrongIn, Opening, Failure, Refused, RefusedTrace, File, Write, Memory, Line, BadOption, SourceFault}
+use Rattle.fbsim_command.proofs.lemmas.Common.{◌≡◌, ◌<◌, ◌≤◌, ◌+◌, ◌⊎◌, ℕ, Bool, true, false, Bor, List, [], ◌∷◌, ◌++◌, drop, get_or, length, map, option_map, take, codes, Option, Some, None, Result, Ok, Err, refl, sym, ◌∙◌, ap, subst, inl, inr, Appends, IfErr, IfOk, IfSome, IsTrue, drop_more, map-append, take-append-drop, take_all, take_more, Inputs, system_of, IsErrAnd, Given, Declares, Cut, WritesPart, failure_of_source, Notes, NotesOf, End, Held, IsWrongIn, Opening, Failure, Refused, RefusedTrace, File, Write, Memory, Line, BadOption, SourceFault}
+use Rattle.fbsim_command.specs.Outcomes.{IsUndeclared}
 use Rattle.clap.specs.Words.{Text}
-use Rattle.fb_read.specs.declared.error.ReadError.TheVariants as read
-use Rattle.fb_check.specs.Refusals as check
-use Rattle.fb_inputs.specs.Refusals as input
-use Rattle.fb_sim.specs.declared.outcome.Refusal as sim
-use Rattle.fb_sim.specs.declared.outcome.Refusal.TheVariants as of
-use Rattle.fb_sim.specs.declared.outcome.RunError.TheVariants as run
 use Rattle.fb_coverage.specs.Reports.{report_text}
 use Rattle.fb_coverage.specs.declared.marks.Marks.{Marks}
 use Rattle.fb_inspect.specs.Covering.{Covers}
@@ -186,30 +181,14 @@ report_is i x g front text n reported put many =
 
 module _ {S : Type 0} (opens : Opening S) (given : Given) (x : Coverage) where
   -- nothing is reported where the inputs are refused
-  pub refused : (from : S) (error : RunError) → IsRefusal given error → IsUnreported opens given x from from (failure_of error)
-  refused from (run.Refused r) is = refusal r is
-    where
-      numbered : (r : sim.Refusal) → IsRightly given r → (o : Option ℕ) → failure_of (run.Refused r) ≡ numbered_input o → IsUnreported opens given x from from (numbered_input o)
-      numbered r is (Some n) reported = inl (record { error = run.Refused r; refused = is; reported = reported }, refl)
-      numbered r is None reported = tt
-
-      unread : (e : ReadError) → IsRightly given (of.Declaration e) → IsUnreported opens given x from from (failure_of (run.Refused (of.Declaration e)))
-      unread read.Memory is = tt
-      unread read.Byte is = inl (record { error = run.Refused (of.Declaration read.Byte); refused = is; reported = refl }, refl)
-      unread read.Token is = inl (record { error = run.Refused (of.Declaration read.Token); refused = is; reported = refl }, refl)
-      unread (read.Syntax line) is = inl (record { error = run.Refused (of.Declaration (read.Syntax line)); refused = is; reported = refl }, refl)
-      unread read.TooLong is = inl (record { error = run.Refused (of.Declaration read.TooLong); refused = is; reported = refl }, refl)
-      unread read.Nesting is = inl (record { error = run.Refused (of.Declaration read.Nesting); refused = is; reported = refl }, refl)
-
-      refusal : (r : sim.Refusal) → IsRightly given r → IsUnreported opens given x from from (failure_of (run.Refused r))
-      refusal (of.Declaration e) is = unread e is
-      refusal (of.Deployment e) is = numbered (of.Deployment e) is (input.number_of e) refl
-      refusal (of.Stimuli e) is = numbered (of.Stimuli e) is (input.number_of e) refl
-      refusal (of.Check e) is = numbered (of.Check e) is (check.number_of e) refl
-  refused from run.Memory is = tt
-  refused from (run.Write n) is = absurd is
-  refused from run.BadOption is = absurd is
-  refused from run.Failed is = absurd is
+  pub refused : (from : S) (f : Failure) → IsUndeclared given f → IsUnreported opens given x from from f
+  refused from (Refused refusal) is = inl (is, refl)
+  refused from Memory is = tt
+  refused from (RefusedTrace text) is = absurd is
+  refused from File is = absurd is
+  refused from (Write n) is = absurd is
+  refused from (Line message) is = absurd is
+  refused from BadOption is = absurd is
 
   -- nothing is reported where a trace is not gone through
   pub may-stop : (i : Inputs) (from to : S) (f : Failure) → Declares given i → AreStopped opens i x from to f → IsUnreported opens given x from to f

@@ -1,16 +1,11 @@
 -- How a call for a graph ends.
-use Rattle.fbsim_command.proofs.lemmas.Common.{◌≡◌, ℕ, List, Option, Some, None, Result, Ok, Err, refl, sym, ◌∙◌, ap, subst, inl, inr, Vec, IfOk, option_map, Inputs, Library, IsErrAnd, ReadError, Given, Declares, IsRefusal, IsRightly, RunError, WritesPart, failure_of, numbered_input, End, Held, Failure, Refused, RefusedTrace, File, Write, Memory, Line, BadOption}
+use Rattle.fbsim_command.proofs.lemmas.Common.{◌≡◌, ℕ, List, Option, Some, None, Result, Ok, Err, refl, sym, ◌∙◌, ap, subst, inl, inr, Vec, IfOk, option_map, Inputs, Library, IsErrAnd, Given, Declares, WritesPart, End, Held, Failure, Refused, RefusedTrace, File, Write, Memory, Line, BadOption}
+use Rattle.fbsim_command.specs.Outcomes.{IsUndeclared}
 use Rattle.fb_types.proofs.Common.{option_and_then}
 use Rattle.fb_types.specs.declared.deploy.Plan.{Plan}
 use Rattle.clap.specs.Words.{Text}
 use Rattle.fb_draw.specs.Drawings.{graph_text}
 use Rattle.fb_inputs.specs.Words.{name}
-use Rattle.fb_read.specs.declared.error.ReadError.TheVariants as read
-use Rattle.fb_check.specs.Refusals as check
-use Rattle.fb_inputs.specs.Refusals as input
-use Rattle.fb_sim.specs.declared.outcome.Refusal as sim
-use Rattle.fb_sim.specs.declared.outcome.Refusal.TheVariants as of
-use Rattle.fb_sim.specs.declared.outcome.RunError.TheVariants as run
 use Rattle.fbsim_command.specs.Drawing.{IsGraph, IsUndrawn, WritesGraph, graph_of}
 use Rattle.fbsim_command.specs.declared.failure.RefusalLine.TheVariants.{Numbered}
 
@@ -49,30 +44,14 @@ undeclared given i asked o declared same none = inr (record { inputs = i; declar
 -- ---- How a call ends
 
 -- nothing is drawn where the inputs are refused
-pub refused : (given : Given) (asked : Option Text) (error : RunError) → IsRefusal given error → IsUndrawn given asked (failure_of error)
-refused given asked (run.Refused r) is = refusal r is
-  where
-    numbered : (r : sim.Refusal) → IsRightly given r → (o : Option ℕ) → failure_of (run.Refused r) ≡ numbered_input o → IsUndrawn given asked (numbered_input o)
-    numbered r is (Some n) reported = inl (record { error = run.Refused r; refused = is; reported = reported })
-    numbered r is None reported = tt
-
-    unread : (e : ReadError) → IsRightly given (of.Declaration e) → IsUndrawn given asked (failure_of (run.Refused (of.Declaration e)))
-    unread read.Memory is = tt
-    unread read.Byte is = inl (record { error = run.Refused (of.Declaration read.Byte); refused = is; reported = refl })
-    unread read.Token is = inl (record { error = run.Refused (of.Declaration read.Token); refused = is; reported = refl })
-    unread (read.Syntax line) is = inl (record { error = run.Refused (of.Declaration (read.Syntax line)); refused = is; reported = refl })
-    unread read.TooLong is = inl (record { error = run.Refused (of.Declaration read.TooLong); refused = is; reported = refl })
-    unread read.Nesting is = inl (record { error = run.Refused (of.Declaration read.Nesting); refused = is; reported = refl })
-
-    refusal : (r : sim.Refusal) → IsRightly given r → IsUndrawn given asked (failure_of (run.Refused r))
-    refusal (of.Declaration e) is = unread e is
-    refusal (of.Deployment e) is = numbered (of.Deployment e) is (input.number_of e) refl
-    refusal (of.Stimuli e) is = numbered (of.Stimuli e) is (input.number_of e) refl
-    refusal (of.Check e) is = numbered (of.Check e) is (check.number_of e) refl
-refused given asked run.Memory is = tt
-refused given asked (run.Write n) is = absurd is
-refused given asked run.BadOption is = absurd is
-refused given asked run.Failed is = absurd is
+pub refused : (given : Given) (asked : Option Text) (f : Failure) → IsUndeclared given f → IsUndrawn given asked f
+refused given asked (Refused refusal) is = inl is
+refused given asked Memory is = tt
+refused given asked (RefusedTrace text) is = absurd is
+refused given asked File is = absurd is
+refused given asked (Write n) is = absurd is
+refused given asked (Line message) is = absurd is
+refused given asked BadOption is = absurd is
 
 -- a failure that is passed on writes nothing
 pub undrawn : (given : Given) (asked : Option Text) (old : Held) (end : End) (f : Failure) → IsErrAnd end (λ g. g ≡ f) → IsUndrawn given asked f → WritesGraph given asked old old end

@@ -1,20 +1,15 @@
 -- How a call that inspects a trace ends.
-use Rattle.fbsim_command.proofs.lemmas.Common.{◌≡◌, ◌≤◌, ◌⊎◌, ℕ, Bool, List, Option, Some, None, Result, Ok, Err, codes, option_map, ◌++◌, inl, inr, refl, sym, ap, subst, ◌∙◌, IfErr, IfSome, IsTrue, OnErr, Inputs, system_of, IsErrAnd, OfRefusal, ReadError, Given, Declares, IsRefusal, IsRightly, RunError, failure_of, failure_of_source, numbered_input, Notes, NotesOf, End, Held, IsWrongIn, EndsIn, Reading, AreRead, IsUnread, Opening, Failure, Refused, File, Write, Memory, Task, SourceFault, Part}
+use Rattle.fbsim_command.proofs.lemmas.Common.{◌≡◌, ◌≤◌, ◌⊎◌, ℕ, Bool, List, Option, Some, None, Result, Ok, Err, codes, option_map, ◌++◌, inl, inr, refl, sym, ap, subst, ◌∙◌, IfErr, IfSome, IsTrue, OnErr, Inputs, system_of, IsErrAnd, OfRefusal, Given, Declares, failure_of_source, Notes, NotesOf, End, Held, IsWrongIn, EndsIn, Reading, AreRead, IsUnread, Opening, Failure, Refused, File, Write, Memory, Task, SourceFault, Part, RefusedTrace, Line, BadOption}
+use Rattle.fbsim_command.specs.Outcomes.{IsUndeclared}
 use Rattle.fb_types.proofs.Common.{decimal}
 use Rattle.fb_types.specs.Names.{Name}
 use Rattle.fb_types.specs.Systems.{System}
 use Rattle.fb_inspect.specs.Refusals.{IsPathFault, IsWrongAt}
 use Rattle.fb_inspect.specs.walk.Looks.{most}
 use Rattle.fb_wave.specs.Named.{HasNames}
-use Rattle.fb_read.specs.declared.error.ReadError.TheVariants as read
-use Rattle.fb_check.specs.Refusals as check
-use Rattle.fb_inputs.specs.Refusals as input
 use Rattle.fb_inspect.specs.Inspections.{ShowsRead}
 use Rattle.fb_inspect.specs.declared.error.InspectError.{InspectError}
 use Rattle.fb_inspect.specs.declared.error.InspectError.TheVariants as inspection
-use Rattle.fb_sim.specs.declared.outcome.Refusal as sim
-use Rattle.fb_sim.specs.declared.outcome.Refusal.TheVariants as of
-use Rattle.fb_sim.specs.declared.outcome.RunError.TheVariants as run
 use Rattle.clap.specs.Words.{Text}
 use Rattle.fbsim_command.specs.Failures.{IsInspectionFailure}
 use Rattle.fbsim_command.specs.InsideNotes.{IsOpenNote, NotesInside, SaysLine}
@@ -31,30 +26,14 @@ on_err_any (Ok x) P p = tt
 on_err_any (Err e) P p = p
 
 -- nothing is written where the inputs are refused
-pub inspects_none : (given : Given) (x : Inspect) (trace old : Held) (error : RunError) → IsRefusal given error → Inspects given x trace old old (Err (failure_of error))
-inspects_none given x trace old (run.Refused r) is = refusal r is
-  where
-    numbered : (r : sim.Refusal) → IsRightly given r → (o : Option ℕ) → failure_of (run.Refused r) ≡ numbered_input o → Inspects given x trace old old (Err (numbered_input o))
-    numbered r is (Some n) reported = inl (record { error = run.Refused r; refused = is; reported = reported }, refl)
-    numbered r is None reported = inl refl
-
-    unread : (e : ReadError) → IsRightly given (of.Declaration e) → Inspects given x trace old old (Err (failure_of (run.Refused (of.Declaration e))))
-    unread read.Memory is = inl refl
-    unread read.Byte is = inl (record { error = run.Refused (of.Declaration read.Byte); refused = is; reported = refl }, refl)
-    unread read.Token is = inl (record { error = run.Refused (of.Declaration read.Token); refused = is; reported = refl }, refl)
-    unread (read.Syntax line) is = inl (record { error = run.Refused (of.Declaration (read.Syntax line)); refused = is; reported = refl }, refl)
-    unread read.TooLong is = inl (record { error = run.Refused (of.Declaration read.TooLong); refused = is; reported = refl }, refl)
-    unread read.Nesting is = inl (record { error = run.Refused (of.Declaration read.Nesting); refused = is; reported = refl }, refl)
-
-    refusal : (r : sim.Refusal) → IsRightly given r → Inspects given x trace old old (Err (failure_of (run.Refused r)))
-    refusal (of.Declaration e) is = unread e is
-    refusal (of.Deployment e) is = numbered (of.Deployment e) is (input.number_of e) refl
-    refusal (of.Stimuli e) is = numbered (of.Stimuli e) is (input.number_of e) refl
-    refusal (of.Check e) is = numbered (of.Check e) is (check.number_of e) refl
-inspects_none given x trace old run.Memory is = inl refl
-inspects_none given x trace old (run.Write n) is = absurd is
-inspects_none given x trace old run.BadOption is = absurd is
-inspects_none given x trace old run.Failed is = absurd is
+pub inspects_none : (given : Given) (x : Inspect) (trace old : Held) (f : Failure) → IsUndeclared given f → Inspects given x trace old old (Err f)
+inspects_none given x trace old (Refused refusal) is = inl (is, refl)
+inspects_none given x trace old Memory is = inl refl
+inspects_none given x trace old (RefusedTrace text) is = absurd is
+inspects_none given x trace old File is = absurd is
+inspects_none given x trace old (Write n) is = absurd is
+inspects_none given x trace old (Line message) is = absurd is
+inspects_none given x trace old BadOption is = absurd is
 
 -- a beginning is written where the trace is refused, or where reading it, writing or memory fails
 pub inspects_front :

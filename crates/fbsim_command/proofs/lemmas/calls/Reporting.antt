@@ -69,6 +69,11 @@ module _ (serial : Bool) (given : Given) (options : Options) (old new : Held) wh
   runs_so (Ok o) end is writes failed = subst (λ (e : End). Runs serial given options old new e) (sym is.2) (ran serial given options old new o is.0 is.1 writes)
   runs_so (Err e) end is writes failed = subst (λ (f : End). Runs serial given options old new f) (sym is) (fails e failed)
 
+-- a run answers no use after a failure
+pub none_failed : (given : Given) (options : Options) (old new : Held) (r : Result Outcome RunError) → IfErr r (FailsRun given options old new) → IfErr r (λ e. e ≡ run.Failed → ⊥)
+none_failed given options old new (Ok o) failed = tt
+none_failed given options old new (Err e) failed = λ is. subst (FailsRun given options old new) is failed
+
 pub has_reported :
     (given : Given) (options : Options) (out_old out_new : Held) (r : Result Outcome RunError) (end : End) (heard : Bool) (old new : Held) → IsEndOf r end
     → (x : Text) × AreReports given options out_old out_new r x × Hears heard old new x → (x : Text) × ReportsOn false true given options out_old out_new end x × Hears heard old new x

@@ -1,11 +1,6 @@
 -- How a call for waveforms ends where there are none, or no whole ones.
-use Rattle.fbsim_command.proofs.lemmas.Common.{◌≡◌, ◌⊎◌, ℕ, List, Option, Some, None, Ok, Err, inl, inr, refl, sym, ap, subst, Inputs, system_of, ReadError, Given, Declares, IsRefusal, IsRightly, RunError, Cut, Task, failure_of, failure_of_source, numbered_input, Failure, Refused, File, Write, Memory, End, Held, Notes, NotesOf, EndsIn, Reading, AreRead, IsUnread, Opening, SourceFault, Part}
-use Rattle.fb_read.specs.declared.error.ReadError.TheVariants as read
-use Rattle.fb_check.specs.Refusals as check
-use Rattle.fb_inputs.specs.Refusals as input
-use Rattle.fb_sim.specs.declared.outcome.Refusal as sim
-use Rattle.fb_sim.specs.declared.outcome.Refusal.TheVariants as of
-use Rattle.fb_sim.specs.declared.outcome.RunError.TheVariants as run
+use Rattle.fbsim_command.proofs.lemmas.Common.{◌≡◌, ◌⊎◌, ℕ, List, Option, Some, None, Ok, Err, inl, inr, refl, sym, ap, subst, Inputs, system_of, Given, Declares, Cut, Task, failure_of_source, Failure, Refused, File, Write, Memory, End, Held, Notes, NotesOf, EndsIn, Reading, AreRead, IsUnread, Opening, SourceFault, Part, RefusedTrace, Line, BadOption}
+use Rattle.fbsim_command.specs.Outcomes.{IsUndeclared}
 use Rattle.fb_wave.specs.CutOff.{BlamesShown, FailsCut, FailsShown}
 use Rattle.fb_wave.specs.Fronts.{WritesBefore}
 use Rattle.fb_wave.specs.Refusals.{Blames}
@@ -24,30 +19,14 @@ use Rattle.fbsim_command.specs.declared.failure.RefusalLine.TheVariants.{Trace}
 use Rattle.fbsim_command.proofs.lemmas.names.ReadNames.{read-names}
 
 -- nothing is written where the inputs are refused
-pub dumps_none : (may : Cut) (given : Given) (trace old : Held) (error : RunError) → IsRefusal given error → Dumps may given trace old old (Err (failure_of error))
-dumps_none may given trace old (run.Refused r) is = refusal r is
-  where
-    numbered : (r : sim.Refusal) → IsRightly given r → (o : Option ℕ) → failure_of (run.Refused r) ≡ numbered_input o → Dumps may given trace old old (Err (numbered_input o))
-    numbered r is (Some n) reported = inl (record { error = run.Refused r; refused = is; reported = reported }, refl)
-    numbered r is None reported = inl refl
-
-    unread : (e : ReadError) → IsRightly given (of.Declaration e) → Dumps may given trace old old (Err (failure_of (run.Refused (of.Declaration e))))
-    unread read.Memory is = inl refl
-    unread read.Byte is = inl (record { error = run.Refused (of.Declaration read.Byte); refused = is; reported = refl }, refl)
-    unread read.Token is = inl (record { error = run.Refused (of.Declaration read.Token); refused = is; reported = refl }, refl)
-    unread (read.Syntax line) is = inl (record { error = run.Refused (of.Declaration (read.Syntax line)); refused = is; reported = refl }, refl)
-    unread read.TooLong is = inl (record { error = run.Refused (of.Declaration read.TooLong); refused = is; reported = refl }, refl)
-    unread read.Nesting is = inl (record { error = run.Refused (of.Declaration read.Nesting); refused = is; reported = refl }, refl)
-
-    refusal : (r : sim.Refusal) → IsRightly given r → Dumps may given trace old old (Err (failure_of (run.Refused r)))
-    refusal (of.Declaration e) is = unread e is
-    refusal (of.Deployment e) is = numbered (of.Deployment e) is (input.number_of e) refl
-    refusal (of.Stimuli e) is = numbered (of.Stimuli e) is (input.number_of e) refl
-    refusal (of.Check e) is = numbered (of.Check e) is (check.number_of e) refl
-dumps_none may given trace old run.Memory is = inl refl
-dumps_none may given trace old (run.Write n) is = absurd is
-dumps_none may given trace old run.BadOption is = absurd is
-dumps_none may given trace old run.Failed is = absurd is
+pub dumps_none : (may : Cut) (given : Given) (trace old : Held) (f : Failure) → IsUndeclared given f → Dumps may given trace old old (Err f)
+dumps_none may given trace old (Refused refusal) is = inl (is, refl)
+dumps_none may given trace old Memory is = inl refl
+dumps_none may given trace old (RefusedTrace text) is = absurd is
+dumps_none may given trace old File is = absurd is
+dumps_none may given trace old (Write n) is = absurd is
+dumps_none may given trace old (Line message) is = absurd is
+dumps_none may given trace old BadOption is = absurd is
 
 -- what a writer got where it did not fail
 front_of : (may : Cut) (i : Inputs) (old new : Held) (e : WaveError) → (FailsShown cut.Refused (system_of i) old new e → WritesFront (system_of i) old new) → ¬ (FailsCut (system_of i) old new e)

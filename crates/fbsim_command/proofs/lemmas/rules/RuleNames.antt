@@ -1,45 +1,25 @@
 -- Rules that are read, and whose names a declaration is to have.
-use Rattle.fbsim_command.proofs.lemmas.Common.{◌≡◌, ℕ, List, true, Option, Some, None, Ok, Err, refl, sym, subst, inl, inr, IfSome, ReadError, Given, IsRefusal, IsRightly, RunError, Holds, failure_of, numbered_input, Held, Opening, Expect, Failure, Refused, RefusedTrace, File, Write, Memory, Line, BadOption}
+use Rattle.fbsim_command.proofs.lemmas.Common.{◌≡◌, ℕ, List, true, Option, Some, None, Ok, Err, refl, sym, subst, inl, inr, IfSome, Given, Holds, numbered_input, Held, Opening, Expect, Failure, Refused, RefusedTrace, File, Write, Memory, Line, BadOption}
+use Rattle.fbsim_command.specs.Outcomes.{IsUndeclared}
 use Rattle.clap.specs.Words.{Text}
-use Rattle.fb_read.specs.declared.error.ReadError.TheVariants as read
-use Rattle.fb_check.specs.Refusals as check
-use Rattle.fb_inputs.specs.Refusals as input
 use Rattle.fb_expect.specs.Reading.{rules_of}
 use Rattle.fb_expect.specs.Refusals as rules
 use Rattle.fb_expect.specs.declared.error.RulesError.{RulesError}
 use Rattle.fb_expect.specs.declared.rule.Rule.{Rule}
-use Rattle.fb_sim.specs.declared.outcome.Refusal as sim
-use Rattle.fb_sim.specs.declared.outcome.Refusal.TheVariants as of
-use Rattle.fb_sim.specs.declared.outcome.RunError.TheVariants as run
 use Rattle.fbsim_command.specs.Expecting.{AreRules, IsUnnamed, Names, RefusesFor}
 use Rattle.fbsim_command.specs.Failures.{failure_of_rules}
 
 -- ---- What is declared is refused
 
-pub refused-inputs : (given : Given) (rs : List Rule) (error : RunError) → IsRefusal given error → IsUnnamed given rs (failure_of error)
-refused-inputs given rs (run.Refused r) is = refusal r is
-  where
-    numbered : (r : sim.Refusal) → IsRightly given r → (o : Option ℕ) → failure_of (run.Refused r) ≡ numbered_input o → IsUnnamed given rs (numbered_input o)
-    numbered r is (Some n) reported = inl (record { error = run.Refused r; refused = is; reported = reported })
-    numbered r is None reported = tt
-
-    unread : (e : ReadError) → IsRightly given (of.Declaration e) → IsUnnamed given rs (failure_of (run.Refused (of.Declaration e)))
-    unread read.Memory is = tt
-    unread read.Byte is = inl (record { error = run.Refused (of.Declaration read.Byte); refused = is; reported = refl })
-    unread read.Token is = inl (record { error = run.Refused (of.Declaration read.Token); refused = is; reported = refl })
-    unread (read.Syntax line) is = inl (record { error = run.Refused (of.Declaration (read.Syntax line)); refused = is; reported = refl })
-    unread read.TooLong is = inl (record { error = run.Refused (of.Declaration read.TooLong); refused = is; reported = refl })
-    unread read.Nesting is = inl (record { error = run.Refused (of.Declaration read.Nesting); refused = is; reported = refl })
-
-    refusal : (r : sim.Refusal) → IsRightly given r → IsUnnamed given rs (failure_of (run.Refused r))
-    refusal (of.Declaration e) is = unread e is
-    refusal (of.Deployment e) is = numbered (of.Deployment e) is (input.number_of e) refl
-    refusal (of.Stimuli e) is = numbered (of.Stimuli e) is (input.number_of e) refl
-    refusal (of.Check e) is = numbered (of.Check e) is (check.number_of e) refl
-refused-inputs given rs run.Memory is = tt
-refused-inputs given rs (run.Write n) is = absurd is
-refused-inputs given rs run.BadOption is = absurd is
-refused-inputs given rs run.Failed is = absurd is
+-- nothing is held where the inputs are refused
+pub refused-inputs : (given : Given) (rs : List Rule) (f : Failure) → IsUndeclared given f → IsUnnamed given rs f
+refused-inputs given rs (Refused refusal) is = inl is
+refused-inputs given rs Memory is = tt
+refused-inputs given rs (RefusedTrace text) is = absurd is
+refused-inputs given rs File is = absurd is
+refused-inputs given rs (Write n) is = absurd is
+refused-inputs given rs (Line message) is = absurd is
+refused-inputs given rs BadOption is = absurd is
 
 -- ---- Rules are refused
 

@@ -1,4 +1,4 @@
-use Rattle.fbsim_command.proofs.lemmas.Common.{◌≡◌, Err, string_bytes, subst, sym, ◌≤◌, IfErr, IfSome, OnErr, OnOk, system_of, OfRefusal, IsWrongIn, Failure}
+use Rattle.fbsim_command.proofs.lemmas.Common.{◌≡◌, string_bytes, subst, ◌≤◌, IfErr, IfSome, OnErr, OnOk, system_of, OfRefusal, IsWrongIn}
 use Rattle.fb_wave.specs.Named.{HasNames}
 use Rattle.fb_inspect.specs.Refusals.{IsWrongAt}
 use Rattle.fb_inspect.specs.walk.Looks.{most}
@@ -15,8 +15,7 @@ returns-in-Err-clause-dumped g c =
     let t = c.args.terms in
     let out = g.W.Write.contents c.args.out.now in
     let trace = g.R.Read.remaining c.args.trace.now in
-    subst (λ (f : Failure). DumpsStates t.cut t.steps c.args.inputs.now trace out out (Err f)) (sym c.from.ensures)
-    (states_none t.cut t.steps c.args.inputs.now trace out c.in-Err.error c.in-Err.ensures.refused)
+    states_none t.cut t.steps c.args.inputs.now trace out c.in-Err.failure c.in-Err.ensures.refused
 
 pub returns-in-Ok-gone-clause-dumped : goal.returns-in-Ok-gone-clause-dumped
 returns-in-Ok-gone-clause-dumped g c =

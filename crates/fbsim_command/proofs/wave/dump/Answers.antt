@@ -1,4 +1,4 @@
-use Rattle.fbsim_command.proofs.lemmas.Common.{Bool, Ok, Err, option_map, string_bytes, sym, subst, IfErr, IfSome, OnOk, system_of, Cut, Failure}
+use Rattle.fbsim_command.proofs.lemmas.Common.{Bool, Ok, Err, option_map, string_bytes, sym, subst, IfErr, IfSome, OnOk, system_of, Cut}
 use Rattle.fb_wave.specs.Fronts.{WritesBefore}
 use Rattle.fb_wave.specs.CutOff.{BlamesShown, FailsShown, IsShown}
 use Rattle.fbsim_command.specs.Showing.{Dumps, DumpsAs, NotesAs, cut_of}
@@ -28,9 +28,8 @@ returns-in-Err-clause-dumped g c =
     let w = c.args.wave.now in
     let out = g.W.Write.contents c.args.out.now in
     let trace = g.R.Read.remaining c.args.trace.now in
-    subst (λ (b : Bool). DumpsAs b w.steps (cut_of w) c.args.inputs.now trace out out (Err c.from.result)) (sym c.if-wave.false)
-    (subst (λ (f : Failure). Dumps (cut_of w) c.args.inputs.now trace out out (Err f)) (sym c.from.ensures)
-    (dumps_none (cut_of w) c.args.inputs.now trace out c.in-Err.error c.in-Err.ensures.refused))
+    subst (λ (b : Bool). DumpsAs b w.steps (cut_of w) c.args.inputs.now trace out out (Err c.in-Err.failure)) (sym c.if-wave.false)
+    (dumps_none (cut_of w) c.args.inputs.now trace out c.in-Err.failure c.in-Err.ensures.refused)
 
 pub returns-in-Ok-written-clause-dumped : goal.returns-in-Ok-written-clause-dumped
 returns-in-Ok-written-clause-dumped g c =
