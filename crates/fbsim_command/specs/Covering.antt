@@ -142,7 +142,7 @@ pub record StopsAt {S : Type 0} (opens : Opening S) (i : Inputs) (x : Coverage) 
   pub is_first : IsFirst i first
   pub gleaned : Gleaned
   pub gone : GoThrough opens i x before from between first gleaned
-  pub stopped : IsStopped opens (IsWrongIn i x.steps) (are_several x) name between to failure
+  pub stopped : IsStopped opens (IsWrongIn (cut_of x) i x.steps) (are_several x) name between to failure
 
 -- one of the traces is not, by the failure
 abbrev pub AreStopped : {S : Type 0} → Opening S → Inputs → Coverage → (from to : S) → Failure → Type 0

@@ -65,7 +65,7 @@ InspectsFront given x trace old new = (i : Inputs) × Declares given i × ShowsR
 -- The inputs are accepted, the writer got such bytes, and the refusal is that of a line that is wrong, or of an unknown instance.
 abbrev pub RefusesInside : Given → Inspect → (trace : Held) → (old new : Held) → RefusalLine → Type 0
 RefusesInside given x trace old new refusal =
-    (i : Inputs) × Declares given i × ShowsRead (system_of i) (selection_of x) x.steps trace old new × IsRefusalIn i (selection_of x).only x.steps trace refusal
+    (i : Inputs) × Declares given i × ShowsRead (system_of i) (selection_of x) x.steps trace old new × IsRefusalIn (cut_of x) i (selection_of x).only x.steps trace refusal
 
 -- a trace of what the inputs declare is read, of which these bytes are known, and it is written with what happens inside the blocks
 abbrev pub Inspects : Given → Inspect → (trace : Held) → (old new : Held) → End → Type 0

@@ -18,9 +18,9 @@ abbrev pub StatesFront : Given → (steps : ℕ) → (trace : Held) → (old new
 StatesFront given steps trace old new = (i : Inputs) × Declares given i × WritesRead (system_of i) steps trace old new
 
 -- The inputs are accepted, the writer got such bytes, and the refusal is that of a line that is wrong.
-abbrev pub RefusesStates : Given → (steps : ℕ) → (trace : Held) → (old new : Held) → RefusalLine → Type 0
-RefusesStates given steps trace old new refusal =
-    (i : Inputs) × Declares given i × WritesRead (system_of i) steps trace old new × ((line : ℕ) × (refusal ≡ Trace line) × IsWrongIn i steps trace line)
+abbrev pub RefusesStates : Cut → Given → (steps : ℕ) → (trace : Held) → (old new : Held) → RefusalLine → Type 0
+RefusesStates may given steps trace old new refusal =
+    (i : Inputs) × Declares given i × WritesRead (system_of i) steps trace old new × ((line : ℕ) × (refusal ≡ Trace line) × IsWrongIn may i steps trace line)
 
 -- a trace of what the inputs declare is read, of which these bytes are known, and its dump is written with the inside of basic blocks
 abbrev pub DumpsStates : Cut → (steps : ℕ) → Given → (trace : Held) → (old new : Held) → End → Type 0
@@ -34,7 +34,7 @@ DumpsStates may steps given trace old new (Ok Met) = ⊥
 DumpsStates may steps given trace old new (Ok Unmet) = ⊥
 DumpsStates may steps given trace old new (Ok Same) = ⊥
 DumpsStates may steps given trace old new (Ok Different) = ⊥
-DumpsStates may steps given trace old new (Err (Refused refusal)) = (IsRefused given refusal × (new ≡ old)) ⊎ RefusesStates given steps trace old new refusal
+DumpsStates may steps given trace old new (Err (Refused refusal)) = (IsRefused given refusal × (new ≡ old)) ⊎ RefusesStates may given steps trace old new refusal
 DumpsStates may steps given trace old new (Err File) = StatesFront given steps trace old new
 DumpsStates may steps given trace old new (Err (Write n)) = StatesFront given steps trace old new
 DumpsStates may steps given trace old new (Err Memory) = (new ≡ old) ⊎ StatesFront given steps trace old new

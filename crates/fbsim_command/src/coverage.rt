@@ -5,7 +5,7 @@ ghost use Rattle.fb_wave.specs.OfSystem.{HasNames};
 ghost use Rattle.fbsim_command.specs.declared.coverage.Gleaned.{Gleaned};
 ghost use Rattle.fbsim_command.specs.Covering as spec;
 ghost use Rattle.fbsim_command.specs.WrongLines.{IsWrongIn};
-ghost use Rattle.fbsim_command.specs.Covering.{AreGoneThrough, AreStopped, GoesThrough, IsStopped, NotesTrace, RefusesAt, ReportsCoverage, WritesReport, are_several, coverage_text, cut_line, note_front};
+ghost use Rattle.fbsim_command.specs.Covering.{AreGoneThrough, AreStopped, GoesThrough, IsStopped, NotesTrace, RefusesAt, ReportsCoverage, WritesReport, are_several, coverage_text, cut_line, cut_of, note_front};
 
 use crate::expect::refused_trace;
 use crate::failure::{Failure, RefusalLine};
@@ -154,7 +154,7 @@ fn cover_one<S: Streams>(
 ) -> Result<Gleaned, Failure>
     requires { HasNames system.now }
     ensures covered { IfOk result (GoesThrough S.opens system.now coverage.now name.now source.old source.new gleaned) }
-    ensures stopped { IfErr result (IsStopped S.opens (IsWrongIn system.now coverage.now.steps) (are_several coverage.now) name.now source.old source.new) }
+    ensures stopped { IfErr result (IsStopped S.opens (IsWrongIn (cut_of coverage.now) system.now coverage.now.steps) (are_several coverage.now) name.now source.old source.new) }
     ensures noted { NotesTrace coverage.now (option_map string_bytes note.old) → NotesTrace coverage.now (option_map string_bytes note.new) }
 {
     let mut trace = match source.open(alloc, name) {

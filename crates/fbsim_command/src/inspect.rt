@@ -70,7 +70,7 @@ fn go<R: BufRead, W: Write>(
     requires { HasNames system.now }
     ensures whole { OnOk result (IfSome (R.remaining trace.old) (λ text. IsShownBy (cut_of inspect.now) system.now (selection_of inspect.now) inspect.now.steps text (W.contents out.old) (W.contents out.new))) }
     ensures fault { OnErr result (ShowsRead system.now (selection_of inspect.now) inspect.now.steps (R.remaining trace.old) (W.contents out.old) (W.contents out.new)) }
-    ensures refused { IfErr result (OfRefusal (IsWrongIn system.now inspect.now.steps (R.remaining trace.old))) }
+    ensures refused { IfErr result (OfRefusal (IsWrongIn (cut_of inspect.now) system.now inspect.now.steps (R.remaining trace.old))) }
     ensures names { IfErr result (λ e. e ≡ error.Names → ⊥) }
     ensures paths { IfErr result (IsPathFault system.now (selection_of inspect.now).only) }
 {

@@ -9,7 +9,9 @@ use Rattle.fbsim_command.proofs.lemmas.calls.Inspecting.{memory_is_known, memory
 use Rattle.fb_inspect.specs.Refusals.{IsPathFault, IsWrongAt}
 use Rattle.fb_inspect.specs.declared.error.InspectError.TheVariants as inspection
 use Rattle.fb_inspect.specs.walk.Looks.{most}
+use Rattle.fb_wave.specs.CutOff.{IsUncut}
 use Rattle.fb_wave.specs.Named.{HasNames}
+use Rattle.fb_wave.specs.declared.truncation.Cut.TheVariants as cut
 use Rattle.fbsim_command.proofs.inspect.go.Goals as goal
 
 pub returns-in_err-only-clause-fault : goal.returns-in_err-only-clause-fault
@@ -42,13 +44,15 @@ returns-clause-fault g c =
 
 pub returns-in_err-only-clause-refused : goal.returns-in_err-only-clause-refused
 returns-in_err-only-clause-refused g c =
-    no_refusal c.from_residual.result (IsWrongIn c.args.system.now c.args.inspect.now.steps (g.R.Read.remaining c.args.trace.now)) c.from_residual.ensures.1
+    no_refusal c.from_residual.result (IsWrongIn (cut_of c.args.inspect.now) c.args.system.now c.args.inspect.now.steps (g.R.Read.remaining c.args.trace.now)) c.from_residual.ensures.1
 
 pub returns-clause-refused : goal.returns-clause-refused
 returns-clause-refused g c =
     let sys = system_of c.args.system.now in
-    let steps = c.args.inspect.now.steps in
-    wrong_so (HasNames sys) (steps ≤ most) (λ n. IfSome (g.R.Read.remaining c.args.trace.now) (IsWrongAt sys steps n)) c.inspect.result c.requires c.inspect.ensures.refused
+    let x = c.args.inspect.now in
+    let trace = g.R.Read.remaining c.args.trace.now in
+    wrong_so (HasNames sys) (x.steps ≤ most) (cut_of x ≡ cut.Allowed) (λ n. IfSome trace (IsWrongAt sys x.steps n)) (λ n. IfSome trace (IsUncut sys n)) c.inspect.result c.requires
+    c.inspect.ensures.refused (λ has few may. c.inspect.ensures.uncut has few (c.cut_of.ensures ∙ may))
 
 pub returns-in_err-only-clause-names : goal.returns-in_err-only-clause-names
 returns-in_err-only-clause-names g c = memory_only c.from_residual.result (λ e. e ≡ inspection.Names → ⊥) c.from_residual.ensures.1 memory_is_named

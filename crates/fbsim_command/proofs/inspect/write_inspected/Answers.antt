@@ -41,7 +41,7 @@ returns-clause-inspected g c =
     let trace = g.R.Read.remaining c.args.trace.now in
     inspects_front c.args.inputs.now x trace old new c.in-Ok.system c.in-Ok.ensures.system c.in-Err-gone.error c.failure_of_inspection.result c.failure_of_inspection.ensures
     (subst (λ r. OnErr r (ShowsRead sys (selection_of x) x.steps trace old new)) c.in-Err-gone.is c.go-gone.ensures.fault)
-    (subst (λ r. IfErr r (OfRefusal (IsWrongIn c.in-Ok.system x.steps trace))) c.in-Err-gone.is c.go-gone.ensures.refused)
+    (subst (λ r. IfErr r (OfRefusal (IsWrongIn (cut_of x) c.in-Ok.system x.steps trace))) c.in-Err-gone.is c.go-gone.ensures.refused)
     (subst (λ r. IfErr r (IsPathFault sys (selection_of x).only)) c.in-Err-gone.is c.go-gone.ensures.paths)
 
 pub returns-clause-noted : goal.returns-clause-noted

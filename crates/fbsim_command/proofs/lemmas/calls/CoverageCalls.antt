@@ -115,10 +115,10 @@ module _ {S : Type 0} (opens : Opening S) (i : Inputs) (x : Coverage) (first : G
   -- a trace that is not gone through
   pub stops-at :
       (k : ℕ) (d : Bor Text) (from mid to : S) (m : Gleaned) (f : Failure) → k < length own → GoThrough opens i x (map now (take k own)) from mid first m
-      → IsStopped opens (IsWrongIn i x.steps) (are_several x) (get_or own k d).now mid to f → AreStopped opens i x from to f
+      → IsStopped opens (IsWrongIn (cut_of x) i x.steps) (are_several x) (get_or own k d).now mid to f → AreStopped opens i x from to f
   stops-at k d from mid to m f within gone is = by f is
     where
-      all : (g : Failure) → IsStopped opens (IsWrongIn i x.steps) (are_several x) (get_or own k d).now mid to g → StopsAt opens i x from to g
+      all : (g : Failure) → IsStopped opens (IsWrongIn (cut_of x) i x.steps) (are_several x) (get_or own k d).now mid to g → StopsAt opens i x from to g
       all g stopped = record {
         before = map now (take k own);
         name = (get_or own k d).now;
@@ -134,7 +134,7 @@ module _ {S : Type 0} (opens : Opening S) (i : Inputs) (x : Coverage) (first : G
         stopped = stopped;
       }
 
-      by : (g : Failure) → IsStopped opens (IsWrongIn i x.steps) (are_several x) (get_or own k d).now mid to g → AreStopped opens i x from to g
+      by : (g : Failure) → IsStopped opens (IsWrongIn (cut_of x) i x.steps) (are_several x) (get_or own k d).now mid to g → AreStopped opens i x from to g
       by (Refused refusal) is = all (Refused refusal) is
       by (RefusedTrace text) is = all (RefusedTrace text) is
       by File is = all File is
@@ -153,10 +153,10 @@ module _ {S : Type 0} (opens : Opening S) (i : Inputs) (x : Coverage) (first : G
 
   pub stops-at-of :
       (us : List (Bor Text)) (k : ℕ) (d : Bor Text) (from mid to : S) (m : Gleaned) (f : Failure) → us ≡ own → k < length us
-      → GoThrough opens i x (map now (take k own)) from mid first m → IsStopped opens (IsWrongIn i x.steps) (are_several x) (get_or us k d).now mid to f → AreStopped opens i x from to f
+      → GoThrough opens i x (map now (take k own)) from mid first m → IsStopped opens (IsWrongIn (cut_of x) i x.steps) (are_several x) (get_or us k d).now mid to f → AreStopped opens i x from to f
   stops-at-of us k d from mid to m f same within gone is =
       stops-at k d from mid to m f (subst (λ (vs : List (Bor Text)). k < length vs) same within) gone
-      (subst (λ (vs : List (Bor Text)). IsStopped opens (IsWrongIn i x.steps) (are_several x) (get_or vs k d).now mid to f) same is)
+      (subst (λ (vs : List (Bor Text)). IsStopped opens (IsWrongIn (cut_of x) i x.steps) (are_several x) (get_or vs k d).now mid to f) same is)
 
   -- after the last
   pub gone-all :

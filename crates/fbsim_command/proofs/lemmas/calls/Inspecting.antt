@@ -6,14 +6,17 @@ use Rattle.fb_types.specs.Names.{Name}
 use Rattle.fb_types.specs.Systems.{System}
 use Rattle.fb_inspect.specs.Refusals.{IsPathFault, IsWrongAt}
 use Rattle.fb_inspect.specs.walk.Looks.{most}
+use Rattle.fb_wave.specs.CutOff.{IsUncut}
 use Rattle.fb_wave.specs.Named.{HasNames}
+use Rattle.fb_wave.specs.declared.truncation.Cut.{Cut}
+use Rattle.fb_wave.specs.declared.truncation.Cut.TheVariants as cut
 use Rattle.fb_inspect.specs.Inspections.{ShowsRead}
 use Rattle.fb_inspect.specs.declared.error.InspectError.{InspectError}
 use Rattle.fb_inspect.specs.declared.error.InspectError.TheVariants as inspection
 use Rattle.clap.specs.Words.{Text}
 use Rattle.fbsim_command.specs.Failures.{IsInspectionFailure}
 use Rattle.fbsim_command.specs.InsideNotes.{IsOpenNote, NotesInside, SaysLine}
-use Rattle.fbsim_command.specs.Inspecting.{Inspects, ShowsInsides, files_of, selection_of}
+use Rattle.fbsim_command.specs.Inspecting.{Inspects, ShowsInsides, cut_of, files_of, selection_of}
 use Rattle.fbsim_command.specs.Notes.{IsFileNote, NotesRest}
 use Rattle.fbsim_line.specs.declared.inspect_line.Inspect.{Inspect}
 use Rattle.fbsim_command.proofs.lemmas.notes.NotedLines.{noted_so}
@@ -38,13 +41,13 @@ inspects_none given x trace old BadOption is = absurd is
 -- a beginning is written where the trace is refused, or where reading it, writing or memory fails
 pub inspects_front :
     (given : Given) (x : Inspect) (trace old new : Held) (i : Inputs) → Declares given i → (e : InspectError) (f : Failure) → IsInspectionFailure e f
-    → ShowsRead (system_of i) (selection_of x) x.steps trace old new → OfRefusal (IsWrongIn i x.steps trace) e → IsPathFault (system_of i) (selection_of x).only e → Inspects given x trace old new (Err f)
+    → ShowsRead (system_of i) (selection_of x) x.steps trace old new → OfRefusal (IsWrongIn (cut_of x) i x.steps trace) e → IsPathFault (system_of i) (selection_of x).only e → Inspects given x trace old new (Err f)
 inspects_front given x trace old new i is e f reported front wrong unknown = by e reported wrong unknown
   where
     to : (g : Failure) → f ≡ g → Inspects given x trace old new (Err g) → Inspects given x trace old new (Err f)
     to g same it = subst (λ (h : Failure). Inspects given x trace old new (Err h)) (sym same) it
 
-    by : (e : InspectError) → IsInspectionFailure e f → OfRefusal (IsWrongIn i x.steps trace) e → IsPathFault (system_of i) (selection_of x).only e → Inspects given x trace old new (Err f)
+    by : (e : InspectError) → IsInspectionFailure e f → OfRefusal (IsWrongIn (cut_of x) i x.steps trace) e → IsPathFault (system_of i) (selection_of x).only e → Inspects given x trace old new (Err f)
     by (inspection.Refused line) reported wrong unknown = to (Refused (Trace line)) reported (inr (i, is, front, wrong))
     by inspection.Names reported wrong unknown = absurd reported
     by inspection.Unknown reported wrong unknown = to (Refused (Numbered 21)) reported (inr (i, is, front, (refl, unknown refl)))
@@ -72,20 +75,25 @@ memory_is_known i only = λ same. absurd cc
 
 -- a line that is refused is wrong, under the premise of the call below
 pub wrong_so :
-    {A : Type 0} (H L : Type 0) (W : ℕ → Type 0) (r : Result A InspectError) → H → (H → L → IfErr r (OfRefusal W)) → IfErr r (OfRefusal (λ n. L → W n))
-wrong_so H L W (Ok x) has is = tt
-wrong_so H L W (Err (inspection.Refused n)) has is = is has
-wrong_so H L W (Err inspection.Names) has is = tt
-wrong_so H L W (Err inspection.Unknown) has is = tt
-wrong_so H L W (Err inspection.Memory) has is = tt
-wrong_so H L W (Err inspection.Read) has is = tt
-wrong_so H L W (Err (inspection.Write n)) has is = tt
+    {A : Type 0} (H L M : Type 0) (W U : ℕ → Type 0) (r : Result A InspectError) → H → (H → L → IfErr r (OfRefusal W)) → (H → L → M → IfErr r (OfRefusal U))
+    → IfErr r (OfRefusal (λ n. L → W n × (M → U n)))
+wrong_so H L M W U (Ok x) has is uncut = tt
+wrong_so H L M W U (Err (inspection.Refused n)) has is uncut = λ few. (is has few, uncut has few)
+wrong_so H L M W U (Err inspection.Names) has is uncut = tt
+wrong_so H L M W U (Err inspection.Unknown) has is uncut = tt
+wrong_so H L M W U (Err inspection.Memory) has is uncut = tt
+wrong_so H L M W U (Err inspection.Read) has is uncut = tt
+wrong_so H L M W U (Err (inspection.Write n)) has is uncut = tt
 
 -- the line for which a walk refuses a trace is wrong
 pub wrong-covered :
-    {A : Type 0} (i : Inputs) (steps : ℕ) (trace : Held) (r : Result A InspectError) (line : ℕ) → HasNames (system_of i) → r ≡ Err (inspection.Refused line)
-    → (HasNames (system_of i) → steps ≤ most → IfErr r (OfRefusal (λ n. IfSome trace (IsWrongAt (system_of i) steps n)))) → IsWrongIn i steps trace line
-wrong-covered {A} i steps trace r line names is wrong = λ few. subst (λ (s : Result A InspectError). IfErr s (OfRefusal (λ n. IfSome trace (IsWrongAt (system_of i) steps n)))) is (wrong names few)
+    {A : Type 0} (may : Cut) (i : Inputs) (steps : ℕ) (trace : Held) (r : Result A InspectError) (line : ℕ) → HasNames (system_of i) → r ≡ Err (inspection.Refused line)
+    → (HasNames (system_of i) → steps ≤ most → IfErr r (OfRefusal (λ n. IfSome trace (IsWrongAt (system_of i) steps n))))
+    → (HasNames (system_of i) → steps ≤ most → may ≡ cut.Allowed → IfErr r (OfRefusal (λ n. IfSome trace (IsUncut (system_of i) n)))) → IsWrongIn may i steps trace line
+wrong-covered {A} may i steps trace r line names is wrong uncut = λ few. (
+  subst (λ (s : Result A InspectError). IfErr s (OfRefusal (λ n. IfSome trace (IsWrongAt (system_of i) steps n)))) is (wrong names few),
+  λ allowed. subst (λ (s : Result A InspectError). IfErr s (OfRefusal (λ n. IfSome trace (IsUncut (system_of i) n)))) is (uncut names few allowed),
+)
 
 -- a walk of a system that has names does not end for them
 pub never_names : {A : Type 0} (H : Type 0) (r : Result A InspectError) → H → r ≡ Err inspection.Names → IfErr r (λ e. e ≡ inspection.Names → H → ⊥) → ⊥

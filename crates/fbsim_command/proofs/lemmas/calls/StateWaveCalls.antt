@@ -21,13 +21,13 @@ states_none may steps given trace old BadOption is = absurd is
 -- a beginning is written where the trace is refused, or where reading it, writing or memory fails
 pub states_front :
     (may : Cut) (steps : ℕ) (given : Given) (trace old new : Held) (i : Inputs) → Declares given i → (e : InspectError) (f : Failure) → IsInspectionFailure e f → WritesRead (system_of i) steps trace old new
-    → OfRefusal (IsWrongIn i steps trace) e → (e ≡ inspection.Unknown → ⊥) → DumpsStates may steps given trace old new (Err f)
+    → OfRefusal (IsWrongIn may i steps trace) e → (e ≡ inspection.Unknown → ⊥) → DumpsStates may steps given trace old new (Err f)
 states_front may steps given trace old new i is e f reported front wrong unknown = by e reported wrong unknown
   where
     to : (g : Failure) → f ≡ g → DumpsStates may steps given trace old new (Err g) → DumpsStates may steps given trace old new (Err f)
     to g same it = subst (λ (h : Failure). DumpsStates may steps given trace old new (Err h)) (sym same) it
 
-    by : (e : InspectError) → IsInspectionFailure e f → OfRefusal (IsWrongIn i steps trace) e → (e ≡ inspection.Unknown → ⊥) → DumpsStates may steps given trace old new (Err f)
+    by : (e : InspectError) → IsInspectionFailure e f → OfRefusal (IsWrongIn may i steps trace) e → (e ≡ inspection.Unknown → ⊥) → DumpsStates may steps given trace old new (Err f)
     by (inspection.Refused line) reported wrong unknown = to (Refused (Trace line)) reported (inr (i, is, front, (line, refl, wrong)))
     by inspection.Names reported wrong unknown = absurd reported
     by inspection.Unknown reported wrong unknown = absurd (unknown refl)

@@ -1,5 +1,7 @@
 use Rattle.fbsim_command.proofs.lemmas.Common.{◌≡◌, string_bytes, subst, ◌≤◌, IfErr, IfSome, OnErr, OnOk, system_of, OfRefusal, IsWrongIn}
+use Rattle.fb_wave.specs.CutOff.{IsUncut}
 use Rattle.fb_wave.specs.Named.{HasNames}
+use Rattle.fb_wave.specs.declared.truncation.Cut.TheVariants as cut
 use Rattle.fb_inspect.specs.Refusals.{IsWrongAt}
 use Rattle.fb_inspect.specs.walk.Looks.{most}
 use Rattle.fb_inspect.specs.declared.error.InspectError.TheVariants as inspection
@@ -46,8 +48,9 @@ returns-clause-dumped g c =
     let names = read-names c.args.inputs.now c.in-Ok.system c.in-Ok.ensures.system in
     states_front t.cut t.steps c.args.inputs.now trace old new c.in-Ok.system c.in-Ok.ensures.system c.in-Err-gone.error c.failure_of_inspection.result c.failure_of_inspection.ensures
     (subst (λ r. OnErr r (WritesRead sys t.steps trace old new)) c.in-Err-gone.is c.write_states-gone.ensures.read)
-    (subst (λ r. IfErr r (OfRefusal (IsWrongIn c.in-Ok.system t.steps trace))) c.in-Err-gone.is
-    (wrong_so (HasNames sys) (t.steps ≤ most) (λ n. IfSome trace (IsWrongAt sys t.steps n)) c.write_states-gone.result names c.write_states-gone.ensures.refused))
+    (subst (λ r. IfErr r (OfRefusal (IsWrongIn t.cut c.in-Ok.system t.steps trace))) c.in-Err-gone.is
+    (wrong_so (HasNames sys) (t.steps ≤ most) (t.cut ≡ cut.Allowed) (λ n. IfSome trace (IsWrongAt sys t.steps n)) (λ n. IfSome trace (IsUncut sys n)) c.write_states-gone.result names
+    c.write_states-gone.ensures.refused c.write_states-gone.ensures.uncut))
     (subst (λ r. IfErr r (λ e. e ≡ inspection.Unknown → ⊥)) c.in-Err-gone.is c.write_states-gone.ensures.paths)
 
 pub returns-clause-noted : goal.returns-clause-noted
