@@ -847,6 +847,12 @@ CALLS += [
         of(f"{words} --no-why", 3, err=b"file fault\n", errors_to="terminal")
         for words in ("run nowhere --horizon 8", "wave cycle nowhere", "inspect cycle nowhere", "coverage cycle nowhere", "expect nowhere trace", "diff nowhere trace")
     ),
+    # Where both are given, --no-why counts.
+    *(
+        of(f"{words} {both}", 3, err=b"file fault\n")
+        for words in ("run nowhere --horizon 8", "check nowhere", "wave cycle nowhere", "inspect cycle nowhere", "coverage cycle nowhere", "expect nowhere trace", "diff nowhere trace")
+        for both in ("--why --no-why", "--no-why --why")
+    ),
     of("draw nowhere", 3, err=b"file fault\n", errors_to="terminal"),
     of("draw cycle --no-why", 5, err=None),
     of("explain E99", 5, err=b"error: no refusal or stop is called E99\n", errors_to="terminal"),

@@ -335,10 +335,12 @@ def uses_of(data, literals):
     found += tables(elf, found, known)
     starts = {it[0] for it in found}
     passing = passes(elf, found)
-    uses = []
+    uses, pointers = [], {where for _, where, _, form in found if form == "<q"}
     for target, where, place, form in found:
         texts = texts_at(elf, target, known)
         size = length_at(elf, where) if form == "<q" else 0
+        if form == "<q" and not size and where + 8 not in pointers:
+            continue  # an empty text, which begins where any other one does
         texts = [it for it in texts if len(it) == size] or texts
         if texts:
             symbol = elf.symbol(where) if form == "<i" else ""
