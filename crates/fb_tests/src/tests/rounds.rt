@@ -5,15 +5,18 @@ ghost use Rattle.fb_sim.specs.Rounds.{HasCome};
 ghost use Rattle.fb_sim.specs.Serial.{AreWithin};
 ghost use Rattle.fb_window.specs.Reached.{KeepHorizon};
 
+use super::later_rounds::lines_in;
 use super::rows::{
     ARRIVAL_ROW, BETWEEN_ROW, CYCLE_ROW, LATER_FIRST_ROW, LATER_STOP_ROW, OLD_COPY_ROW,
     OVERTAKEN_ROW, PAST_A_STOP_ROW, Part, RING_ROW, Row, TOGETHER_ROW, TWO_STOPS_ROW,
 };
 use super::texts::Run;
 use super::writers::{ANY, Narrow, with_room};
-use super::{inputs_of, must};
+use super::{inputs_of, must, to};
 use fb_phase::OpenGate;
-use fb_sim::{Options, Outcome, Round, RunError, discard, open, open_core, round};
+use fb_sim::{
+    Inputs, Options, Outcome, Round, RunError, discard, open, open_core, round, run, run_serial,
+};
 use fb_system::System;
 use fb_types::Form;
 use fb_window::Core;
@@ -197,4 +200,274 @@ fn each_round_before_a_stop_has_its_bounds_and_lines(rt: HostRuntime) {
 #[test]
 fn each_round_of_a_ring_has_its_bounds_and_lines(rt: HostRuntime) {
     expect_all_ways(&rt, rt.alloc(), &RING_ROW);
+}
+
+/// What the digits of a number below 1,000 count.
+static UNITS: [u64; 3] = [100, 10, 1];
+
+/// Appends a number below 1,000.
+fn push_number(rt: &impl Abort, text: &mut Vec<u8>, number: u64) {
+    for unit in &UNITS {
+        let count = number.checked_div(*unit).unwrap_or(0);
+        if *unit == 1 || count > 0 {
+            let pushed = text.push(b"0123456789"[(count % 10) as usize]);
+            assert!(rt; pushed.is_ok(), "memory");
+        }
+    }
+}
+
+/// Appends texts, with this number between each two.
+fn push_all(rt: &impl Abort, text: &mut Vec<u8>, parts: &[&str], number: u64) {
+    for (index, part) in parts.iter().enumerate() {
+        if index > 0 {
+            push_number(rt, text, number);
+        }
+        let pushed = text.extend_from_slice(part.as_bytes());
+        assert!(rt; pushed.is_ok(), "memory");
+    }
+}
+
+/// How many lines the trace of the ring has to tick 10,000. A way round takes 253 ticks. There are 3 lines of the
+/// first event, 2 of each message that arrives before the horizon, and the last one.
+const RING_LINES: u32 = 5062;
+
+/// How many resources are in the ring.
+const RING: u64 = 64;
+
+/// An event goes round a ring of 64 resources.
+fn ring_of_64(rt: &impl Abort, alloc: Global) -> Vec<u8> {
+    let mut text = Vec::new(alloc);
+    push_all(rt, &mut text, &["APPLICATION A FBS S : E_RESTART;"], 0);
+    for number in 0..RING {
+        push_all(rt, &mut text, &[" M", " : E_MERGE;"], number);
+    }
+    push_all(
+        rt,
+        &mut text,
+        &[" END_FBS EVENT_CONNECTIONS S.COLD TO M0.EI2;"],
+        0,
+    );
+    for number in 0..RING {
+        push_all(rt, &mut text, &[" M", ".EO TO M"], number);
+        push_all(rt, &mut text, &["", ".EI1;"], number.wrapping_add(1) % RING);
+    }
+    push_all(rt, &mut text, &[" END_CONNECTIONS END_APPLICATION"], 0);
+    text
+}
+
+/// Each of its blocks is in a resource of its own. The latencies of the links are 1 to 7 ticks.
+fn deploy_of_64(rt: &impl Abort, alloc: Global) -> Vec<u8> {
+    let mut text = Vec::new(alloc);
+    for number in 0..RING {
+        let start = if number == 0 { "\"S\", " } else { "" };
+        push_all(
+            rt,
+            &mut text,
+            &[
+                "[[resource]]\ndevice = \"D\"\nname = \"R",
+                "\"\ninstances = [",
+            ],
+            number,
+        );
+        push_all(rt, &mut text, &[start], 0);
+        push_all(rt, &mut text, &["\"M", "\"]\n"], number);
+    }
+    for number in 0..RING {
+        push_all(rt, &mut text, &["[[link]]\nfrom = \"R", "\"\n"], number);
+        push_all(
+            rt,
+            &mut text,
+            &["to = \"R", "\"\n"],
+            number.wrapping_add(1) % RING,
+        );
+        push_all(
+            rt,
+            &mut text,
+            &["latency = ", "\n"],
+            (number % 7).wrapping_add(1),
+        );
+    }
+    text
+}
+
+/// Makes rounds until the run has ended at its horizon. Answers how many there were.
+fn make_all<R: Abort + Threads + Wait + Sync>(
+    rt: &R,
+    alloc: Global,
+    system: &System,
+    options: Options,
+    out: &mut Narrow,
+) -> u32
+    requires { AreWithin options }
+{
+    system.facts();
+    let mut core = opened(rt, alloc, system, options.steps);
+    for number in 0..10_001u32 {
+        match round(rt, alloc, system, core, options, out, &OpenGate) {
+            Ok(Round::Going(next)) => core = next,
+            Ok(Round::Ended(last)) => {
+                forget(last);
+                return number + 1;
+            }
+            Ok(Round::Stopped(_)) => panic!(rt; "it stopped"),
+            Err(_) => panic!(rt; "memory for a round or its lines"),
+        }
+    }
+    rt.panic("there are more rounds than ticks")
+}
+
+/// The texts that declare the ring.
+#[derive(Drop)]
+struct Ring {
+    declaration: Vec<u8>,
+    deploy: Vec<u8>,
+}
+
+fn inputs_in(ring: &Ring) -> Inputs<'_> {
+    Inputs {
+        declaration: ring.declaration.as_slice(),
+        deploy: Some(ring.deploy.as_slice()),
+        stimuli: None,
+    }
+}
+
+/// The last line of the trace of the ring.
+const RING_END: &[u8] = b"end 10000\n";
+
+/// Rounds from outside write these lines, and `run` these and the last one, each through a writer of one byte a call.
+fn expect_ring<R: Abort + Threads + Wait + Sync>(
+    rt: &R,
+    alloc: Global,
+    ring: &Ring,
+    (of_rounds, of_run): (u64, u64),
+    lines: &[u8],
+) {
+    assert!(rt; 1 <= of_rounds && of_rounds <= 64);
+    let options = Options {
+        horizon: 10_000,
+        steps: 10_000,
+        workers: of_rounds,
+        form: Form::One,
+    };
+    let inputs = inputs_in(ring);
+    let system = must(rt, open(alloc, &inputs), "no system");
+    let mut out = with_room(alloc, 1, ANY);
+    make_all(rt, alloc, &system, options, &mut out);
+    discard(system);
+    assert!(rt; out.got.as_slice() == lines, "other bytes by rounds");
+    let mut out = with_room(alloc, 1, ANY);
+    let options = to(10_000, 10_000, of_run);
+    let ended = run(rt, alloc, &inputs, options, &mut out, &OpenGate);
+    assert!(rt; must(rt, ended, "no run") == Outcome::End(10_000));
+    let Some(found) = out.got.as_slice().strip_suffix(RING_END) else {
+        panic!(rt; "another last line");
+    };
+    assert!(rt; found == lines, "other bytes by the run");
+}
+
+/// The ring to tick 10,000 has the trace of one agenda by rounds from outside, whose workers are started anew in each
+/// round, and by `run`, whose workers live as long as it does.
+fn expect_ring_of_64<R: Abort + Threads + Wait + Sync>(rt: &R, alloc: Global, workers: (u64, u64)) {
+    let ring = Ring {
+        declaration: ring_of_64(rt, alloc),
+        deploy: deploy_of_64(rt, alloc),
+    };
+    let mut serial = with_room(alloc, ANY, ANY);
+    let ended = run_serial(alloc, &inputs_in(&ring), to(10_000, 10_000, 1), &mut serial);
+    assert!(rt; must(rt, ended, "no run") == Outcome::End(10_000));
+    let trace = serial.got.as_slice();
+    assert!(rt; lines_in(trace) == RING_LINES);
+    let Some(lines) = trace.strip_suffix(RING_END) else {
+        panic!(rt; "another last line");
+    };
+    expect_ring(rt, alloc, &ring, workers, lines);
+}
+
+#[test]
+fn a_ring_of_64_resources_by_rounds_of_one_worker(rt: HostRuntime) {
+    expect_ring_of_64(&rt, rt.alloc(), (1, 64));
+}
+
+#[test]
+fn a_ring_of_64_resources_by_rounds_of_three_workers(rt: HostRuntime) {
+    expect_ring_of_64(&rt, rt.alloc(), (3, 2));
+}
+
+/// How many bursts follow one another.
+const BURSTS: u64 = 17;
+
+/// A cycle of one tick goes to a burst of sixty events, from there to another one, and so on.
+fn bursts(rt: &impl Abort, alloc: Global) -> Vec<u8> {
+    let mut text = Vec::new(alloc);
+    push_all(
+        rt,
+        &mut text,
+        &[
+            "FUNCTION_BLOCK BURST EVENT_INPUT GO; END_EVENT EVENT_OUTPUT TICKED; DONE; END_EVENT EC_STATES IDLE; RUN :",
+        ],
+        0,
+    );
+    for _ in 0..60u32 {
+        push_all(rt, &mut text, &[" -> TICKED,"], 0);
+    }
+    push_all(
+        rt,
+        &mut text,
+        &[
+            " -> DONE; END_STATES EC_TRANSITIONS IDLE TO RUN := GO; RUN TO IDLE := 1; END_TRANSITIONS END_FUNCTION_BLOCK \
+            APPLICATION A FBS S : E_RESTART; C : E_CYCLE(DT := T#1ms);",
+        ],
+        0,
+    );
+    for number in 0..BURSTS {
+        push_all(rt, &mut text, &[" B", " : BURST;"], number);
+    }
+    push_all(
+        rt,
+        &mut text,
+        &[" END_FBS EVENT_CONNECTIONS S.COLD TO C.START; C.EO TO B0.GO;"],
+        0,
+    );
+    for number in 1..BURSTS {
+        push_all(rt, &mut text, &[" B", ".DONE TO B"], number.wrapping_sub(1));
+        push_all(rt, &mut text, &["", ".GO;"], number);
+    }
+    push_all(rt, &mut text, &[" END_CONNECTIONS END_APPLICATION"], 0);
+    text
+}
+
+/// At tick 0 there are 2 lines. At each of the 1,000 ticks after it there are one of the cycle and, of each burst, one of
+/// what comes and 61 of what goes.
+const LINES_OF_BURSTS: u32 = 1_055_002;
+
+/// More bytes than these lines have.
+const ENOUGH_BYTES: usize = 100_000_000;
+
+/// A round may have more than 2^20 lines.
+#[test]
+fn a_round_of_a_million_lines_is_written(rt: HostRuntime) {
+    let alloc = rt.alloc();
+    let declaration = bursts(&rt, alloc);
+    let inputs = Inputs {
+        declaration: declaration.as_slice(),
+        deploy: None,
+        stimuli: None,
+    };
+    let system = must(&rt, open(alloc, &inputs), "no system");
+    let mut out = with_room(alloc, ANY, ENOUGH_BYTES);
+    let options = Options {
+        horizon: 1_001,
+        steps: 10_000,
+        workers: 2,
+        form: Form::One,
+    };
+    let rounds = make_all(&rt, alloc, &system, options, &mut out);
+    assert!(rt; rounds == 1);
+    assert!(rt; lines_in(out.got.as_slice()) == LINES_OF_BURSTS);
+    assert!(rt;
+        out.got
+            .as_slice()
+            .ends_with(b"\n1000 MAIN < B16.TICKED\n1000 MAIN < B16.DONE\n")
+    );
+    discard(system);
 }

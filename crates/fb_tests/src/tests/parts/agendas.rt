@@ -1,7 +1,8 @@
 //! An agenda by itself. What is taken follows from the keys.
 
 use fb_agenda::{Agenda, Least};
-use fb_types::{Key, Target, TimerAsk};
+use fb_types::{GivenRow, Items, Key, Target, TimerAsk};
+use std::alloc::Global;
 use std::mem::forget;
 use std::process::Abort;
 
@@ -138,5 +139,38 @@ fn a_timer_that_is_set_anew_goes_off_once(rt: HostRuntime) {
     expect_next(&rt, &agenda, Some(3));
     expect_taken(&rt, &mut agenda, 10, Some(Key::timer(3, 0, 0)));
     expect_next(&rt, &agenda, None);
+    forget(agenda);
+}
+
+/// Puts a row that was given at a tick.
+fn give(rt: &impl Abort, agenda: &mut Agenda, alloc: Global, tick: u64, row: u64) {
+    let given = GivenRow {
+        row,
+        target: TARGET,
+        sets: Items::new(alloc),
+    };
+    agenda.put_given(tick, 0, given).expect(rt, "memory");
+}
+
+/// A row that was given comes after the stimuli of its tick, whose numbers are lower, and before a timer. Its number may
+/// be over 2^32.
+#[test]
+fn a_given_row_is_taken_by_its_key(rt: HostRuntime) {
+    let mut agenda = Agenda::new(rt.alloc(), 1).expect(&rt, "memory");
+    agenda
+        .set_timer(0, 0, TimerAsk::At(5))
+        .expect(&rt, "memory");
+    assert!(rt; agenda.timer(0, 0) == Some(5));
+    let far = 1 << 40;
+    give(&rt, &mut agenda, rt.alloc(), 5, far);
+    agenda.put_stimulus(5, 0, 7).expect(&rt, "memory");
+    give(&rt, &mut agenda, rt.alloc(), 4, far + 1);
+    assert!(rt; agenda.first() == Some(Key::given(4, 0, far + 1)));
+    expect_taken(&rt, &mut agenda, 10, Some(Key::given(4, 0, far + 1)));
+    expect_taken(&rt, &mut agenda, 10, Some(Key::stimulus(5, 0, 7)));
+    assert!(rt; agenda.first() == Some(Key::given(5, 0, far)));
+    expect_taken(&rt, &mut agenda, 10, Some(Key::given(5, 0, far)));
+    expect_taken(&rt, &mut agenda, 10, Some(Key::timer(5, 0, 0)));
+    assert!(rt; agenda.first() == None);
     forget(agenda);
 }
