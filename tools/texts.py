@@ -712,21 +712,26 @@ def report(literals, uses, lacks, unshown, survived):
 
 
 def without_copies(unreached, survived, uses):
-    """Returns the uses that no case reaches, without those of texts for which a case fails at another place of the same function. A compiler
-    makes copies of code for cases that can't be."""
+    """Returns both, without those of texts for which a case fails at another place of the same function, and of the second without single
+    bytes. A compiler makes copies of code for cases that can't be, and constants that no code reads any more."""
     lacking = {id(it) for it in (*unreached, *survived)}
     noticed = {name_of(it.literal) for it in uses if id(it) not in lacking}
-    return [it for it in unreached if name_of(it.literal) not in noticed]
+
+    def is_copy(use):
+        return name_of(use.literal) in noticed
+
+    longer = [it for it in survived if len(it.literal.text) >= SHORTEST]
+    return [it for it in unreached if not is_copy(it)], [it for it in longer if it.is_sure or not is_copy(it)]
 
 
 def report_new(literals, uses, unreached, survived):
     """Prints what was found and is not known, and what is known and was not found. Returns whether that is nothing."""
-    known, unreached = no_gaps(), without_copies(unreached, survived, uses)
-    longer = [it for it in survived if len(it.literal.text) >= SHORTEST]
+    known, counts = no_gaps(), len(unreached) + len(survived)
+    unreached, longer = without_copies(unreached, survived, uses)
     new, gone = sorted_out([*unreached, *longer], known, literals)
     for file, function, text in gone:
         print(f"no more without a case, or no more a text: {file}: {function}: {text!r}")
-    print(f"texts: {len(unreached) + len(survived) - len(new)} that no case fails for and none has to")
+    print(f"texts: {counts - len(new)} places that no case fails for and none has to")
     return report(literals, uses, "no case reaches", *([it for it in them if it in new] for them in (unreached, longer))) and not gone
 
 

@@ -155,10 +155,19 @@ def faults_of_program():
     return [f"expected {it}; got {was}" for it, was in zip(expected, came) if it != was]
 
 
+def faults_of_copies():
+    """Returns what is wrong with what is left out of the lists: copies, constants that no code reads, and single bytes."""
+    one, two, byte = (texts.Literal("crates/fb_stub/src/words.rt", 1, "print", it) for it in (b"one", b"two", b"3"))
+    shown, copy, constant = (texts.Use("", one, [], passed, is_sure) for passed, is_sure in ((1, True), (2, True), (0, False)))
+    alone, survivor, single = (texts.Use("", it, [], 3, True) for it in (two, one, byte))
+    came = texts.without_copies([copy, alone], [constant, survivor, single], [shown, copy, constant, alone, survivor, single])
+    return [] if came == ([alone], [survivor]) else [f"copies are left out otherwise: {came}"]
+
+
 def main():
     found = [(it.function, it.text.decode()) for it in texts.literals_of("crates/fb_stub/src/lib.rt", SOURCE)]
     faults = [] if found == FOUND else [f"the texts of a source: expected {FOUND}; got {found}"]
-    faults += faults_of_program()
+    faults += faults_of_copies() + faults_of_program()
     for it in faults:
         print(f"texts_test: {it}")
     print(f"texts_test: {len(faults)} faults")
