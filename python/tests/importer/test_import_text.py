@@ -196,11 +196,12 @@ def test_faults_that_only_the_simulator_sees_are_mapped_back(tmp_path):
     text = basic("SUM := A;\n  SUM := QI + 1;\n  ON := A;")
     done = import_all(tmp_path, {"Adder.fbt": text})
     assert done.status == 2
-    line, column = place_of(text, "QI + 1").split(":")
+    # the operand that does not fit, and the expression of a kind that its variable can't hold
     assert done.lines[0].startswith(
-        f"Adder.fbt:{line}:{int(column) - 7}: E22: block type ADDER: algorithm ADD: statement 2"
+        f"Adder.fbt:{place_of(text, 'QI + 1')}: E22: block type ADDER: algorithm ADD: statement 2"
     )
-    assert done.lines[1].startswith(f"Adder.fbt:{place_of(text, 'ON := A')}: E22")
+    line, column = place_of(text, "ON := A").split(":")
+    assert done.lines[1].startswith(f"Adder.fbt:{line}:{int(column) + len('ON := ')}: E22")
 
 
 def test_a_fault_of_syntax_that_only_the_simulator_sees_is_mapped_back(tmp_path):
