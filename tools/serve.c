@@ -105,7 +105,7 @@ static char *next(char **text) {
     return here;
 }
 
-// Tells the program its words, as the loader did at the beginning.
+// Gives the program its arguments, as the loader did at the beginning.
 static void begin_again(int count, char **words, char **around) {
     long at = 0, bytes = 0;
     for (long(*it)[2] = its->dynamic; (*it)[0]; it++) {
