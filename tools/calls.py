@@ -845,16 +845,21 @@ CALLS += [
     of("diff nowhere trace", 3, err=b"file fault\ntrace nowhere: no file of this name can be read\n", errors_to="terminal"),
     *(
         of(f"{words} --no-why", 3, err=b"file fault\n", errors_to="terminal")
-        for words in ("run nowhere --horizon 8", "wave cycle nowhere", "inspect cycle nowhere", "coverage cycle nowhere", "expect nowhere trace", "diff nowhere trace")
+        for words in ("run nowhere --horizon 8", "wave cycle nowhere", "inspect cycle nowhere", "coverage cycle nowhere", "expect nowhere trace", "diff nowhere trace", "draw nowhere")
     ),
     # Where both are given, --no-why counts.
     *(
         of(f"{words} {both}", 3, err=b"file fault\n")
-        for words in ("run nowhere --horizon 8", "check nowhere", "wave cycle nowhere", "inspect cycle nowhere", "coverage cycle nowhere", "expect nowhere trace", "diff nowhere trace")
+        for words in ("run nowhere --horizon 8", "check nowhere", "wave cycle nowhere", "inspect cycle nowhere", "coverage cycle nowhere", "expect nowhere trace", "diff nowhere trace", "draw nowhere")
         for both in ("--why --no-why", "--no-why --why")
     ),
-    of("draw nowhere", 3, err=b"file fault\n", errors_to="terminal"),
-    of("draw cycle --no-why", 5, err=None),
+    of("draw nowhere", 3, err=b"file fault\ndeclaration nowhere: no file of this name can be read\n", errors_to="terminal"),
+    of("draw cycle --no-why", 0, out=GRAPH),
+    of("draw lit --types lamp --type lump", 2, err=b"refused E21\n--type: E21: there is no declared type lump (the nearest name is LAMP)\n", errors_to="terminal"),
+    of("draw lit --types lamp --type lump --no-why", 2, err=b"refused E21\n", errors_to="terminal"),
+    of("inspect cycle trace --only SS", 2, err=b"refused E21\n--only: E21: there is no instance SS (the nearest name is S)\n", errors_to="terminal"),
+    of("inspect cycle trace --only SS --no-why", 2, err=b"refused E21\n", errors_to="terminal"),
+    of("session cycle --no-why", 5, err=None),
     of("explain E99", 5, err=b"error: no refusal or stop is called E99\n", errors_to="terminal"),
 ]
 
@@ -995,6 +1000,14 @@ CALLS += [
     of("draw cycle --type A", 2, err=b"refused E21\n"),
     of("draw cycle --type E_CYCLE", 2, err=b"refused E21\n"),
     of("draw cycle --type=", 2, err=b"refused E21\n"),
+    of("draw lit --types lamp --type lump", 2, err=b"refused E21\n"),
+    of("draw lit --types lamp --type lump --why", 2, err=b"refused E21\n--type: E21: there is no declared type lump (the nearest name is LAMP)\n"),
+    Call(["draw", "cycle", "--type", "L\nA", "--why"], 2, err=b"refused E21\n--type: E21: there is no declared type L?A\n"),
+    of("draw lit --why", 2, err=placed(b"refused E21\n", b"lit:1:38: E21: application A: instance L : LAMP: there is no block type LAMP\n")),
+    of("draw lit --types no_name --why", 2, err=placed(b"refused E03 no_name line 2\n", b"no_name:2:16: E03: found ;, expected name\n")),
+    of("draw nowhere --why", 3, err=b"file fault\ndeclaration nowhere: no file of this name can be read\n"),
+    of("draw cycle --deploy nowhere --why", 3, err=b"file fault\ndeployment nowhere: no file of this name can be read\n"),
+    of("draw cycle --type A --why --no-why", 2, err=b"refused E21\n"),
     of("draw twice --type A", 2, err=b"refused E20\n"),
     of("draw twice --deploy no_plan", 2, err=b"refused E10\n"),
     of("draw no_text --deploy nowhere", 3, err=b"file fault\n"),
@@ -1027,7 +1040,7 @@ CALLS += [
     *(
         of(f"{words} --why", 3, err=b"file fault\n%s .: this is a folder, not a file\n" % kind)
         for words, kind in (
-            ("check .", b"declaration"), ("run . --horizon 1", b"declaration"), ("wave . trace", b"declaration"), ("inspect . trace", b"declaration"),
+            ("check .", b"declaration"), ("run . --horizon 1", b"declaration"), ("draw .", b"declaration"), ("wave . trace", b"declaration"), ("inspect . trace", b"declaration"),
             ("coverage . trace", b"declaration"), ("expect rules trace --decl .", b"declaration"), ("check lit --types .", b"types"),
             ("check cycle --deploy .", b"deployment"), ("expect rules trace --decl cycle --deploy .", b"deployment"), ("run cycle --horizon 1 --stim .", b"stimuli"),
             ("expect . trace", b"rules"), ("inspect cycle .", b"trace"), ("coverage cycle .", b"trace"), ("diff . trace", b"trace"), ("expect rules trace .", b"trace"),

@@ -192,6 +192,16 @@ REFUSED = {
         "refused E14\n"
         's.csv:2:13: E14: row 0: the word "Y=q": its value is neither a number nor TRUE or FALSE\n1,M.EI1,X=2 Y=q\n            ^\n',
     ),
+    "a path that no instance has": (
+        ["inspect", "d.iec", "t.trace", "--only", "MM", "--why"],
+        {"d.iec": OF_EVENTS.format("S.COLD TO M.EI1;\n"), "t.trace": "end 1\n"},
+        "refused E21\n--only: E21: there is no instance MM (the nearest name is M)\n",
+    ),
+    "a type that is not declared": (
+        ["draw", "d.iec", "--type", "M", "--why"],
+        {"d.iec": OF_EVENTS.format("S.COLD TO M.EI1;\n")},
+        "refused E21\n--type: E21: there is no declared type M\n",
+    ),
 }
 
 # The commands of a session of these two resources, each of them at least once, with errors of each kind.

@@ -247,7 +247,7 @@ Does reads opens from to words old new end reports note =
     ⊎ ((name : Bor Text) × AreCall words (call.Explain name) × IsTaken words × ExplainsRefusal name.now old new end × ReportsNoMore from to reports note)
     ⊎ ((x : Expect) × AreCall words (call.Expect x) × IsTaken words × Expects reads opens from to x old new end note × (reports ≡ []))
     ⊎ ((d : Diff) × AreCall words (call.Diff d) × IsTaken words × Compares opens from to d old new end note × (reports ≡ []))
-    ⊎ ((d : Draw) × (types : Vec (Bor Text)) × AreCall words (call.Draw d types) × IsTaken words × Draws reads from to (names_of types) d old new end × (reports ≡ []) × (note ≡ None))
+    ⊎ ((d : Draw) × (types : Vec (Bor Text)) × AreCall words (call.Draw d types) × IsTaken words × Draws reads from to (names_of types) d old new end note × (reports ≡ []))
     ⊎ ((x : Inspect) × (types : Vec (Bor Text)) × AreCall words (call.Inspect x types) × IsTaken words × ShowsInsides reads opens from to (names_of types) x old new end note × (reports ≡ []))
     ⊎ ((x : Coverage) × (types : Vec (Bor Text)) × AreCall words (call.Coverage x types) × IsTaken words × ReportsCoverage reads opens from to (names_of types) x old new end note × (reports ≡ []))
     ⊎ ((x : SessionCall) × (types : Vec (Bor Text)) × AreCall words (call.Session x types) × IsTaken words × TalksIn reads opens from to (names_of types) x old new end × (reports ≡ []) × (note ≡ None))

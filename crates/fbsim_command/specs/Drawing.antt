@@ -1,5 +1,5 @@
 -- What a call that draws what is declared does (docs/FORMATS.md, "Pictures (DOT)"; this project's own).
-use Rattle.std.specs.Prelude.{◌≡◌, ◌⊎◌, ℕ, List, false, Option, Some, None, option_and_then, option_map, Ok, Err}
+use Rattle.std.specs.Prelude.{◌≡◌, ◌⊎◌, ◌&&◌, ℕ, Bool, List, false, true, Option, Some, None, codes, option_and_then, option_map, Ok, Err}
 use Rattle.std.specs.Io.KnownBytes.{Appends}
 use Rattle.clap.specs.Words.{Text}
 use Rattle.fb_types.specs.Headline.{Inputs}
@@ -8,9 +8,13 @@ use Rattle.fb_inputs.specs.Words.{name}
 use Rattle.fb_sim.specs.Given.{Given}
 use Rattle.fb_sim.specs.Serial.{Declares}
 use Rattle.fbsim_command.specs.Failures.{IsPartWritten, failure_of_source}
+use Rattle.fbsim_command.specs.Inspecting.{upper}
+use Rattle.fbsim_command.specs.Nearest.{IsNearestType}
+use Rattle.fbsim_command.specs.Notes.{IsFileNote, Notes, NotesOf}
 use Rattle.fbsim_command.specs.Outcomes.{End, Held, IsRefused}
 use Rattle.fbsim_command.specs.OwnLines.{EndsIn}
 use Rattle.fbsim_command.specs.Reading.{Reading, AreRead, IsUnread, checked}
+use Rattle.fbsim_command.specs.UnknownNames.{is_unknown, unknown_line}
 use Rattle.fbsim_line.specs.declared.draw_line.Draw.{Draw}
 use Rattle.fbsim_command.specs.declared.failure.Failure.{Failure}
 use Rattle.fbsim_command.specs.declared.failure.Failure.TheVariants.{Refused, RefusedTrace, File, Write, Memory, Line, BadOption}
@@ -23,7 +27,7 @@ use Rattle.fbsim_command.specs.declared.join.FileLines.{FileLines}
 
 -- the call that checks what is drawn
 abbrev pub files_of : Draw → Task
-files_of d = checked d.declaration d.deploy false
+files_of d = checked d.declaration d.deploy d.why
 
 -- the text that names a type, if one does
 abbrev pub type_asked : Draw → Option Text
@@ -78,24 +82,55 @@ WritesGraph given asked old new (Err (RefusedTrace text)) = ⊥
 WritesGraph given asked old new (Err (Line message)) = ⊥
 WritesGraph given asked old new (Err BadOption) = ⊥
 
+-- ---- Unknown types
+
+-- The text names no declared type, and the line says so. It names the first of the nearest types.
+pub record IsTypeLine (i : Inputs) (text line : Text) : Type 0 where
+  pub unknown : graph_of i (Some text) ≡ None
+  pub near : Option Text
+  pub nearest : IsNearestType i.library (upper text) near
+  pub is : line ≡ unknown_line (codes "type") (codes "declared type") text near
+
+-- there is a graph, or the line says that the text names no declared type
+abbrev pub SaysType : Inputs → (asked : Option Text) → (line : Option Text) → Type 0
+SaysType i None line = line ≡ None
+SaysType i (Some text) None = (graph : Text) × (graph_of i (Some text) ≡ Some graph)
+SaysType i (Some text) (Some line) = IsTypeLine i text line
+
+-- the same for what is declared
+abbrev pub SaysTypeOf : Given → (asked : Option Text) → (line : Option Text) → Type 0
+SaysTypeOf given asked line = (i : Inputs) × Declares given i × SaysType i asked line
+
+-- such a line is asked for: the call asks for locations, and ends because a name is unknown
+abbrev pub asks_line : Draw → End → Bool
+asks_line d end = d.why && is_unknown end
+
+-- The note is exactly the line of the type, where it is asked for, and else there is none.
+abbrev pub NotesType : Draw → Given → End → (note : Option Text) → Type 0
+NotesType d given end note =
+    ((asks_line d end ≡ true) × SaysTypeOf given (type_asked d) note) ⊎ ((asks_line d end ≡ false) × (note ≡ None))
+
 -- ---- What is read
 
--- The files are read, and the graph of what they declare is written. A syntax fault is one of the file that has it.
-pub record IsReadAndDrawn {S : Type 0} (reads : Reading S) (from to : S) (types : List Text) (d : Draw) (old new : Held) (end : End) : Type 0 where
+-- The files are read, and the graph of what they declare is written. A syntax fault is one of the file that has it. A note is that of a
+-- check, or says that the type is unknown.
+pub record IsReadAndDrawn {S : Type 0} (reads : Reading S) (from to : S) (types : List Text) (d : Draw) (old new : Held) (end : End) (note : Option Text) : Type 0 where
   pub lines : List FileLines
   pub given : Given
   pub read : AreRead reads types (files_of d) from to lines given
   pub inner : End
   pub done : WritesGraph given (type_asked d) old new inner
+  pub noted : NotesOf types (files_of d) lines given inner note ⊎ NotesType d given inner note
   pub ends : EndsIn types d.declaration.now lines inner end
 
 -- A file is not read.
-pub record IsNotRead {S : Type 0} (reads : Reading S) (from to : S) (types : List Text) (d : Draw) (old new : Held) (end : End) : Type 0 where
+pub record IsNotRead {S : Type 0} (reads : Reading S) (from to : S) (types : List Text) (d : Draw) (old new : Held) (end : End) (note : Option Text) : Type 0 where
   pub part : Part
   pub fault : SourceFault
   pub unread : IsUnread reads types (files_of d) from to part fault
   pub failed : end ≡ Err (failure_of_source fault)
   pub same : new ≡ old
+  pub noted : Notes d.why (IsFileNote types (files_of d) part fault) note
 
-abbrev pub Draws : {S : Type 0} → Reading S → (from to : S) → (types : List Text) → Draw → (old new : Held) → End → Type 0
-Draws reads from to types d old new end = IsReadAndDrawn reads from to types d old new end ⊎ IsNotRead reads from to types d old new end
+abbrev pub Draws : {S : Type 0} → Reading S → (from to : S) → (types : List Text) → Draw → (old new : Held) → End → Option Text → Type 0
+Draws reads from to types d old new end note = IsReadAndDrawn reads from to types d old new end note ⊎ IsNotRead reads from to types d old new end note

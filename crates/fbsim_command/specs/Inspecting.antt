@@ -1,9 +1,12 @@
 -- What a call that inspects a trace does (docs/FORMATS.md, "Inside a trace"; this project's own).
-use Rattle.std.specs.Prelude.{◌≡◌, ◌⊎◌, ℕ, List, map, Option, Some, None, IfSome, Ok, Err}
+use Rattle.std.specs.Prelude.{◌≡◌, ◌⊎◌, ◌&&◌, ◌++◌, ◌∷◌, ℕ, Bool, true, false, List, All, map, Option, Some, None, IfSome, Ok, Err, codes}
 use Rattle.std.specs.Char.{to_ascii_uppercase}
 use Rattle.clap.specs.Words.{Text}
 use Rattle.fb_types.specs.Headline.{Inputs, system_of}
+use Rattle.fb_types.specs.OfSystem.{IsInstance, path_at}
+use Rattle.fb_types.specs.Text.{path_text}
 use Rattle.fb_inspect.specs.Inspections.{IsShownBy, ShowsRead}
+use Rattle.fb_inspect.specs.OfSystem.{IsNoInstance}
 use Rattle.fb_inspect.specs.Selections.{Selection}
 use Rattle.fb_inspect.specs.declared.filter.EventFilter.{EventFilter}
 use Rattle.fb_wave.specs.declared.truncation.Cut.{Cut}
@@ -11,12 +14,14 @@ use Rattle.fb_sim.specs.Given.{Given}
 use Rattle.fb_sim.specs.Serial.{Declares}
 use Rattle.fbsim_command.specs.Failures.{failure_of_source}
 use Rattle.fbsim_command.specs.InsideNotes.{IsOpenNote, NotesInside}
+use Rattle.fbsim_command.specs.Nearest.{IsNearestPath}
 use Rattle.fbsim_command.specs.Notes.{IsFileNote, Notes, NotesOf, NotesRest}
 use Rattle.fbsim_command.specs.Outcomes.{End, Held, IsRefused}
 use Rattle.fbsim_command.specs.OwnLines.{EndsIn}
 use Rattle.fbsim_command.specs.Reading.{Reading, AreRead, IsUnread, checked}
 use Rattle.fbsim_command.specs.Showing.{Opening}
 use Rattle.fbsim_command.specs.Texts.{may_be_cut}
+use Rattle.fbsim_command.specs.UnknownNames.{is_unknown, unknown_line}
 use Rattle.fbsim_command.specs.WrongLines.{IsRefusalIn}
 use Rattle.fbsim_command.specs.declared.failure.RefusalLine.{RefusalLine}
 use Rattle.fbsim_command.specs.declared.failure.Failure.TheVariants.{Refused, RefusedTrace, File, Write, Memory, Line, BadOption}
@@ -87,10 +92,60 @@ Inspects given x trace old new (Err (Line message)) = ⊥
 Inspects given x trace old new (Err BadOption) = ⊥
 Inspects given x trace old new (Err (RefusedTrace text)) = ⊥
 
+-- ---- Unknown paths
+
+-- an instance has the path, in any letter case
+abbrev pub HasPath : Inputs → (text : Text) → Type 0
+HasPath i text = (k : ℕ) × IsInstance i k × (upper text ≡ path_text (path_at i k))
+
+-- No instance has the path, and the line says so. It names the first of the nearest paths.
+pub record IsPathLine (i : Inputs) (text line : Text) : Type 0 where
+  pub unknown : IsNoInstance i (upper text)
+  pub near : Option Text
+  pub nearest : IsNearestPath i (upper text) near
+  pub is : line ≡ unknown_line (codes "only") (codes "instance") text near
+
+-- an instance has the path, or the line says that none has it
+abbrev pub SaysPath : Inputs → (text : Text) → (line : Option Text) → Type 0
+SaysPath i text None = HasPath i text
+SaysPath i text (Some line) = IsPathLine i text line
+
+-- The line is that of the first of the paths that no instance has.
+pub record IsFirstLine (i : Inputs) (texts : List Text) (line : Text) : Type 0 where
+  pub before : List Text
+  pub text : Text
+  pub following : List Text
+  pub parts : texts ≡ before ++ text ∷ following
+  pub known : All (HasPath i) before
+  pub says : IsPathLine i text line
+
+-- instances have all paths, or the line says which is the first that none has
+abbrev pub SaysPaths : Inputs → (texts : List Text) → (line : Option Text) → Type 0
+SaysPaths i texts None = All (HasPath i) texts
+SaysPaths i texts (Some line) = IsFirstLine i texts line
+
+-- the same for what is declared
+abbrev pub SaysPathsOf : Given → (texts : List Text) → (line : Option Text) → Type 0
+SaysPathsOf given texts line = (i : Inputs) × Declares given i × SaysPaths i texts line
+
+-- the paths as they are given
+abbrev pub texts_of : Inspect → List Text
+texts_of x = map (λ t. t.now) x.only.items
+
+-- such a line is asked for: the call asks for locations, and ends because a name is unknown
+abbrev pub asks_line : Inspect → End → Bool
+asks_line x end = x.why && is_unknown end
+
+-- The note is exactly the line of the paths, where it is asked for, and else there is none.
+abbrev pub NotesPaths : Inspect → Given → End → (note : Option Text) → Type 0
+NotesPaths x given end note =
+    ((asks_line x end ≡ true) × SaysPathsOf given (texts_of x) note) ⊎ ((asks_line x end ≡ false) × (note ≡ None))
+
 -- ---- What is read
 
 -- All is read that the trace is of, the trace is opened, and it is inspected. A syntax fault is one of the file that has it.
--- A note is that of a check, or of the line at which the trace is refused, or says that it can't be read to its end.
+-- A note is that of a check, or of the line at which the trace is refused, or says that it can't be read to its end, or that a path is
+-- unknown.
 pub record IsReadAndInspected {S : Type 0} (reads : Reading S) (opens : Opening S) (from to : S) (types : List Text) (x : Inspect) (old new : Held) (end : End) (note : Option Text) : Type 0 where
   pub lines : List FileLines
   pub given : Given
@@ -100,7 +155,7 @@ pub record IsReadAndInspected {S : Type 0} (reads : Reading S) (opens : Opening 
   pub opened : opens between x.trace.now (Ok trace) to
   pub inner : End
   pub done : Inspects given x trace old new inner
-  pub noted : NotesOf types (files_of x) lines given inner note ⊎ NotesInside x.why inner note ⊎ NotesRest x.why x.trace.now inner note
+  pub noted : NotesOf types (files_of x) lines given inner note ⊎ NotesInside x.why inner note ⊎ NotesRest x.why x.trace.now inner note ⊎ NotesPaths x given inner note
   pub ends : EndsIn types x.declaration.now lines inner end
 
 -- All is read that the trace is of, and the trace is not opened.

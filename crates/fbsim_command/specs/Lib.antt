@@ -7,6 +7,8 @@ pub mod Reading
 pub mod Notes
 pub mod InputNotes
 pub mod Outcomes
+pub mod Nearest
+pub mod UnknownNames
 pub mod OwnLines
 pub mod LineNotes
 pub mod WrongLines

@@ -1,25 +1,27 @@
 //! Pictures of what is declared.
 
-ghost use Rattle.std.specs.Prelude.{◌≡◌, IfOk, false, map, option_map};
+ghost use Rattle.std.specs.Prelude.{◌≡◌, IfOk, IfSome, Some, map, option_map, string_bytes};
 ghost use Rattle.fb_types.specs.Headline.{inputs};
-ghost use Rattle.fbsim_command.specs.Drawing.{Draws, WritesGraph, graph_of};
+ghost use Rattle.fbsim_command.specs.Drawing.{Draws, NotesType, SaysType, SaysTypeOf, WritesGraph, graph_of};
 
 use crate::failure::{Failure, RefusalLine};
+use crate::inspect::path_of;
+use crate::line_notes::note_of_wave;
+use crate::near::nearest_type_name;
+use crate::notes::note_of_file;
 use crate::opening::open_inputs;
 use crate::output::write_text;
 use crate::own_lines::end_with;
 use crate::sources::Source;
 use crate::statuses::Done;
 use crate::texts::{files_of, read_files};
+use crate::unknown_name::{UNKNOWN, is_unknown, unknown_line};
 use fb_inputs::name;
 use fb_sim::{Inputs, discard};
 use fb_system::System;
 use fbsim_line::Draw;
 use std::alloc::{AllocError, Global};
 use std::io::Write;
-
-/// The number of the refusal of an unknown name.
-const UNKNOWN: u8 = 21;
 
 /// The graph of the application, or of the declared type that a text names, if there is one.
 fn graph(
@@ -58,25 +60,90 @@ fn write_graph<W: Write>(
     Ok(Done::Shown)
 }
 
-/// Reads the files of a call, and writes the graph that it asks for.
+/// The line for a text that names no declared type: it names the nearest type. There is none for a declared type.
+fn type_line(alloc: Global, system: &System, text: &str) -> Result<Option<String>, AllocError>
+    ensures { IfOk result (λ line. SaysType system.now (Some text.now) (option_map string_bytes line)) }
+{
+    if graph(alloc, system, Some(text))?.is_some() {
+        return Ok(None);
+    }
+    let name = path_of(alloc, text.as_bytes())?;
+    let near = nearest_type_name(alloc, system.library(), name.as_bytes())?;
+    Ok(Some(unknown_line(alloc, "type", "declared type", text, near)?))
+}
+
+/// The same for what is declared, where a text names a type.
+fn unknown_type(
+    alloc: Global,
+    inputs: &Inputs<'_>,
+    block_type: Option<&str>,
+) -> Result<Option<String>, Failure>
+    ensures { IfOk result (λ line. SaysTypeOf inputs.now (option_map (λ t. t.now) block_type.entry) (option_map string_bytes line)) }
+{
+    let system = open_inputs(alloc, inputs)?;
+    let line = match block_type {
+        Some(text) => type_line(alloc, &system, text),
+        None => Ok(None),
+    };
+    // Dropped by one call: the end of its scope would prove the drop part by part.
+    discard(system);
+    Ok(line?)
+}
+
+/// The note to a call that ends so: the line for an unknown type, where it is asked for.
+fn type_note(
+    alloc: Global,
+    draw: &Draw<'_>,
+    inputs: &Inputs<'_>,
+    end: &Result<Done, Failure>,
+) -> Result<Option<String>, Failure>
+    ensures { IfOk result (λ note. NotesType draw.now inputs.now end.now (option_map string_bytes note)) }
+{
+    if draw.why && is_unknown(end) {
+        unknown_type(alloc, inputs, draw.block_type)
+    } else {
+        Ok(None)
+    }
+}
+
+/// The same, if there is memory for it.
+fn note_of_type(
+    alloc: Global,
+    draw: &Draw<'_>,
+    inputs: &Inputs<'_>,
+    end: &Result<Done, Failure>,
+) -> Option<String>
+    ensures { IfSome result (λ note. NotesType draw.now inputs.now end.now (Some (string_bytes note))) }
+{
+    match type_note(alloc, draw, inputs, end) {
+        Ok(note) => note,
+        Err(_) => None,
+    }
+}
+
+/// Reads the files of a call, and writes the graph that it asks for. It says how that ends, and what is reported after
+/// the line of a failure.
 pub(crate) fn show_graph<S: Source, W: Write>(
     alloc: Global,
     types: &[&str],
     draw: &Draw<'_>,
     source: &mut S,
     out: &mut W,
-) -> Result<Done, Failure>
-    ensures { Draws S.gives source.old source.new (map (λ t. t.now) types.now) draw.now (W.contents out.old) (W.contents out.new) result }
+) -> (Result<Done, Failure>, Option<String>)
+    ensures { Draws S.gives source.old source.new (map (λ t. t.now) types.now) draw.now (W.contents out.old) (W.contents out.new) result.0 (option_map string_bytes result.1) }
 {
-    let texts = match read_files(
-        alloc,
-        types,
-        &files_of(draw.declaration, draw.deploy, false),
-        source,
-    ) {
+    let task = files_of(draw.declaration, draw.deploy, draw.why);
+    let texts = match read_files(alloc, types, &task, source) {
         Ok(texts) => texts,
-        Err(unread) => return Err(Failure::from(unread.fault)),
+        Err(unread) => {
+            let note = note_of_file(alloc, types, &task, unread);
+            return (Err(Failure::from(unread.fault)), note);
+        }
     };
-    let end = write_graph(alloc, &texts.inputs(), draw.block_type, out);
-    end_with(alloc, types, draw.declaration, &texts, end)
+    let inputs = texts.inputs();
+    let end = write_graph(alloc, &inputs, draw.block_type, out);
+    let line = note_of_type(alloc, draw, &inputs, &end);
+    let note = note_of_wave(alloc, types, &task, &end, &texts, line);
+    let end = end_with(alloc, types, draw.declaration, &texts, end);
+    (end, note)
 }

@@ -1,23 +1,26 @@
 //! What happens inside the blocks of a trace.
 
-ghost use Rattle.std.specs.Prelude.{◌≡◌, IfErr, IfOk, IfSome, OnErr, OnOk, map, option_map, string_bytes};
+ghost use Rattle.std.specs.Prelude.{◌≡◌, IfErr, IfOk, IfSome, OnErr, OnOk, Some, map, option_map, string_bytes};
 ghost use Rattle.fb_inspect.specs.OfSystem.{IsPathFault, IsShownBy, ShowsRead};
 ghost use Rattle.fb_inspect.specs.Refusals.{OfRefusal};
 ghost use Rattle.fb_inspect.specs.declared.error.InspectError.TheVariants as error;
 ghost use Rattle.fb_wave.specs.OfSystem.{HasNames};
 ghost use Rattle.fbsim_command.specs.WrongLines.{IsWrongIn};
 ghost use Rattle.fbsim_command.specs.InsideNotes.{NotesInside};
-ghost use Rattle.fbsim_command.specs.Inspecting.{Inspects, ShowsInsides, cut_of, events_of, selection_of, upper};
+ghost use Rattle.fbsim_command.specs.Inspecting.{Inspects, NotesPaths, SaysPath, SaysPaths, SaysPathsOf, ShowsInsides, cut_of, events_of, selection_of, upper};
 
 use crate::failure::{Failure, failure_of_inspection};
 use crate::inside_notes::{note_of_gone, note_of_open};
+use crate::known::instance_at;
 use crate::line_notes::note_of_wave;
-use crate::notes::{note_of_file, note_of_trace_end};
+use crate::near::nearest_path;
+use crate::notes::{note_of_file, note_of_trace_end, one_of};
 use crate::opening::open_inputs;
 use crate::own_lines::end_with;
 use crate::sources::{Source, Streams};
 use crate::statuses::Done;
 use crate::texts::{cut_of, files_of, read_files};
+use crate::unknown_name::{is_unknown, unknown_line};
 use fb_inspect::{EventFilter, InspectError, Inspection, RefusedLine, Terms};
 use fb_sim::{Inputs, discard};
 use fb_system::System;
@@ -113,6 +116,76 @@ fn write_inspected<R: BufRead, W: Write>(
     }
 }
 
+/// The line for a path that no instance has: it names the nearest path. There is none for the path of an instance.
+fn path_line(alloc: Global, system: &System, text: &str) -> Result<Option<String>, AllocError>
+    ensures { IfOk result (λ line. SaysPath system.now text.now (option_map string_bytes line)) }
+{
+    let path = path_of(alloc, text.as_bytes())?;
+    if instance_at(system, path.as_bytes()).is_some() {
+        return Ok(None);
+    }
+    let near = nearest_path(alloc, system, path.as_bytes())?;
+    Ok(Some(unknown_line(alloc, "only", "instance", text, near)?))
+}
+
+/// The line for the first of the paths that no instance has, if there is one.
+fn first_line(alloc: Global, system: &System, texts: &[&str]) -> Result<Option<String>, AllocError>
+    ensures { IfOk result (λ line. SaysPaths system.now (map (λ t. t.now) texts.now) (option_map string_bytes line)) }
+{
+    for text in texts {
+        if let Some(line) = path_line(alloc, system, text)? {
+            return Ok(Some(line));
+        }
+    }
+    Ok(None)
+}
+
+/// The same for what is declared.
+fn unknown_path(
+    alloc: Global,
+    inputs: &Inputs<'_>,
+    texts: &[&str],
+) -> Result<Option<String>, Failure>
+    ensures { IfOk result (λ line. SaysPathsOf inputs.now (map (λ t. t.now) texts.now) (option_map string_bytes line)) }
+{
+    let system = open_inputs(alloc, inputs)?;
+    let line = first_line(alloc, &system, texts);
+    // Dropped by one call: the end of its scope would prove the drop part by part.
+    discard(system);
+    Ok(line?)
+}
+
+/// The note to a call that ends so: the line for an unknown path, where it is asked for.
+fn path_note(
+    alloc: Global,
+    inspect: &Inspect<'_>,
+    inputs: &Inputs<'_>,
+    end: &Result<Done, Failure>,
+) -> Result<Option<String>, Failure>
+    ensures { IfOk result (λ note. NotesPaths inspect.now inputs.now end.now (option_map string_bytes note)) }
+{
+    if inspect.why && is_unknown(end) {
+        unknown_path(alloc, inputs, inspect.only.as_slice())
+    } else {
+        Ok(None)
+    }
+}
+
+/// The same, if there is memory for it.
+fn note_of_path(
+    alloc: Global,
+    inspect: &Inspect<'_>,
+    inputs: &Inputs<'_>,
+    end: &Result<Done, Failure>,
+) -> Option<String>
+    ensures { IfSome result (λ note. NotesPaths inspect.now inputs.now end.now (Some (string_bytes note))) }
+{
+    match path_note(alloc, inspect, inputs, end) {
+        Ok(note) => note,
+        Err(_) => None,
+    }
+}
+
 /// Reads the files of a call and its trace, and writes the trace with what happens inside its blocks. It says how that
 /// ends, and what is reported after the line of a failure.
 pub(crate) fn show_insides<S: Source + Streams, W: Write>(
@@ -139,9 +212,11 @@ pub(crate) fn show_insides<S: Source + Streams, W: Write>(
             return (Err(Failure::from(fault)), note);
         }
     };
-    let (end, line) = write_inspected(alloc, &texts.inputs(), inspect, &mut trace, out);
+    let inputs = texts.inputs();
+    let (end, line) = write_inspected(alloc, &inputs, inspect, &mut trace, out);
     let line = note_of_trace_end(alloc, inspect.why, inspect.trace, &end, line);
-    let note = note_of_wave(alloc, types, &task, &end, &texts, line);
+    let path = note_of_path(alloc, inspect, &inputs, &end);
+    let note = note_of_wave(alloc, types, &task, &end, &texts, one_of(path, line));
     let end = end_with(alloc, types, inspect.declaration, &texts, end);
     (end, note)
 }

@@ -1,9 +1,11 @@
 //! Whether a declared system has the names of rules.
 
-ghost use Rattle.std.specs.Prelude.{◌≡◌, ◌<◌, ◌++◌, All, IfOk, IfSome, codes, length, map};
+ghost use Rattle.std.specs.Prelude.{◌≡◌, ◌<◌, ◌++◌, All, IfNone, IfOk, IfSome, codes, length, map};
+ghost use Rattle.fb_inspect.specs.OfSystem.{IsNoInstance};
 ghost use Rattle.fb_system.specs.IndexLists.{AreIndexes, variable_at};
 ghost use Rattle.fb_types.specs.Numbers.{event_at};
-ghost use Rattle.fb_types.specs.OfSystem.{IsInstance};
+ghost use Rattle.fb_types.specs.OfSystem.{IsInstance, path_at};
+ghost use Rattle.fb_types.specs.Text.{path_text};
 ghost use Rattle.fbsim_command.specs.Known as spec;
 ghost use Rattle.fbsim_command.specs.OfSystem.{IsUnknownAt, IsUnknownKey, any_event, has_names, has_port, is_of, may_have_port, ports_of};
 
@@ -57,6 +59,21 @@ pub(crate) fn indexes_with(system: &System, instance: u32, taken: bool, event: u
     } else {
         system.outputs_with(instance, event)
     }
+}
+
+/// The instance that has a path, if one has it.
+pub(crate) fn instance_at(system: &System, path: &[u8]) -> Option<u32>
+    ensures within { IfSome result (IsInstance system.now) }
+    ensures found { IfSome result (λ instance. path.now ≡ path_text (path_at system.now instance)) }
+    ensures none { IfNone result (IsNoInstance system.now path.now) }
+{
+    system.facts(); // for the prover: what holds of every accepted system
+    for instance in 0..system.count() {
+        if system.path(instance as u32) == path {
+            return Some(instance as u32);
+        }
+    }
+    None
 }
 
 /// Whether some values of the variables of an event meet each condition. Its variables are those at some indexes.

@@ -1,6 +1,6 @@
 //! What is reported after the line of a failure: its place.
 
-ghost use Rattle.std.specs.Prelude.{◌≡◌, ◌⊎◌, ◌++◌, IfOk, IfSome, map, option_map, string_bytes};
+ghost use Rattle.std.specs.Prelude.{◌≡◌, ◌⊎◌, ◌++◌, IfNone, IfOk, IfSome, Some, map, option_map, string_bytes};
 ghost use Rattle.fbsim_command.specs.Notes.{AreNotesOfAll, IsFileNote, IsMatter, IsNote, IsNoteOfName, IsNoteOfNumber, IsNoteOfOne, IsNoteOfShown, IsPlaceIn, Notes, file_word, input_names, name_of, named_note, number_of, on_line, IsUnreadable, NotesRest, rest_note};
 ghost use Rattle.std.specs.List.{AllZip};
 ghost use Rattle.fbsim_command.specs.InputNotes.{IsNoteThere, names_of, types_in};
@@ -112,6 +112,16 @@ pub(crate) fn note_of_trace_end(
     match end {
         Err(Failure::File) if why => note_of_rest(alloc, "trace", name),
         _ => line,
+    }
+}
+
+/// One of two notes: the first, if there is one, or else the second.
+pub(crate) fn one_of(first: Option<String>, second: Option<String>) -> Option<String>
+    ensures { IfSome first (λ note. option_map string_bytes result ≡ Some (string_bytes note)) × IfNone first (option_map string_bytes result ≡ option_map string_bytes second) }
+{
+    match first {
+        Some(note) => Some(note),
+        None => second,
     }
 }
 

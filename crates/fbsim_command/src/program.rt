@@ -336,7 +336,9 @@ fn answer_to<
         Call::Wave(wave, types) => ended_with(show(alloc, types.as_slice(), wave, source, out)),
         Call::Expect(call) => ended_with(expect(alloc, call, source, out)),
         Call::Diff(call) => ended_with(diff(alloc, call, source, out)),
-        Call::Draw(call, types) => ended(show_graph(alloc, types.as_slice(), call, source, out)),
+        Call::Draw(call, types) => {
+            ended_with(show_graph(alloc, types.as_slice(), call, source, out))
+        }
         Call::Inspect(call, types) => {
             ended_with(show_insides(alloc, types.as_slice(), call, source, out))
         }

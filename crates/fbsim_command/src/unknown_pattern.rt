@@ -7,8 +7,10 @@ ghost use Rattle.fb_types.specs.OfSystem.{IsInstance};
 ghost use Rattle.fbsim_command.specs.Known as spec;
 ghost use Rattle.fbsim_command.specs.OfSystem.{ports_of};
 
-use crate::known::{MOST_EVENTS, event_name, events_of, indexes_with, port_text, variables_of};
-use crate::near::distance;
+use crate::known::{
+    MOST_EVENTS, event_name, events_of, indexes_with, instance_at, port_text, variables_of,
+};
+use crate::near::nearest_path;
 use crate::possible::{is_possible, range_of};
 use fb_expect::{Condition, Entry, Pattern, PortForm, Way, is_at};
 use fb_read_positions::Text;
@@ -167,37 +169,6 @@ fn parted(port: &[u8]) -> (&[u8], &[u8]) {
     parts
 }
 
-/// The instance of a path, if there is one.
-fn instance_at(system: &System, path: &[u8]) -> Option<u32>
-    ensures { IfSome result (IsInstance system.now) }
-{
-    system.facts(); // for the prover: what holds of every accepted system
-    for instance in 0..system.count() {
-        if system.path(instance as u32) == path {
-            return Some(instance as u32);
-        }
-    }
-    None
-}
-
-/// The instance whose path is the nearest to another one, if there are instances.
-fn nearest(alloc: Global, system: &System, path: &[u8]) -> Result<Option<u32>, AllocError>
-    ensures { IfOk result (λ o. IfSome o (IsInstance system.now)) }
-{
-    system.facts(); // for the prover: what holds of every accepted system
-    let mut least = usize::MAX;
-    let mut nearest = None;
-    for instance in 0..system.count() {
-        let instance = instance as u32;
-        let far = distance(alloc, system.path(instance), path)?;
-        if far < least {
-            least = far;
-            nearest = Some(instance);
-        }
-    }
-    Ok(nearest)
-}
-
 /// Says that an instance is unknown, and the name of the nearest one.
 fn push_instance(
     alloc: Global,
@@ -207,9 +178,9 @@ fn push_instance(
 ) -> Result<(), AllocError> {
     text.words("there is no instance ");
     text.shown(path);
-    if let Some(instance) = nearest(alloc, system, path)? {
+    if let Some(near) = nearest_path(alloc, system, path)? {
         text.words(" (the nearest name is ");
-        text.shown(system.path(instance));
+        text.shown(near);
         text.words(")");
     }
     Ok(())

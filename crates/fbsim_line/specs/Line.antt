@@ -166,9 +166,9 @@ expect = with_why (
 abbrev pub diff : App
 diff = with_why (with_rule (with_rule (begun (codes "diff") (codes "A")) (required (codes "B"))) (flag (codes "no-ticks")))
 
--- a command with the names of a declaration and of its deployment, and of a type
+-- a command with the names of a declaration and of its deployment, and of a type, and whether a refusal is reported with its place
 abbrev pub draw : App
-draw = with_rule (deployed (codes "draw")) (file (codes "type"))
+draw = with_why (with_rule (deployed (codes "draw")) (file (codes "type")))
 
 -- a command with the names of a declaration, of its deployment and of its trace, of the instances that are shown, the ticks
 -- whose events are, whether only those are that cleared no transition, the limit of the run, whether the trace may be cut off,
@@ -378,6 +378,7 @@ pub record AsksDraw (rows : List Row) (d : Draw) : Type 0 where
   pub declaration : first_of (codes "DECL") rows ≡ Some d.declaration.now
   pub deploy : first_of (codes "deploy") rows ≡ option_map (λ n. n.now) d.deploy
   pub block_type : first_of (codes "type") rows ≡ option_map (λ n. n.now) d.block_type
+  pub why : IsAsked rows d.why
 
 -- it must be reported what these traces cover
 pub record AsksCoverage (rows : List Row) (x : Coverage) : Type 0 where

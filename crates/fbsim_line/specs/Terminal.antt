@@ -6,7 +6,7 @@ use Rattle.clap.specs.Words.{Text}
 
 -- the commands that take `--why`
 abbrev pub takers : List Text
-takers = codes "run" ∷ codes "check" ∷ codes "wave" ∷ codes "expect" ∷ codes "diff" ∷ codes "inspect" ∷ codes "coverage" ∷ []
+takers = codes "run" ∷ codes "check" ∷ codes "wave" ∷ codes "expect" ∷ codes "diff" ∷ codes "draw" ∷ codes "inspect" ∷ codes "coverage" ∷ []
 
 abbrev pub takes_why : (name : Text) → Bool
 takes_why name = list_any (λ taker. bytes_eq taker name) takers

@@ -6,7 +6,7 @@ ghost use Rattle.fbsim_line.specs.Line.{AsksDraw, IsCall, call_name};
 ghost use Rattle.fbsim_line.specs.declared.draw_line.Draw.{Draw};
 
 use crate::arguments::{Argument, Outline};
-use crate::line::{Call, texts_of};
+use crate::line::{Call, NO_WHY_HELP, WHY_HELP, asks_why, texts_of};
 use clap::ArgMatches;
 use std::alloc::{AllocError, Global};
 
@@ -19,6 +19,8 @@ pub struct Draw<'a> {
     pub deploy: Option<&'a str>,
     /// The name of the type whose chart or network is drawn, in any letter case. Without it the application is drawn.
     pub block_type: Option<&'a str>,
+    /// Whether a refusal is reported with its place.
+    pub why: bool,
 }
 
 const ABOUT: &str =
@@ -34,7 +36,11 @@ pub(crate) const DRAW_COMMAND: Outline<'static, 'static> = Outline {
     name: "draw",
     about: ABOUT,
     example: EXAMPLE,
-    arguments: &[Argument::Named("type", TYPE_HELP)],
+    arguments: &[
+        Argument::Named("type", TYPE_HELP),
+        Argument::Flag("why", WHY_HELP),
+        Argument::Flag("no-why", NO_WHY_HELP),
+    ],
 };
 
 /// The call that draws what is declared, from the parser's matches.
@@ -56,6 +62,7 @@ pub(crate) fn draw_of<'a>(
         declaration,
         deploy,
         block_type,
+        why: asks_why(found),
     };
     Ok(Some(Call::Draw(draw, types)))
 }

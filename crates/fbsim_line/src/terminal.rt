@@ -7,7 +7,7 @@ use std::alloc::{AllocError, Global};
 
 /// The commands that take `--why`.
 const TAKERS: &[&str] = &[
-    "run", "check", "wave", "expect", "diff", "inspect", "coverage",
+    "run", "check", "wave", "expect", "diff", "draw", "inspect", "coverage",
 ];
 
 /// Whether the command of this name takes `--why`.

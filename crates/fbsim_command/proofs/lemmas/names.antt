@@ -2,3 +2,4 @@ pub mod GrammarNames
 pub mod NameTokens
 pub mod SystemNames
 pub mod ReadNames
+pub mod Nearest

@@ -1,5 +1,6 @@
 use Rattle.fbsim_command.proofs.lemmas.Common.{map, option_map, string_bytes, given_of, lines_of}
-use Rattle.fbsim_command.proofs.lemmas.calls.Inspecting.{not_opened, not_read, read_and_inspected}
+use Rattle.fbsim_command.proofs.lemmas.calls.Inspecting.{not_opened, not_read, path_or, read_and_inspected}
+use Rattle.fbsim_command.specs.Inspecting.{NotesPaths}
 use Rattle.fbsim_command.proofs.inspect.show_insides.Goals as goal
 
 pub returns-in-Err : goal.returns-in-Err
@@ -17,7 +18,10 @@ returns-in-Err-open g c =
 pub returns : goal.returns
 returns g c =
     read_and_inspected g.S.Source.gives g.S.Streams.opens c.args.source.now c.read_files.new.source c.open.new.self (map (λ t. t.now) c.args.types.now) c.args.inspect.now
-    (g.W.Write.contents c.args.out.now) (g.W.Write.contents c.write_inspected-end.new.out) (lines_of c.in-Ok.texts) (given_of c.in-Ok.texts) c.files_of-task.result _ c.inputs.result
-    c.write_inspected-end.result.0 c.end_with-end.result (option_map string_bytes c.note_of_wave-note.result) c.files_of-task.ensures c.inputs.ensures c.in-Ok.ensures.read c.in-Ok-open.ensures
-    c.write_inspected-end.ensures.inspected (option_map string_bytes c.note_of_trace_end-line.result) (option_map string_bytes c.write_inspected-end.result.1) c.write_inspected-end.ensures.noted
-    c.note_of_trace_end-line.ensures c.note_of_wave-note.ensures c.end_with-end.ensures
+    (g.W.Write.contents c.args.out.now) (g.W.Write.contents c.write_inspected-end.new.out) (lines_of c.in-Ok.texts) (given_of c.in-Ok.texts) c.files_of-task.result _ c.inputs-inputs.result
+    c.write_inspected-end.result.0 c.end_with-end.result (option_map string_bytes c.note_of_wave-note.result) c.files_of-task.ensures c.inputs-inputs.ensures c.in-Ok.ensures.read c.in-Ok-open.ensures
+    c.write_inspected-end.ensures.inspected (option_map string_bytes c.one_of.result) (option_map string_bytes c.note_of_trace_end-line.result) (option_map string_bytes c.write_inspected-end.result.1)
+    c.write_inspected-end.ensures.noted c.note_of_trace_end-line.ensures
+    (path_or string_bytes (NotesPaths c.args.inspect.now c.inputs-inputs.result c.write_inspected-end.result.0) c.note_of_path-path.result c.note_of_trace_end-line.result c.one_of.result
+    c.note_of_path-path.ensures c.one_of.ensures)
+    c.note_of_wave-note.ensures c.end_with-end.ensures

@@ -1,7 +1,7 @@
 -- How a call that inspects a trace ends.
 use Rattle.fbsim_command.proofs.lemmas.Common.{◌≡◌, ◌≤◌, ◌⊎◌, ℕ, Bool, List, Option, Some, None, Result, Ok, Err, codes, option_map, ◌++◌, inl, inr, refl, sym, ap, subst, ◌∙◌, IfErr, IfSome, IsTrue, OnErr, Inputs, system_of, IsErrAnd, OfRefusal, Given, Declares, failure_of_source, Notes, NotesOf, End, Held, IsWrongIn, EndsIn, Reading, AreRead, IsUnread, Opening, Failure, Refused, File, Write, Memory, Task, SourceFault, Part, RefusedTrace, Line, BadOption}
 use Rattle.fbsim_command.specs.Outcomes.{IsUndeclared}
-use Rattle.fb_types.proofs.Common.{decimal}
+use Rattle.fb_types.proofs.Common.{IfNone, decimal}
 use Rattle.fb_types.specs.Names.{Name}
 use Rattle.fb_types.specs.Systems.{System}
 use Rattle.fb_inspect.specs.Refusals.{IsPathFault, IsWrongAt}
@@ -16,10 +16,9 @@ use Rattle.fb_inspect.specs.declared.error.InspectError.TheVariants as inspectio
 use Rattle.clap.specs.Words.{Text}
 use Rattle.fbsim_command.specs.Failures.{IsInspectionFailure}
 use Rattle.fbsim_command.specs.InsideNotes.{IsOpenNote, NotesInside, SaysLine}
-use Rattle.fbsim_command.specs.Inspecting.{Inspects, ShowsInsides, cut_of, files_of, selection_of}
+use Rattle.fbsim_command.specs.Inspecting.{Inspects, NotesPaths, ShowsInsides, cut_of, files_of, selection_of}
 use Rattle.fbsim_command.specs.Notes.{IsFileNote, NotesRest}
 use Rattle.fbsim_line.specs.declared.inspect_line.Inspect.{Inspect}
-use Rattle.fbsim_command.proofs.lemmas.notes.NotedLines.{noted_so}
 use Rattle.fbsim_command.specs.declared.join.FileLines.{FileLines}
 use Rattle.fbsim_command.specs.declared.failure.RefusalLine.TheVariants.{Numbered, Trace}
 
@@ -137,14 +136,31 @@ none_noted_inside {U = U} bytes why gone end u (Some n) is noted =
     let both : ◌≡◌ {A = Result U InspectError} (Ok u) (Err (inspection.Refused noted.1.0)) = sym is ∙ noted.1.1 in
     absurd (cc)
 
+-- the note of a path, if there is one, and else another one
+pub path_or :
+    {T : Type 0} (bytes : T → Text) (Q : Option Text → Type 0) (path line both : Option T) → IfSome path (λ n. Q (Some (bytes n)))
+    → IfSome path (λ n. option_map bytes both ≡ Some (bytes n)) × IfNone path (option_map bytes both ≡ option_map bytes line)
+    → (option_map bytes both ≡ option_map bytes line) ⊎ Q (option_map bytes both)
+path_or bytes Q None line both of_path (some, none) = inl none
+path_or bytes Q (Some n) line both of_path (some, none) = inr (subst Q (sym some) of_path)
+
+-- a note of a check, of a line, of a trace that can't be read to its end, or of a path
+noted_at :
+    (P Q R T : Option Text → Type 0) (note last line first : Option Text) → Q first → (line ≡ first) ⊎ R line → (last ≡ line) ⊎ T last → P note ⊎ (note ≡ last)
+    → P note ⊎ Q note ⊎ R note ⊎ T note
+noted_at P Q R T note last line first of_line of_rest of_path (inl noted) = inl noted
+noted_at P Q R T note last line first of_line of_rest (inr of_path) (inr is) = inr (inr (inr (subst T (sym is) of_path)))
+noted_at P Q R T note last line first of_line (inl same) (inl onward) (inr is) = inr (inl (subst Q (sym (is ∙ onward ∙ same)) of_line))
+noted_at P Q R T note last line first of_line (inr rest) (inl onward) (inr is) = inr (inr (inl (subst R (sym (is ∙ onward)) rest)))
+
 -- the trace is opened, and it is inspected
 pub read_and_inspected :
     {S : Type 0} (reads : Reading S) (opens : Opening S) (from between to : S) (types : List Text) (x : Inspect) (old new : Held) (lines : List FileLines) (given : Given) (task : Task)
     (trace : Held) (own : Given) (inner end : End) (note : Option Text) → task ≡ files_of x → own ≡ given → AreRead reads types task from between lines given
-    → opens between x.trace.now (Ok trace) to → Inspects own x trace old new inner → (line first : Option Text) → NotesInside x.why inner first
-    → (line ≡ first) ⊎ NotesRest x.why x.trace.now inner line → NotesOf types task lines given inner note ⊎ (note ≡ line) → EndsIn types x.declaration.now lines inner end
-    → ShowsInsides reads opens from to types x old new end note
-read_and_inspected reads opens from between to types x old new lines given task trace own inner end note as_task as_given was_read opened done line first of_line last noted ends =
+    → opens between x.trace.now (Ok trace) to → Inspects own x trace old new inner → (last line first : Option Text) → NotesInside x.why inner first
+    → (line ≡ first) ⊎ NotesRest x.why x.trace.now inner line → (last ≡ line) ⊎ NotesPaths x own inner last → NotesOf types task lines given inner note ⊎ (note ≡ last)
+    → EndsIn types x.declaration.now lines inner end → ShowsInsides reads opens from to types x old new end note
+read_and_inspected reads opens from between to types x old new lines given task trace own inner end note as_task as_given was_read opened done last line first of_line of_rest of_path noted ends =
     inl
     (record {
       lines = lines;
@@ -155,8 +171,9 @@ read_and_inspected reads opens from between to types x old new lines given task 
       opened = opened;
       inner = inner;
       done = subst (λ (z : Given). Inspects z x trace old new inner) as_given done;
-      noted = noted_so (NotesOf types (files_of x) lines given inner) (NotesInside x.why inner) (NotesRest x.why x.trace.now inner) note line first of_line last
-          (subst (λ (k : Task). NotesOf types k lines given inner note ⊎ (note ≡ line)) as_task noted);
+      noted = noted_at (NotesOf types (files_of x) lines given inner) (NotesInside x.why inner) (NotesRest x.why x.trace.now inner) (NotesPaths x given inner) note last line first of_line of_rest
+          (subst (λ (z : Given). (last ≡ line) ⊎ NotesPaths x z inner last) as_given of_path)
+          (subst (λ (k : Task). NotesOf types k lines given inner note ⊎ (note ≡ last)) as_task noted);
       ends = ends;
     })
 

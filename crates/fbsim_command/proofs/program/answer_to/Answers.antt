@@ -62,14 +62,12 @@ returns-in-Diff g c = λ words asked taken.
 
 pub returns-in-Draw : goal.returns-in-Draw
 returns-in-Draw g c = λ words asked taken.
-    let old = g.W.Write.contents c.args.out.now in
-    let new = g.W.Write.contents c.show_graph.new.out in
     let here = subst (λ (r : Call). AreCall words r) c.in-Draw.is asked in
-    let drawn = subst (λ (ns : List (Bor Text)). Draws g.S.Source.gives c.args.source.now c.show_graph.new.source (map (λ (n : Bor Text). n.now) ns) c.in-Draw.call old new c.show_graph.result)
-    c.as_slice-in-Draw.ensures.value c.show_graph.ensures in
-    ended_so c.ended-in-Draw.result c.show_graph.result c.ended-in-Draw.ensures (g.E.Write.contents c.args.err.now)
-    (λ (end : End) (reports : Text) (note : Option Text). Does g.S.Source.gives g.S.Streams.opens c.args.source.now c.show_graph.new.source words old new end reports note)
-    (inr (inr (inr (inr (inr (inl (c.in-Draw.call, c.in-Draw.types, here, taken, drawn, refl, refl)))))))
+    let drawn = subst (λ (ns : List (Bor Text)). Draws g.S.Source.gives c.args.source.now c.show_graph.new.source (map (λ (n : Bor Text). n.now) ns) c.in-Draw.call
+    (g.W.Write.contents c.args.out.now) (g.W.Write.contents c.show_graph.new.out) c.show_graph.result.0 (option_map string_bytes c.show_graph.result.1)) c.as_slice-in-Draw.ensures.value c.show_graph.ensures in
+    noted_so c.ended_with-in-Draw.result _ c.ended_with-in-Draw.ensures refl (g.E.Write.contents c.args.err.now)
+    (λ (end : End) (reports : Text) (note : Option Text). Does g.S.Source.gives g.S.Streams.opens c.args.source.now c.show_graph.new.source words (g.W.Write.contents c.args.out.now) (g.W.Write.contents c.show_graph.new.out) end reports note)
+    (inr (inr (inr (inr (inr (inl (c.in-Draw.call, c.in-Draw.types, here, taken, drawn, refl)))))))
 
 pub returns-in-Inspect : goal.returns-in-Inspect
 returns-in-Inspect g c = λ words asked taken.

@@ -12,6 +12,7 @@ returns-clause-rows c =
         declaration = sym (first_value-rows m (codes "DECL")) ∙ named;
         deploy = sym (first_value-rows m (codes "deploy")) ∙ sym c.get_str-deploy.ensures;
         block_type = sym (first_value-rows m (codes "type")) ∙ sym c.get_str-block_type.ensures;
+        why = c.asks_why.ensures;
       },
       c.in_ok-types.ensures,
     )
