@@ -45,6 +45,6 @@ pub use lookup::BlockTypes;
 pub use names::name_at;
 pub use places::{Place, after_mark, place_between, place_counted_from};
 pub use position::{BasicPart, ConnectionPart, NetworkPart, PortPart, Position, TransitionPart};
-pub use position_places::{place_at, places_of};
+pub use position_places::{place_at, places_among, places_of};
 pub use source_line::excerpt;
 pub use words::Text;

@@ -47,8 +47,13 @@ fn place_of(declaration: &[u8], earlier: Option<Place>, span: Option<Span>) -> O
     }
 }
 
-/// Where positions of a library are, from the tokens of the text that declares it.
-fn places_among(
+/// Where positions of a library are, as `places_of` finds them, by the tokens of the text that declares it, for a caller
+/// that has them.
+///
+/// # Errors
+///
+/// When memory runs out.
+pub fn places_among(
     alloc: Global,
     declaration: &[u8],
     tokens: &[Located],

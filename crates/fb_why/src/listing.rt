@@ -13,7 +13,7 @@ use crate::marks::marked_places;
 use crate::messages::flaw::push_flaw;
 use crate::place::{PlacedFinding, position_of};
 use fb_check::{Case, Location};
-use fb_read_positions::{BlockTypes, Place, Text, places_of};
+use fb_read_positions::{BlockTypes, Place, Text};
 use std::alloc::{AllocError, Global};
 
 /// The greatest number of findings that are shown.
@@ -100,8 +100,13 @@ pub(crate) fn listed(
     for location in first {
         positions.push(position_of(case.library, *location))?;
     }
-    let places = places_of(alloc, declaration, case.library, positions.as_slice())?;
-    let marked = marked_places(alloc, declaration, case.library, first, places)?;
+    let marked = marked_places(
+        alloc,
+        declaration,
+        case.library,
+        first,
+        positions.as_slice(),
+    )?;
     let shown = shown_at(alloc, case, first, marked.as_slice())?;
     Ok(Findings { shown, more })
 }

@@ -1,12 +1,12 @@
 //! Where a wrong kind of an expression is marked in the text: at the operand that does not fit.
 
-ghost use Rattle.std.specs.Prelude.{◌≡◌, ◌-◌, ◌+◌, IfOk, IfSome, Some, drop, map};
+ghost use Rattle.std.specs.Prelude.{◌≡◌, ◌≤◌, ◌-◌, ◌+◌, IfOk, IfSome, Some, drop, length, map};
 ghost use Rattle.std.specs.List.{AllZip, list_any};
 ghost use Rattle.fb_check_names.specs.Sites.{basic_at};
 ghost use Rattle.fb_read.specs.Located.{AreLocated};
 ghost use Rattle.fb_read.specs.Refusals.{IsNext};
 ghost use Rattle.fb_read.specs.Tokens.{after_mark};
-ghost use Rattle.fb_read.specs.Whole.{IsLibraryText};
+ghost use Rattle.fb_read.specs.Whole.{IsLibraryText, most_bytes};
 ghost use Rattle.fb_read_positions.specs.Places.{IsPlace, IsPlaceFor};
 ghost use Rattle.fb_why.specs.Marks as spec;
 ghost use Rattle.fb_why.specs.Marks.{IsAmong, IsGuardRange, IsMarkedPlace, IsPartRange, IsRange, IsRangeIn, IsRangeOf, IsTokenAt};
@@ -21,7 +21,7 @@ use fb_check::types::all_statements;
 use fb_check_names::{KindWrongAt, StatementPart};
 use fb_read::read::span_before;
 use fb_read::token::{Located, Span};
-use fb_read_positions::{Place, discard, place_counted_from, tokens_of};
+use fb_read_positions::{Place, Position, discard, place_counted_from, places_among, tokens_of};
 use fb_types::{Algorithm, BasicType, BlockType, Expr, Library};
 use std::alloc::{AllocError, Global};
 
@@ -155,16 +155,15 @@ fn range_of(
     }
 }
 
-/// The index of the token at an offset.
+/// The index of the token at an offset. Tokens are in the order of the text.
 fn token_at(tokens: &[Located], offset: usize) -> Option<usize>
     ensures { IfSome result (IsTokenAt tokens.now offset) }
 {
-    for (index, token) in tokens.iter().enumerate() {
-        if token.index == offset {
-            return Some(index);
-        }
+    let index = tokens.partition_point(|token| token.index < offset);
+    match tokens.get(index) {
+        Some(token) if token.index == offset => Some(index),
+        _ => None,
     }
-    None
 }
 
 /// The bytes of the token at an index after another one, if there is one.
@@ -286,33 +285,52 @@ fn marked_among(
     Ok(all)
 }
 
-/// The places of locations, from those of their positions: of what is marked, for a location that is about an
-/// expression. The text is read again only if there is one.
+/// The places of locations, from their positions and the tokens of the text: of what is marked, for a location that is
+/// about an expression.
+fn places_by(
+    alloc: Global,
+    text: &[u8],
+    tokens: &[Located],
+    library: &Library,
+    locations: &[Location],
+    positions: &[Option<Position>],
+) -> Result<Vec<Option<Place>>, AllocError>
+    requires read { IsLibraryText text.now library.now }
+    requires few { length tokens.now ≤ most_bytes }
+    requires located { AreLocated text.now tokens.now (after_mark text.now) }
+    requires positions { positions.now ≡ map (position_of library.now) locations.now }
+    ensures { IfOk result (λ all. AllZip (IsCheckedPlaceIf text.now) locations.now all.items) }
+{
+    let places = places_among(alloc, text, tokens, library, positions)?;
+    if !has_expression(locations) {
+        return Ok(places);
+    }
+    marked_among(alloc, text, tokens, library, locations, places.as_slice())
+}
+
+/// The places of locations, from their positions. The text is read once for all.
 pub(crate) fn marked_places(
     alloc: Global,
     text: &[u8],
     library: &Library,
     locations: &[Location],
-    places: Vec<Option<Place>>,
+    positions: &[Option<Position>],
 ) -> Result<Vec<Option<Place>>, AllocError>
     requires read { IsLibraryText text.now library.now }
-    requires places { AllZip (IsPlaceFor text.now library.now) (map (position_of library.now) locations.now) places.items }
+    requires positions { positions.now ≡ map (position_of library.now) locations.now }
     ensures { IfOk result (λ all. AllZip (IsCheckedPlaceIf text.now) locations.now all.items) }
 {
-    if !has_expression(locations) {
-        return Ok(places);
-    }
     let Some(tokens) = tokens_of(alloc, text)? else {
         // The text declares a library.
         unreachable!()
     };
-    let all = marked_among(
+    let all = places_by(
         alloc,
         text,
         tokens.as_slice(),
         library,
         locations,
-        places.as_slice(),
+        positions,
     );
     discard(tokens);
     all

@@ -4,7 +4,7 @@ use Rattle.fb_types.proofs.lemmas.lists.LoopSteps.{mapped_next}
 use Rattle.fb_check.specs.declared.location.Location.{Location}
 use Rattle.fb_why.specs.declared.location.FindingLocation.TheVariants.{Check}
 use Rattle.fb_why.specs.Positions.{position_of}
-use Rattle.fb_why.proofs.lemmas.PlacedFindings.{all_placed, as_many, of_positions}
+use Rattle.fb_why.proofs.lemmas.PlacedFindings.{all_placed, as_many}
 use Rattle.fb_why.proofs.listing.listed.Goals as goal
 
 pub loop-location-init : goal.loop-location-init
@@ -15,12 +15,11 @@ loop-location-preserved c =
     mapped_next (position_of c.args.case.now.library.now) (take c.min.result c.args.locations.now) c.loop-location.location-index _ _ _ _ c.loop-location-test.true c.position_of.ensures c.loop-location.invariant
     c.in_ok-push.ensures.items
 
-pub marked_places-requires-clause-places : goal.marked_places-requires-clause-places
-marked_places-requires-clause-places c =
+pub marked_places-requires-clause-positions : goal.marked_places-requires-clause-positions
+marked_places-requires-clause-positions c =
     let lib = c.args.case.now.library.now in
     let first = take c.min.result c.args.locations.now in
-    let are = c.as_slice.ensures.value ∙ c.loop-location.invariant ∙ ap (map (position_of lib)) (take_all c.loop-location.location-index first c.loop-location-test.false) in
-    of_positions c.args.declaration.now lib first c.as_slice.result.now c.in_ok-places.places.items are c.in_ok-places.ensures
+    c.as_slice.ensures.value ∙ c.loop-location.invariant ∙ ap (map (position_of lib)) (take_all c.loop-location.location-index first c.loop-location-test.false)
 
 pub shown_at-requires : goal.shown_at-requires
 shown_at-requires c =

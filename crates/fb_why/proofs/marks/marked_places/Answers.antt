@@ -1,11 +1,6 @@
-use Rattle.std.proofs.Common.{◌≡◌, ◌∙◌, IfNone, None, Option, subst, sym}
+use Rattle.std.proofs.Common.{◌≡◌, IfNone, None, Option, subst}
 use Rattle.fb_read_positions.specs.Spans.{DeclaresNothing}
-use Rattle.fb_why.proofs.lemmas.PlacedFindings.{all_shown}
 use Rattle.fb_why.proofs.marks.marked_places.Goals as goal
-
-pub returns-then-not-has_expression : goal.returns-then-not-has_expression
-returns-then-not-has_expression c =
-    all_shown c.args.text.now c.args.library.now c.args.locations.now c.args.places.items c.requires.read (sym c.has_expression.ensures ∙ c.if-not-has_expression.true) c.requires.places
 
 none_of : {A : Type 0} (P : Type 0) (o : Option A) → o ≡ None → IfNone o P → P
 none_of {A} P o is h = subst (λ (x : Option A). IfNone x P) is h
