@@ -23,6 +23,13 @@ TICKS = (LAST, 0, 10**11, 1, LAST - 10**6, 999, 5 * 10**11, 10**6)
 # A table of latencies with as many entries as it may have: from each of these ticks on, one tick more.
 ENTRIES = [(number * 10**10, number + 1) for number in range(64)]
 NAMES = [f"M{k}" for k in range(INSTANCES)]
+# A block type in a file of its own, and a connection that is warned about: the last words of the longest text.
+TYPES = (
+    "FUNCTION_BLOCK F EVENT_INPUT GO; END_EVENT EC_STATES S; T; END_STATES "
+    "EC_TRANSITIONS S TO T := GO; T TO S := GO; END_TRANSITIONS END_FUNCTION_BLOCK\n"
+)
+LATE = " S.WARM TO D.START; END_CONNECTIONS END_APPLICATION\n"
+WARNED = "L20: application A: event connection S.WARM TO D.START: this event never comes, since each run is a cold start"
 
 
 def resource_of(instance):
@@ -91,6 +98,12 @@ def trace_of(rows, form):
     return "".join(lines) + f"end {HORIZON}\n"
 
 
+def long_line():
+    """A declaration of one line. With the types, and the line feed between the two texts, it has as many bytes as it may have."""
+    front = "APPLICATION A FBS S : E_RESTART; D : E_DELAY(DT := T#1ms); B : F; END_FBS EVENT_CONNECTIONS S.COLD TO B.GO;"
+    return front + LATE.rjust(TEXT - len(TYPES) - 1 - len(front))
+
+
 def rules():
     """As many rules as a text may have, up to its last byte."""
     text = "".join(f"[[rule]]\nname = 'r{number}'\ncount = '* < S.COLD'\nmost = {number + 1}\n" for number in range(RULES))
@@ -102,7 +115,7 @@ def report():
 
 
 def calls():
-    """The calls: a name, the words, standard input, and what is written."""
+    """The calls: a name, the words, standard input, what is written, and what is reported, if anything is."""
     rows = [*given()]
     system = ["declaration", "--deploy", "deployment"]
     ends = ["--horizon", str(HORIZON), "--steps", str(STEPS)]
@@ -121,6 +134,8 @@ def calls():
     told = trace_of([*rows, row], 1).removesuffix(f"end {HORIZON}\n") + f"= at {HORIZON}\nend {HORIZON}\n"
     yield "session", ["session", *system, "--stim", "stimuli", "--steps", str(STEPS)], commands, answers + breaks + told
     yield "rules", ["expect", "rules", "restart"], "", report()
+    column = TEXT - len(TYPES) - 1 - len(LATE) + 2
+    yield "warning", ["check", "line", "--types", "types", "--lint"], "", "accepted\n", f"line:1:{column}: {WARNED}\n"
 
 
 def files():
@@ -128,13 +143,13 @@ def files():
     stimuli = "tick,event,values\n" + "".join(f"{tick},{NAMES[at]}.{event},\n" for tick, at, event in rows)
     restart = f"0 MAIN < S.COLD\nend {HORIZON}\n"
     texts = {"declaration": declaration(), "deployment": deployment(), "stimuli": stimuli, "trace": trace_of(rows, 1)}
-    return texts | {"trace": trace_of(rows, 1), "rules": rules(), "restart": restart}
+    return texts | {"trace": trace_of(rows, 1), "rules": rules(), "restart": restart, "types": TYPES, "line": long_line()}
 
 
-def fails(name, words, text, wanted, folder, program):
+def fails(folder, program, name, words, text, wanted, reported=""):
     """Whether a call gives something else, which is then printed."""
     ran = subprocess.run([os.path.abspath(program), *words], cwd=folder, input=text, capture_output=True, text=True, check=False)
-    if (ran.returncode, ran.stdout, ran.stderr) == (0, wanted, ""):
+    if (ran.returncode, ran.stdout, ran.stderr) == (0, wanted, reported):
         return False
     at = next((k for k, (a, b) in enumerate(zip(ran.stdout, wanted)) if a != b), min(len(ran.stdout), len(wanted)))
     there = f"byte {at}: {ran.stdout[at:at + 100]!r} for {wanted[at:at + 100]!r}"
@@ -149,7 +164,7 @@ def main(words):
         for name, text in files().items():
             with open(f"{folder}/{name}", "w", encoding="ascii") as out:
                 out.write(text)
-        failed = [it for it in calls() if fails(*it, folder, program)]
+        failed = [it for it in calls() if fails(folder, program, *it)]
     if not failed:
         print("limits: 0 faults")
     return int(bool(failed))
