@@ -1,5 +1,5 @@
 -- How a machine pauses (this project's profile).
-use Rattle.std.specs.Prelude.{◌≡◌, ◌<◌, ◌≤◌, ◌++◌, ◌∷◌, ℕ, List, [], length, map, All, Some, None}
+use Rattle.std.specs.Prelude.{◌≡◌, ◌<◌, ◌≤◌, ◌+◌, ◌++◌, ◌∷◌, ℕ, List, [], length, map, All, Some, None}
 use Rattle.fb_types.specs.Headline.{Inputs, system_of}
 use Rattle.fb_types.specs.Numbers.{line_of}
 use Rattle.fb_types.specs.Keys.{NoneBelow}
@@ -50,19 +50,24 @@ pub record IsLater (i : Inputs) (limit from t : ℕ) (new : Machine) (taken : Li
 abbrev pub Onward : (i : Inputs) (horizon limit t : ℕ) (old new : Machine) → List Taken → Type 0
 Onward i horizon limit t old new taken = (from : ℕ) → from ≤ horizon → IsReady i limit from old → IsLater i limit from t new taken
 
--- Why it pauses there. With Lines at least one event was taken. If one line was asked for, only the last event gave lines, and none did where the horizon
--- was reached.
+-- After these events there were fewer lines than this, unless none of them was taken.
+abbrev pub HasFewer : (many : ℕ) (old : Machine) → List Taken → Type 0
+HasFewer many old taken = (taken ≡ [] → ⊥) → length old.traffic.effects.lines.items + length (lines_of taken) < many
+
+-- Why it pauses there. With Lines at least one event was taken, and there are as many lines as were asked for only after the last one. If one line was
+-- asked for, only the last event gave lines, and none did where the horizon was reached.
 abbrev pub PausesFor : (i : Inputs) (horizon limit many : ℕ) (c : Config) (old new : Machine) → List Taken → Pause → Type 0
 PausesFor i horizon limit many c old new taken Lines =
     Each (λ t. t.effect.stop ≡ None) taken × (before : List Taken) × (t : Taken) × (taken ≡ before ++ t ∷ [])
     × (many ≤ length new.traffic.effects.lines.items) × (many ≡ 1 → lines_of before ≡ []) × Each (λ l. l.key ≡ t.key) t.effect.lines
-    × Onward i horizon limit t.key.tick old new taken
+    × Onward i horizon limit t.key.tick old new taken × HasFewer many old before
 PausesFor i horizon limit many c old new taken Horizon =
     Each (λ t. t.effect.stop ≡ None) taken × NoneBelow (last c taken).agenda horizon × (many ≡ 1 → lines_of taken ≡ [])
-    × ((from : ℕ) → from ≤ horizon → IsReady i limit from old → (t : ℕ) × (t ≤ horizon) × IsLater i limit from t new taken)
+    × ((from : ℕ) → from ≤ horizon → IsReady i limit from old → (t : ℕ) × (t ≤ horizon) × IsLater i limit from t new taken) × HasFewer many old taken
 PausesFor i horizon limit many c old new taken (Stop m) =
     (m.resource < length (system_of i).resource_names) × (ending_of horizon taken ≡ AtStop m.tick m.resource m.reason) × (m.tick < horizon)
     × Onward i horizon limit m.tick old new taken × (before : List Taken) × (t : Taken) × (taken ≡ before ++ t ∷ []) × (many ≡ 1 → lines_of before ≡ [])
+    × HasFewer many old before
 
 -- All that a pause says: what was taken is below the horizon.
 abbrev pub Stands : (i : Inputs) (horizon limit many : ℕ) (c : Config) (old new : Machine) → Pause → Type 0

@@ -1,5 +1,5 @@
 -- A run that goes on, and what comes after.
-use Rattle.fb_types.proofs.Common.{◌≡◌, ℕ, ◌<◌, All, List, [], ◌∷◌, ◌++◌, map, refl, sym, ap, subst, ◌∙◌, append_assoc, append-nil, length, Option, Some, None, arith, All-nil, All-append, All-push, Inputs, system_of, line_of, Each, Config, System, Taken, TakesLeast, NothingAfter, Chain, RestsAt, Ending, AtHorizon, AtStop, after, last, lines_of, ending_by, ending_of}
+use Rattle.fb_types.proofs.Common.{◌≡◌, ℕ, ◌<◌, ◌+◌, All, List, [], ◌∷◌, ◌++◌, map, refl, sym, ap, subst, ◌∙◌, append_assoc, append-nil, length, length-append, length-map, Option, Some, None, arith, All-nil, All-append, All-push, Inputs, system_of, line_of, Each, Config, System, Taken, TakesLeast, NothingAfter, Chain, RestsAt, Ending, AtHorizon, AtStop, after, last, lines_of, ending_by, ending_of}
 use Rattle.fb_types.specs.declared.run.Line.{Line}
 use Rattle.fb_types.specs.declared.run.StopMark.{StopMark}
 use Rattle.fb_types.specs.declared.value.Reason.{Reason}
@@ -51,6 +51,11 @@ no_lines (x ∷ os) ls is = absurd cc
 pub none_came : (sys : System) (old new : List Line) (ls : List model.Line) → length new < 1 → map (line_of sys) new ≡ map (line_of sys) old ++ ls → ls ≡ []
 none_came sys old [] ls few is = no_lines (map (line_of sys) old) ls (sym is)
 none_came sys old (x ∷ new) ls few is = absurd (omega (arith, few))
+
+-- as many lines are there now as were there before, and came
+pub count_came : (sys : System) (old new : List Line) (ls : List model.Line) → map (line_of sys) new ≡ map (line_of sys) old ++ ls → length new ≡ length old + length ls
+count_came sys old new ls is =
+    sym (length-map new (line_of sys)) ∙ ap length is ∙ length-append (map (line_of sys) old) ls ∙ ap (λ k. k + length ls) (length-map old (line_of sys))
 
 -- ---- A run that goes on
 

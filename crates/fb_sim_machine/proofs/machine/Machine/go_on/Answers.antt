@@ -1,4 +1,4 @@
-use Rattle.fb_types.proofs.Common.{◌<◌, Bool, length, refl, [], ◌∷◌, ◌++◌, map, sym, ap, subst, ◌∙◌, append-nil, arith, option_map, system_of, NoneBelow, without, line_of, AtStop, Taken, after, Config}
+use Rattle.fb_types.proofs.Common.{◌<◌, Bool, length, refl, [], ◌∷◌, ◌++◌, map, sym, ap, subst, ◌∙◌, append-nil, arith, option_map, system_of, NoneBelow, lines_of, without, line_of, AtStop, Taken, after, Config}
 use Rattle.fb_laws.proofs.lemmas.soundness.Accepting.{sound_of}
 use Rattle.fb_laws.proofs.lemmas.takings.Effects.{takes_good}
 use Rattle.fb_net.specs.Events.{event_of}
@@ -8,7 +8,7 @@ use Rattle.fb_resource.proofs.lemmas.Lone.{due_next}
 use Rattle.fb_sim_machine.specs.Machines.{IsAt}
 use Rattle.fb_sim_machine.specs.Pauses.{IsLater, Pauses}
 use Rattle.fb_sim_machine.specs.declared.pause.Pause.TheVariants.{Stop}
-use Rattle.fb_sim_machine.proofs.lemmas.JoinedRuns.{completes_after, halts, lines_more, none_came, reaches_more, reaches_none}
+use Rattle.fb_sim_machine.proofs.lemmas.JoinedRuns.{completes_after, count_came, halts, lines_more, none_came, reaches_more, reaches_none}
 use Rattle.fb_sim_machine.proofs.lemmas.AgendaIs.{all_falls, at_left, completes_rest, completes_stop, machine_left, takes_least}
 use Rattle.fb_sim_machine.proofs.lemmas.Nexts.{at_alike, machine_alike, on_agenda}
 use Rattle.fb_sim_machine.proofs.lemmas.RisingTicks.{later_more, later_none}
@@ -34,6 +34,7 @@ events-init c =
         sym (append-nil (map (line_of (system_of c.args.system.now)) c.args.self.now.traffic.effects.lines.items)),
       );
       quiet = λ start at one. refl;
+      few = λ start at some. absurd (some refl);
       ahead = λ from le ready. (from, le, λ start at. later_none c.args.system.now c.args.limit from c.args.self.now ready);
       left = omega arith;
     }
@@ -180,6 +181,7 @@ returns-in-Some-clause-stands c start is =
         t,
         refl,
         λ one. inv.quiet start is one,
+        inv.few start is,
       ),
     )
 
@@ -254,6 +256,7 @@ returns-then-len-many-clause-stands c start is =
         λ from le ready.
             let ahead = inv.ahead from le ready in
             later_more i c.args.limit from ahead.0 was new comes.1 t e (ahead.2 start is) finds.found (returns-then-len-many-clause-ready c).1,
+        inv.few start is,
       ),
     )
 
@@ -332,6 +335,14 @@ events-preserved c =
           let t : Taken = record { key = k; event = event_of i e; effect = taken.effect } in
           let counted = machine.traffic.effects.lines.ok.0 in
           none_came (system_of i) _ machine.traffic.effects.lines.items _ (omega (arith, c.if-len-many.false, c.len.ensures, counted, one)) (lines_more comes.1 t _ _ _ comes.4 taken.lines);
+      few = λ start is some.
+          let comes = inv.comes start is in
+          let d = comes.0 in
+          let taken = c.in_ok-taken.ensures.taken d.state d.agenda (at_left i k d was c.events.self.traffic.agenda comes.2 finds.left) in
+          let t : Taken = record { key = k; event = event_of i e; effect = taken.effect } in
+          let counted = machine.traffic.effects.lines.ok.0 in
+          let came = count_came (system_of i) c.args.self.now.traffic.effects.lines.items machine.traffic.effects.lines.items (lines_of (comes.1 ++ t ∷ [])) (lines_more comes.1 t _ _ _ comes.4 taken.lines) in
+          omega (arith, c.if-len-many.false, c.len.ensures, counted, came);
       ahead = λ from le ready.
           let ahead = inv.ahead from le ready in
           let below = finds.below in (
@@ -387,6 +398,7 @@ returns-clause-stands c start is =
                 before = there.before;
               },
             ),
+        inv.few start is,
       ),
     )
 
