@@ -2,6 +2,7 @@
 //! statements, keywords in the place of names, and what a condition or a connection is not.
 
 use crate::find::{discard, tokens_of};
+use crate::hints::push_left_out_before;
 use crate::words::{ByteKind, Text, split_front};
 use fb_read::token::{Located, Token};
 use fb_read::word::{is_letter, is_word};
@@ -23,8 +24,29 @@ const SIGNS: &[(&str, &str)] = &[
     ("!", ": NOT is a word"),
     ("||", ": OR is a word"),
     ("|", ": OR is a word"),
+    ("%I", ": variables have no addresses"),
+    ("%Q", ": variables have no addresses"),
+    ("%M", ": variables have no addresses"),
     ("%", ": MOD is a word"),
 ];
+
+/// The types of numbers, which no literal names.
+const NUMBERS: &[&str] = &[
+    "SINT", "INT", "DINT", "LINT", "USINT", "UINT", "UDINT", "ULINT",
+];
+
+/// What is written in the place of a literal with this word before `#`.
+fn typed_hint(word: &[u8]) -> &'static str {
+    if "BOOL".as_bytes().eq_ignore_ascii_case(word) {
+        return ": a truth value is written without its type";
+    }
+    for name in NUMBERS {
+        if name.as_bytes().eq_ignore_ascii_case(word) {
+            return ": a number is written without its type";
+        }
+    }
+    ""
+}
 
 /// What is written in the place of bytes that begin no token, after these bytes. It is empty where that is not known.
 pub fn sign_hint(before: &[u8], rest: &[u8]) -> &'static str {
@@ -33,8 +55,8 @@ pub fn sign_hint(before: &[u8], rest: &[u8]) -> &'static str {
             return *hint;
         }
     }
-    match (before, rest) {
-        ([.., last], [b'#', ..]) if is_word(*last) => ": a number is written without its type",
+    match rest {
+        [b'#', ..] => typed_hint(last_word(before)),
         _ => "",
     }
 }
@@ -102,12 +124,50 @@ pub fn is_keyword(alloc: Global, token: &[u8]) -> bool {
     found
 }
 
-/// Whether a token is used as a name: a colon, a comma or a full stop follows.
-fn is_name_like(rest: &[u8]) -> bool {
+/// Words that follow names.
+const AFTER_NAMES: &[&str] = &["WITH", "TO", "IN", "AND", "OR", "XOR", "MOD"];
+
+/// Whether a sign that begins with this byte follows names.
+fn is_after_name(byte: u8) -> bool {
     matches!(
-        split_front(rest, ByteKind::Spaces).1,
-        [b':', ..] | [b',', ..] | [b'.', ..]
+        byte,
+        b':' | b',' | b'.' | b';' | b'+' | b'-' | b'*' | b'/' | b'=' | b'<' | b'>' | b'&'
     )
+}
+
+/// Whether bytes begin with a word or a sign that follows names.
+fn follows_names(bytes: &[u8]) -> bool {
+    if let [first, ..] = bytes {
+        if is_after_name(*first) {
+            return true;
+        }
+    }
+    let (word, _) = split_front(bytes, ByteKind::Letters);
+    for name in AFTER_NAMES {
+        if name.as_bytes().eq_ignore_ascii_case(word) {
+            return true;
+        }
+    }
+    false
+}
+
+/// Whether a keyword is never meant as a name, where these are expected: an END_, or a truth value as a condition.
+fn is_no_name(here: &[u8], expected: &str) -> bool {
+    let ends = match here.get(..4) {
+        Some(front) => "END_".as_bytes().eq_ignore_ascii_case(front),
+        None => false,
+    };
+    let is_truth = "TRUE".as_bytes().eq_ignore_ascii_case(here)
+        || "FALSE".as_bytes().eq_ignore_ascii_case(here);
+    ends || (is_truth && expects(expected, "["))
+}
+
+/// Whether a keyword is probably meant as a name, where these are expected: only a name is, or what follows names is
+/// after it.
+fn is_meant_as_name(here: &[u8], rest: &[u8], expected: &str) -> bool {
+    expects(expected, "name")
+        && !is_no_name(here, expected)
+        && (expected == "name" || follows_names(split_front(rest, ByteKind::Spaces).1))
 }
 
 /// A sign that stands after itself, with what it means in other languages.
@@ -129,9 +189,16 @@ fn misplaced(here: &[u8], expected: &str) -> &'static str {
         " (:= assigns, = compares)"
     } else if assigns && expects(expected, "TO") {
         " (TO leads from one name to the other)"
+    } else if matches!(here, [b'+']) && expects(expected, "-") {
+        " (a number has no sign +)"
     } else {
         ""
     }
+}
+
+/// Whether the word before was read as a name, where these are expected: in a declaration or in a statement.
+fn ends_name(expected: &str) -> bool {
+    expects(expected, ":") || expects(expected, ":=")
 }
 
 /// Says what is probably meant by a token that is not expected, between the bytes before it and after it.
@@ -141,15 +208,19 @@ pub fn push_habit(
     (before, here, rest): (&[u8], &[u8], &[u8]),
     expected: &str,
 ) {
+    let earlier = last_word(before);
     if expects(expected, ":=") {
-        if let Some(right) = right_word(last_word(before)) {
+        if let Some(right) = right_word(earlier) {
             message.phrase(&[" (the word before is written ", right, ")"]);
             return;
         }
     }
+    if ends_name(expected) {
+        push_left_out_before(message, earlier);
+    }
     message.words(doubled(before, here));
     message.words(misplaced(here, expected));
-    if expects(expected, "name") && is_name_like(rest) && is_keyword(alloc, here) {
+    if is_meant_as_name(here, rest, expected) && is_keyword(alloc, here) {
         message.words(" (a keyword, so no name)");
     }
 }

@@ -9,7 +9,7 @@ use std::alloc::Global;
 
 /// Words of IEC 61131-3 that the profile leaves out.
 const LANGUAGE: &str =
-    "REAL LREAL BYTE WORD DWORD LWORD STRING WSTRING CHAR WCHAR DATE TIME_OF_DAY TOD DATE_AND_TIME LTIME ARRAY STRUCT TYPE CONSTANT RETAIN VAR_IN_OUT VAR_EXTERNAL VAR_GLOBAL VAR_TEMP FUNCTION PROGRAM CONFIGURATION CONTINUE";
+    "REAL LREAL BYTE WORD DWORD LWORD STRING WSTRING CHAR WCHAR DATE TIME_OF_DAY TOD DATE_AND_TIME DT LTIME LDATE LTOD LDT ARRAY STRUCT TYPE CONSTANT RETAIN VAR_IN_OUT VAR_EXTERNAL VAR_GLOBAL VAR_TEMP VAR_CONFIG VAR_ACCESS FUNCTION PROGRAM CONFIGURATION CONTINUE";
 
 /// Words of IEC 61499-1 that the profile leaves out.
 const BLOCKS: &str =
@@ -28,19 +28,55 @@ fn is_among(bytes: &[u8], words: &str) -> bool {
     false
 }
 
-/// Says of a word of a standard that the profile leaves it out.
-pub fn push_left_out(message: &mut Text, here: &[u8]) {
-    if is_among(here, LANGUAGE) {
-        message.words(" (a word of IEC 61131-3 that the profile leaves out)");
-    } else if is_among(here, BLOCKS) {
-        message.words(" (a word of IEC 61499-1 that the profile leaves out)");
+/// The standard that has a word which the profile leaves out.
+fn standard_of(word: &[u8]) -> Option<&'static str> {
+    if is_among(word, LANGUAGE) {
+        Some("IEC 61131-3")
+    } else if is_among(word, BLOCKS) {
+        Some("IEC 61499-1")
+    } else {
+        None
     }
 }
 
-/// Says of the name of an unknown block type that the profile leaves the event block of this name out.
+/// Says of a word of a standard that the profile leaves it out.
+pub fn push_left_out(message: &mut Text, here: &[u8]) {
+    if let Some(standard) = standard_of(here) {
+        message.phrase(&[" (a word of ", standard, " that the profile leaves out)"]);
+    }
+}
+
+/// The same of the word before.
+pub(crate) fn push_left_out_before(message: &mut Text, word: &[u8]) {
+    if let Some(standard) = standard_of(word) {
+        message.words(" (");
+        message.shown(word);
+        message.phrase(&[" is a word of ", standard, " that the profile leaves out)"]);
+    }
+}
+
+/// Blocks of IEC 61499-1 for messages, each with a number after it. A link stands in their place.
+const MESSAGE_BLOCKS: &str = "PUBLISH_ SUBSCRIBE_ CLIENT_ SERVER_";
+
+/// Whether a name is that of a block for messages: one of these words, and digits.
+fn is_message_block(name: &[u8]) -> bool {
+    for index in (0..name.len()).rev() {
+        if !name[index].is_ascii_digit() {
+            let word = front(name, index.saturating_add(1));
+            return is_among(word, MESSAGE_BLOCKS);
+        }
+    }
+    false
+}
+
+/// Says of the name of an unknown block type that the profile leaves the block of this name out.
 pub fn push_left_out_block(message: &mut Text, name: &[u8]) {
     if is_among(name, EVENT_BLOCKS) {
         message.words(" (an event block of IEC 61499-1 that the profile leaves out)");
+    } else if is_message_block(name) {
+        message.words(
+            " (a block of IEC 61499-1 that the profile leaves out: links carry messages)",
+        );
     }
 }
 

@@ -5,7 +5,7 @@ use fb_inputs::{DeployKey, DeployLocation, TableFault, TableLocation};
 use fb_read_positions::Text;
 use fb_read_positions::habits::is_keyword;
 use std::alloc::{AllocError, Global};
-use toml::Table;
+use toml::{Table, Value};
 
 /// What is wrong with an entry that is not the first.
 const NOT_LATER: &str =
@@ -77,6 +77,9 @@ fn push_fault(
         }
         TableFault::Element(key, element) => {
             let kind = match key {
+                DeployKey::Instances if has_keyword_at(alloc, bytes, table, key, element) => {
+                    " element is a keyword, and so not a name"
+                }
                 DeployKey::Instances => " element is not a name",
                 _ => " entry is not two whole numbers",
             };
@@ -90,20 +93,41 @@ fn push_fault(
     }
 }
 
+/// Whether a value is a keyword.
+fn is_keyword_value(alloc: Global, value: Option<&Value>) -> bool {
+    match value {
+        Some(Value::String(word)) => is_keyword(alloc, word.as_str().as_bytes()),
+        _ => false,
+    }
+}
+
+/// The value at a key of a table in a document.
+fn value_at<'a>(keys: &'a Table, table: TableLocation, key: DeployKey) -> Option<&'a Value> {
+    table_at(keys, table)?.get(key.text())
+}
+
 /// Whether the value at a key of a table in a document is a keyword.
 fn has_keyword(alloc: Global, bytes: &[u8], table: TableLocation, key: DeployKey) -> bool {
+    match toml::table_from_slice(alloc, bytes) {
+        Ok(keys) => is_keyword_value(alloc, value_at(&keys, table, key)),
+        Err(_) => false,
+    }
+}
+
+/// Whether the element at an index of the array at a key of a table in a document is a keyword.
+fn has_keyword_at(
+    alloc: Global,
+    bytes: &[u8],
+    table: TableLocation,
+    key: DeployKey,
+    element: usize,
+) -> bool {
     let Ok(keys) = toml::table_from_slice(alloc, bytes) else {
         return false;
     };
-    match table_at(&keys, table) {
-        Some(here) => match here.get(key.text()) {
-            Some(value) => match value.as_str() {
-                Some(word) => is_keyword(alloc, word.as_bytes()),
-                None => false,
-            },
-            None => false,
-        },
-        None => false,
+    match value_at(&keys, table, key) {
+        Some(Value::Array(items)) => is_keyword_value(alloc, items.get(element)),
+        _ => false,
     }
 }
 

@@ -3,7 +3,7 @@
 
 use crate::contents::Contents;
 use crate::expression::expression_of;
-use crate::messages::operand::push_mismatch;
+use crate::messages::operand::{push_mismatch, push_truth};
 use crate::mismatch::mismatch_in;
 use fb_check::types::{Typing, internals_of, port_type, value_kind_of_type, variable_type};
 use fb_check_names::{KindWrongAt, OutOfRangeAt, Site, StatementPart, Variables};
@@ -46,7 +46,12 @@ fn push_kind(
             text.words(": ");
             push_mismatch(alloc, text, basic, found);
         }
-        None => text.words(expected),
+        None => {
+            text.words(expected);
+            if let ValueKind::TruthValue = required {
+                push_truth(text, expr);
+            }
+        }
     }
 }
 

@@ -26,6 +26,15 @@ fn push_operand(alloc: Global, text: &mut Text, before: &str, operand: &Expr, ki
     });
 }
 
+/// Adds how a number that stands for a truth value is written.
+pub(crate) fn push_truth(text: &mut Text, operand: &Expr) {
+    match operand {
+        Expr::Whole(0) => text.words(" (0 is written FALSE)"),
+        Expr::Whole(1) => text.words(" (1 is written TRUE)"),
+        _ => {}
+    }
+}
+
 /// Adds that two operands are of different kinds.
 fn push_unlike(alloc: Global, text: &mut Text, basic: &BasicType, left: &Expr, right: &Expr) {
     if let (Some(left_kind), Some(right_kind)) = (
@@ -34,6 +43,8 @@ fn push_unlike(alloc: Global, text: &mut Text, basic: &BasicType, left: &Expr, r
     ) {
         push_operand(alloc, text, ": ", left, left_kind);
         push_operand(alloc, text, ", and ", right, right_kind);
+        push_truth(text, left);
+        push_truth(text, right);
     }
 }
 
@@ -94,6 +105,7 @@ pub(crate) fn push_mismatch(alloc: Global, text: &mut Text, basic: &BasicType, f
                 ValueKind::WholeNumber => ": a truth value is expected, and ",
             };
             push_operand(alloc, text, expected, found.marked, kind);
+            push_truth(text, found.marked);
         }
         None => push_operation(alloc, text, basic, found.operation),
     }

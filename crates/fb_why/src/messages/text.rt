@@ -82,6 +82,15 @@ fn push_found(message: &mut Text, here: &[u8], is_earlier: bool) {
     }
 }
 
+/// The words for what was expected: of whole numbers only 1 is a condition of a transition.
+fn shown_words(words: &str) -> &str {
+    if words == "name whole [" {
+        "name 1 ["
+    } else {
+        words
+    }
+}
+
 /// Adds the tokens with which the text could go on in place of the token between these bytes, if any are known, and what
 /// is probably meant.
 fn push_expected(
@@ -101,7 +110,7 @@ fn push_expected(
         ", expected "
     };
     if !words.is_empty() {
-        message.phrase(&[expected, words]);
+        message.phrase(&[expected, shown_words(words)]);
     }
     push_else_if(alloc, message, before, words);
     push_habit(alloc, message, (before, here, rest), words);
