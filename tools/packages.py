@@ -4,8 +4,8 @@
 They are made twice, the second time with other rights of new files, another time zone and another place: the bytes are the same. The
 archive is unpacked into an empty folder, and each example runs there by the packaged program alone, with nothing in the environment but
 PATH: the trace is the stored one, and each link of its pages leads to a file of it. The package for Debian has the same program; `lintian`
-finds no error in it. PROVED has the sum of the program, and the last line of a gate on the same files alone. ./gate runs this each time it
-has run the program."""
+finds no error in it. PROVED has the sum of the program, and the last line of a gate on the same files alone. The program needs the C
+library alone, and README.md says which versions of it and of Linux. ./gate runs this each time it has run the program."""
 
 import contextlib
 import glob
@@ -46,6 +46,19 @@ def faults_of_bytes(program, folder):
     for one, other in zip(first, second, strict=True):
         if package.bytes_of(one) != package.bytes_of(other):
             yield f"{os.path.basename(one)}: two builds have different bytes"
+
+
+def faults_of_needs(program):
+    """Yields what the program needs beside the C library, and the versions that README.md does not name."""
+    said = package.by_llvm("llvm-readelf", "-d", "-n", program)
+    needed, kernel = re.findall(r"Shared library: \[(.+?)\]", said), re.search(r"OS: Linux, ABI: (\d+\.\d+)\.0", said)[1]
+    if needed != ["libc.so.6"]:
+        yield f"the program needs {needed}"
+    library = re.fullmatch(r"libc6 \(>= ([\d.]+)\)", package.depends(program))[1]
+    readme = " ".join(package.bytes_of(f"{TOP}/README.md").decode().split())
+    for it in (f"Linux {kernel} or later", f"the GNU C library {library} or later"):
+        if it not in readme:
+            yield f"README.md does not say that the program needs {it}"
 
 
 def run(words, folder):
@@ -142,7 +155,7 @@ def main(program=PROGRAM):
         return 1
     os.environ.setdefault("SOURCE_DATE_EPOCH", package.git("log", "-1", "--format=%ct") or "1767225600")
     with tempfile.TemporaryDirectory(prefix="packages-") as folder:
-        faults = [*faults_of_bytes(program, folder), *faults_of_gate_line(folder)]
+        faults = [*faults_of_needs(program), *faults_of_bytes(program, folder), *faults_of_gate_line(folder)]
         archive, debian = (f"{folder}/first/{it}" for it in (f"fbsim-{unbuilt.version()}-x86_64-linux.tar.gz", f"fbsim_{unbuilt.version()}_amd64.deb"))
         faults += faults_of_archive(archive, program, f"{folder}/unpacked")
         faults += faults_of_debian(debian, f"{folder}/unpacked/fbsim-{unbuilt.version()}-x86_64-linux/bin/fbsim", f"{folder}/installed")
