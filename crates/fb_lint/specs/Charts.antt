@@ -2,6 +2,7 @@
 use Rattle.std.specs.Prelude.{ℕ, List, take, Bool, true, false, not, ◌&&◌, Option, Some, None}
 use Rattle.std.specs.List.{list_any}
 use Rattle.fb_types.specs.Names.{Name, same_name}
+use Rattle.fb_types.specs.Syntax.{Expr as Said, Truth, expr_of}
 use Rattle.fb_types.specs.declared.library.Action.{Action}
 use Rattle.fb_types.specs.declared.library.Algorithm.{Algorithm}
 use Rattle.fb_types.specs.declared.library.EventPort.{EventPort}
@@ -31,9 +32,15 @@ final_states b xs ss = each_from (final_state b xs) 0 ss
 
 -- ---- L07
 
-abbrev pub has_no_guard : Option Expr → Bool
-has_no_guard None = true
-has_no_guard (Some g) = false
+-- the expression is TRUE; parentheses mean nothing
+abbrev pub is_true : Said → Bool
+is_true (Truth b) = b
+is_true _ = false
+
+-- there is no guard, or it is TRUE
+abbrev pub always_holds : Option Expr → Bool
+always_holds None = true
+always_holds (Some g) = is_true (expr_of g)
 
 -- the event of an earlier transition is present whenever that of a later one is
 abbrev pub is_met_with : (earlier later : Option Name) → Bool
@@ -42,7 +49,7 @@ is_met_with (Some e) later = is_named e later
 
 -- the earlier transition leaves the same state, and clears whenever the later one would
 abbrev pub shadows : (later earlier : Transition) → Bool
-shadows x y = same_name x.from y.from && has_no_guard y.condition.guard && is_met_with y.condition.event x.condition.event
+shadows x y = same_name x.from y.from && always_holds y.condition.guard && is_met_with y.condition.event x.condition.event
 
 abbrev pub shadowed_transition : (block : ℕ) → List Transition → ℕ → Transition → List Warning
 shadowed_transition b xs k x = when (list_any (shadows x) (take k xs)) (ShadowedTransition b k)

@@ -4,7 +4,7 @@ use Rattle.std.specs.List.{list_any}
 use Rattle.fb_types.specs.Names.{Name, same_name}
 use Rattle.fb_types.specs.declared.library.State.{State}
 use Rattle.fb_types.specs.declared.library.Transition.{Transition}
-use Rattle.fb_lint.specs.Charts.{has_no_guard}
+use Rattle.fb_lint.specs.Charts.{always_holds}
 use Rattle.fb_lint.specs.Findings.{when, each_from}
 use Rattle.fb_lint.specs.Reached.{Edge, edge_of, leads}
 use Rattle.fb_lint.specs.declared.warning.Warning.{Warning}
@@ -15,10 +15,10 @@ use Rattle.fb_lint.specs.declared.warning.Warning.TheVariants.{EndlessState}
 abbrev pub is_eventless_from : (state : Name) → Transition → Bool
 is_eventless_from s x = same_name s x.from && not (is_some x.condition.event)
 
--- Its condition is 1, and each earlier transition from the state waits for an event: after the first transition of a reaction no
--- event is there.
+-- Its condition is 1 or TRUE, and each earlier transition from the state waits for an event: after the first transition of a
+-- reaction no event is there.
 abbrev pub is_certain : (earlier : List Transition) → Transition → Bool
-is_certain earlier x = not (is_some x.condition.event) && has_no_guard x.condition.guard && not (list_any (is_eventless_from x.from) earlier)
+is_certain earlier x = not (is_some x.condition.event) && always_holds x.condition.guard && not (list_any (is_eventless_from x.from) earlier)
 
 abbrev pub edge_if : Bool → Transition → List Edge
 edge_if b x = when b (edge_of x)

@@ -51,6 +51,7 @@ constant_too_large t n (Some z) = is_too_large t n z
 
 abbrev pub assigns_too_large : BasicType → Stmt → Bool
 assigns_too_large t (Assign n e) = constant_too_large t n (constant e)
+assigns_too_large t (For n a b c body) = constant_too_large t n (constant a)
 assigns_too_large t s = false
 
 -- ---- L18

@@ -3,6 +3,7 @@
 
 ghost use Rattle.std.specs.Prelude.{◌≡◌, ◌++◌, OnOk};
 ghost use Rattle.std.specs.List.{list_any};
+ghost use Rattle.fb_types.specs.Syntax.{expr_of};
 ghost use Rattle.fb_lint.specs.Charts as spec;
 
 use crate::findings::push_if;
@@ -40,12 +41,27 @@ pub(crate) fn push_final_states(
     Ok(())
 }
 
-/// Whether there is no guard.
-pub(crate) fn has_no_guard(guard: &Option<Expr>) -> bool
-    ensures { result ≡ spec.has_no_guard guard.now }
+/// Whether an expression is TRUE, also in parentheses.
+fn is_true(expr: &Expr) -> bool
+    ensures { result ≡ spec.is_true (expr_of expr.now) }
+{
+    match expr {
+        Expr::Truth(value) => *value,
+        Expr::Group(inner) => is_true(inner.get()),
+        Expr::Whole(_)
+        | Expr::Variable(_)
+        | Expr::Unary(_, _)
+        | Expr::Binary(_, _, _)
+        | Expr::Call(_, _) => false,
+    }
+}
+
+/// Whether there is no guard, or it is TRUE.
+pub(crate) fn always_holds(guard: &Option<Expr>) -> bool
+    ensures { result ≡ spec.always_holds guard.now }
 {
     match guard {
-        Some(_) => false,
+        Some(guard) => is_true(guard),
         None => true,
     }
 }
@@ -66,7 +82,7 @@ fn is_shadowed(later: &Transition, earlier: &[Transition]) -> bool
 {
     for entry in earlier {
         if later.from.is(&entry.from)
-            && has_no_guard(&entry.condition.guard)
+            && always_holds(&entry.condition.guard)
             && is_met_with(&entry.condition.event, &later.condition.event)
         {
             return true;

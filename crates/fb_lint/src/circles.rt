@@ -6,7 +6,7 @@ ghost use Rattle.fb_lint.specs.Circles as spec;
 ghost use Rattle.fb_lint.specs.Findings.{each_from};
 ghost use Rattle.fb_lint.specs.Reached.{edges_are, leads};
 
-use crate::charts::has_no_guard;
+use crate::charts::always_holds;
 use crate::findings::push_if;
 use crate::names::is_listed;
 use crate::reached::{Edge, reached_by};
@@ -26,14 +26,14 @@ fn has_eventless(transitions: &[Transition], state: &Name) -> bool
     false
 }
 
-/// Whether a transition clears whenever its state is entered: its condition is `1`, and each earlier one from the state
-/// waits for an event.
+/// Whether a transition clears whenever its state is entered: its condition is `1` or TRUE, and each earlier one from the
+/// state waits for an event.
 fn is_certain(earlier: &[Transition], transition: &Transition) -> bool
     ensures { result ≡ spec.is_certain earlier.now transition.now }
 {
     let condition = &transition.condition;
     condition.event.is_none()
-        && has_no_guard(&condition.guard)
+        && always_holds(&condition.guard)
         && !has_eventless(earlier, &transition.from)
 }
 

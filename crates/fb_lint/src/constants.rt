@@ -171,14 +171,21 @@ fn overflows(basic: &BasicType, name: &Name, constant: Option<i128>) -> bool
     }
 }
 
-/// Whether a statement assigns a constant that its variable can't hold.
+/// Whether a statement assigns a constant that its variable can't hold; of FOR the start.
 fn assigns_too_large(basic: &BasicType, statement: &Stmt) -> bool
     ensures { result ≡ spec.assigns_too_large basic.now (stmt_of statement.now) }
 {
-    if let Stmt::Assign(variable, expr) = statement {
-        return overflows(basic, variable.name(), constant(expr));
+    match statement {
+        Stmt::Assign(variable, expr) => overflows(basic, variable.name(), constant(expr)),
+        Stmt::For(variable, start, _, _, _) => overflows(basic, variable.name(), constant(start)),
+        Stmt::Empty
+        | Stmt::Exit
+        | Stmt::Return
+        | Stmt::If(_, _)
+        | Stmt::Case(_, _, _)
+        | Stmt::While(_, _)
+        | Stmt::Repeat(_, _) => false,
     }
-    false
 }
 
 /// An algorithm of a basic type, by its index.
