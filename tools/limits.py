@@ -1,10 +1,14 @@
 #!/usr/bin/env python3
-"""tools/limits.py [PROGRAM]: calls the built program with a system that is at all its limits at once, and with rules at theirs. What it
-must write follows from docs/FORMATS.md and docs/PROFILE.md.
+"""tools/limits.py [PROGRAM]: calls the built program with a system that is at all its limits at once, with rules at theirs, and with what
+it has most of at once. What it must write follows from docs/FORMATS.md and docs/PROFILE.md.
 
 The system has 4,096 merges in 256 resources with 1,024 links, and 100,000 stimuli, the last of them in the last tick. The first 1,024
 merges send, each over a link of its own; the next 1,024 receive. The others are alone. Each text has as many bytes as it may have. A
 contract may allow a function to answer that it is out of memory. So each command must answer otherwise here.
+
+Other systems have what this one lacks. In one each of 256 resources has a clock, so 64 workers share rounds of 256 jobs. In one of two
+resources each event of a clock leads to 500 merges, so one job of a round, a window of 1,024 ticks, has more than a million lines. A
+chart has 1,001 states. cases/lengths.toml has what fits into a few lines.
 
 ./gate makes these calls each time it has run the program. Without ./gate they use the program that ./simulate built."""
 
@@ -30,6 +34,10 @@ TYPES = (
 )
 LATE = " S.WARM TO D.START; END_CONNECTIONS END_APPLICATION\n"
 WARNED = "L20: application A: event connection S.WARM TO D.START: this event never comes, since each run is a cold start"
+
+# A window, and the ticks of the two runs with clocks; the merges behind the first clock of two.
+WINDOW, CLOCK_TICKS, MERGES = 1_024, 300, 500
+STATES = 1_001
 
 
 def resource_of(instance):
@@ -104,6 +112,46 @@ def long_line():
     return front + LATE.rjust(TEXT - len(TYPES) - 1 - len(front))
 
 
+def clocks(count, merges=0):
+    """A declaration, a deployment and stimuli: clocks in resources of their own, and merges in the first one, to which its clock leads."""
+    own = [f"M{number}" for number in range(merges)]
+    blocks = "".join(f" C{number} : E_CYCLE;" for number in range(count)) + "".join(f" {name} : E_MERGE;" for name in own)
+    ways = "".join(f" C0.EO TO {name}.EI1;" for name in own)
+    plan = [f"[[resource]]\ndevice = 'D'\nname = 'R{at}'\ninstances = {[f'C{at}'] + own * (not at)}\n" for at in range(count)]
+    rows = "".join(f"0,C{number}.START,DT=1\n" for number in range(count))
+    return f"APPLICATION A FBS{blocks} END_FBS EVENT_CONNECTIONS{ways} END_CONNECTIONS END_APPLICATION\n", "".join(plan), f"tick,event,values\n{rows}"
+
+
+def trace_of_clocks(count, merges, horizon):
+    lines = [f"0 R{number} > C{number}.START DT=1\n" for number in range(count)]
+    for tick in range(1, horizon):
+        lines.append(f"{tick} R0 < C0.EO\n")
+        lines += [f"{tick} R0 > M{number}.EI1\n{tick} R0 < M{number}.EO\n" for number in range(merges)]
+        lines += [f"{tick} R{number} < C{number}.EO\n" for number in range(1, count)]
+    return "".join(lines) + f"end {horizon}\n"
+
+
+def chart():
+    """A declaration whose block goes to the next state at each event."""
+    states = "".join(f" S{number};" for number in range(STATES))
+    ways = "".join(f" S{number - 1} TO S{number} := GO;" for number in range(1, STATES))
+    block = f"FUNCTION_BLOCK C EVENT_INPUT GO; END_EVENT EC_STATES{states} END_STATES EC_TRANSITIONS{ways} END_TRANSITIONS END_FUNCTION_BLOCK"
+    return f"{block} APPLICATION A FBS I : C; END_FBS END_APPLICATION\n"
+
+
+def trace_of_chart():
+    return "".join(f"{number} MAIN > I.GO\n" for number in range(1, STATES)) + f"end {STATES}\n"
+
+
+def dump_of_chart():
+    """The dump of its trace, with the states."""
+    head = "$timescale 1 ms $end\n$scope module MAIN $end\n$scope module I $end\n"
+    signals = "$var event 1 e0 GO $end\n$var reg 64 n0 GO_count $end\n$var string 1 s0 state $end\n$var event 1 l0 lost $end\n"
+    begin = "$upscope $end\n$upscope $end\n$enddefinitions $end\n#0\n$dumpvars\nb0 n0\nsS0 s0\n$end\n"
+    changes = "".join(f"#{number}\nsS{number} s0\n1e0\nb{number:b} n0\n" for number in range(1, STATES))
+    return f"{head}{signals}{begin}{changes}#{STATES}\n"
+
+
 def rules():
     """As many rules as a text may have, up to its last byte."""
     text = "".join(f"[[rule]]\nname = 'r{number}'\ncount = '* < S.COLD'\nmost = {number + 1}\n" for number in range(RULES))
@@ -136,6 +184,10 @@ def calls():
     yield "rules", ["expect", "rules", "restart"], "", report()
     column = TEXT - len(TYPES) - 1 - len(LATE) + 2
     yield "warning", ["check", "line", "--types", "types", "--lint"], "", "accepted\n", f"line:1:{column}: {WARNED}\n"
+    for name, count, merges, horizon, workers in (("crew", RESOURCES, 0, CLOCK_TICKS, WORKERS), ("round", 2, MERGES, WINDOW + 1, 2)):
+        words = ["run", name, "--deploy", f"{name}.plan", "--stim", f"{name}.rows", "--horizon", str(horizon), "--workers", str(workers)]
+        yield name, words, "", trace_of_clocks(count, merges, horizon)
+    yield "states", ["wave", "chart", "chart.trace", "--states"], "", dump_of_chart()
 
 
 def files():
@@ -143,7 +195,10 @@ def files():
     stimuli = "tick,event,values\n" + "".join(f"{tick},{NAMES[at]}.{event},\n" for tick, at, event in rows)
     restart = f"0 MAIN < S.COLD\nend {HORIZON}\n"
     texts = {"declaration": declaration(), "deployment": deployment(), "stimuli": stimuli, "trace": trace_of(rows, 1)}
-    return texts | {"trace": trace_of(rows, 1), "rules": rules(), "restart": restart, "types": TYPES, "line": long_line()}
+    texts |= {"rules": rules(), "restart": restart, "types": TYPES, "line": long_line(), "chart": chart(), "chart.trace": trace_of_chart()}
+    for name, system in (("crew", clocks(RESOURCES)), ("round", clocks(2, MERGES))):
+        texts |= dict(zip((name, f"{name}.plan", f"{name}.rows"), system))
+    return texts
 
 
 def fails(folder, program, name, words, text, wanted, reported=""):
