@@ -713,15 +713,17 @@ def report(literals, uses, lacks, unshown, survived):
 
 def without_copies(unreached, survived, uses):
     """Returns both, without those of texts for which a case fails at another place of the same function, and of the second without single
-    bytes. A compiler makes copies of code for cases that can't be, and constants that no code reads any more."""
+    bytes. A compiler makes copies of code for cases that can't be, and constants that no code reads any more. It also lets an instruction
+    refer to a text that the next ones replace: such a place is reached, and another one of the same function of the program shows the text."""
     lacking = {id(it) for it in (*unreached, *survived)}
-    noticed = {name_of(it.literal) for it in uses if id(it) not in lacking}
+    shown = [it for it in uses if id(it) not in lacking]
+    noticed, twins = {name_of(it.literal) for it in shown}, {(it.symbol, name_of(it.literal)) for it in shown}
 
     def is_copy(use):
-        return name_of(use.literal) in noticed
+        return name_of(use.literal) in noticed and (not use.is_sure or (use.symbol, name_of(use.literal)) in twins)
 
     longer = [it for it in survived if len(it.literal.text) >= SHORTEST]
-    return [it for it in unreached if not is_copy(it)], [it for it in longer if it.is_sure or not is_copy(it)]
+    return [it for it in unreached if name_of(it.literal) not in noticed], [it for it in longer if not is_copy(it)]
 
 
 def report_new(literals, uses, unreached, survived):

@@ -159,8 +159,9 @@ def faults_of_copies():
     """Returns what is wrong with what is left out of the lists: copies, constants that no code reads, and single bytes."""
     one, two, byte = (texts.Literal("crates/fb_stub/src/words.rt", 1, "print", it) for it in (b"one", b"two", b"3"))
     shown, copy, constant = (texts.Use("", one, [], passed, is_sure) for passed, is_sure in ((1, True), (2, True), (0, False)))
-    alone, survivor, single = (texts.Use("", it, [], 3, True) for it in (two, one, byte))
-    came = texts.without_copies([copy, alone], [constant, survivor, single], [shown, copy, constant, alone, survivor, single])
+    alone, replaced, single = (texts.Use("", it, [], 3, True) for it in (two, one, byte))
+    survivor = texts.Use("other", one, [], 4, True)
+    came = texts.without_copies([copy, alone], [constant, replaced, survivor, single], [shown, copy, constant, alone, replaced, survivor, single])
     return [] if came == ([alone], [survivor]) else [f"copies are left out otherwise: {came}"]
 
 
