@@ -4,12 +4,15 @@
   was measured then.
 - The rows of README's table of speed are those of bench/README.md, rounded, with the same commit and date.
 - The minutes of the gate are those of a row of bench/README.md with the same date, and those of the install are those there.
+- The lines of model in README's table of other simulators are those of bench/peers.
 - Numbers of crates, stored cases and wrong implementations are those that there are.
 - The kit is the one that NOTICE names."""
 
 import functools
 import glob
 import re
+from importlib.machinery import SourceFileLoader
+from importlib.util import module_from_spec, spec_from_loader
 
 from cases import cases_of
 from kit import TOP
@@ -22,6 +25,7 @@ UNIT = r"(?:minutes|seconds|s|hours|GB|MB|(?:million )?lines a second|times as (
 AMOUNT = re.compile(rf"\b{NUMBER}(?: to {NUMBER})? (?:processor )?{UNIT}\b|\b(?:a|an) (?:minute|hour)\b")
 COUNT = re.compile(r"\b(\d[\d,]*) (crates|stored cases|wrong implementations)\b")
 TABLE = re.compile(r"^\| application \| ticks \|(.*)\|\n\|[-|]+\|\n((?:\|.*\|\n)+)", re.M)
+PEERS = re.compile(r"^\| \|(.*)\|\n\|[-|]+\|\n((?:\|.*\|\n)+)", re.M)
 MEASURED = re.compile(r"at\s+commit\s+([0-9a-f]{8})\s+on\s+(20\d\d-\d\d-\d\d)")
 OF_GATE = re.compile(r"took\s+(\d+)\s+minutes\s+on\s+four\s+processors\s+\((20\d\d-\d\d-\d\d)\)")
 ROW_OF_GATE = re.compile(r"^\| [0-9a-f]{8} \| (20\d\d-\d\d-\d\d) \| (\d+) \|", re.M)
@@ -73,9 +77,23 @@ def speed_faults():
                 yield f"README.md: {' '.join(key)}, {column}: {seconds}, where bench/README.md has {known}"
 
 
+def peer_faults():
+    """Yields the lines of model in README's table of other simulators that are not those of bench/peers."""
+    loader = SourceFileLoader("peers", f"{TOP}/bench/peers")
+    peers = module_from_spec(spec_from_loader("peers", loader))
+    loader.exec_module(peers)
+    simulators, found = PEERS.search(text_of("README.md")).groups()
+    names = [it.strip() for it in simulators.split("|")]
+    shown = {(cells[0], which): int(cell.split(", ")[2]) for cells in ([it.strip() for it in row.strip("|").split("|")] for row in found.splitlines()) for which, cell in zip(names, cells[1:])}
+    known = {(model, which): lines for model in peers.IN_A_TICK for which, lines in peers.sizes(model).items()}
+    for key in sorted({*shown, *known}):
+        if shown.get(key) != known.get(key):
+            yield f"README.md: {' '.join(key)}: {shown.get(key)} lines of model, where bench/peers has {known.get(key)}"
+
+
 def faults():
     """Returns the faults of all figures."""
-    found, known, kits = [*speed_faults()], counts(), set(KIT.findall(text_of("NOTICE")))
+    found, known, kits = [*speed_faults(), *peer_faults()], counts(), set(KIT.findall(text_of("NOTICE")))
     of_page, source = (INSTALL.findall(text_of(it)) for it in ("README.md", SPEED))
     found += [] if of_page and of_page == source else [f"README.md: the minutes of the install are {of_page}, where bench/README.md has {source}"]
     gates = {(minutes, date) for date, minutes in ROW_OF_GATE.findall(text_of(SPEED))}

@@ -12,6 +12,8 @@ CHANGES = (
     ("README.md", r"took \d+ minutes", "took 1 minutes"),
     ("README.md", r"\d+(\s+minutes\s+on\s+four\s+processors\s+and)", r"1\1"),
     ("README.md", r"at commit \w{8}", "at commit 00000000"),
+    ("README.md", r"(\| blinker \|.*, )\d+( \|\n)", r"\g<1>24\2"),
+    ("README.md", r"\| ring \|.*\n", ""),
     ("README.md", r"best of seven", "best of six"),
     ("README.md", r"20\d\d-\d\d-\d\d", "lately"),
     ("CONTRIBUTING.md", r"rattle-kit-\w+", "rattle-kit-0"),
