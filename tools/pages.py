@@ -3,9 +3,11 @@
 
 It goes through each page from top to bottom, in a folder of its own that has the examples. A line with only the name of a file in
 backquotes and a colon, and the block below it, is a file to write, which replaces an earlier one of that name. A block `console` has
-commands after `$ `, each with its output below it; a command that ends with a backslash goes on in the next line. Blocks with another
-word after the fence are only shown. `sh` runs each command, with the built program, or PROGRAM, as `fbsim` on its PATH. If a command
-prints anything else than the page shows, this reports it and ends with status 1. ./gate runs this each time it has run the program."""
+commands after `$ `, each with its output below it; a command that ends with a backslash goes on in the next line. The commands of a
+block `sh` print nothing and succeed. Blocks with another word after the fence are only shown. `sh` runs the commands, with the built
+program, or PROGRAM, as `fbsim` on its PATH. If a command prints anything else than the page shows, this reports it and ends with status
+1, and also if a picture that README shows has other texts than the one that its commands make. ./gate runs this each time it has run
+the program."""
 
 import os
 import re
@@ -19,6 +21,14 @@ PAGES = ("README.md", "docs/FIRST_APPLICATION.md", "docs/BENCH.md", "docs/FROM_4
 PROGRAM = f"{TOP}/crates/fbsim/out/fbsim"
 # A folder that pages may name. Its files are in the folder of the page.
 FOLDER = "/tmp/"
+# What stands in for GTKWave, which needs a screen: its own reader takes the dump, and each signal that is chosen is in there.
+GTKWAVE = """#!/bin/sh
+set -e
+vcd2fst "$1" "${1%.vcd}.fst"
+grep -v '^[[*@-]' "$2" | sed 's/.*[.]//; s/[[].*//' | while read -r name; do grep -q " $name [$]end" "$1" || echo "there is no $name"; done
+"""
+SHOWN_PICTURE = re.compile(r"!\[[^]]*\]\(docs/(\w+\.svg)\)")
+TEXT_OF_PICTURE = re.compile(r"<(title|text)\b[^>]*>(.*?)</\1>")
 FILE = re.compile(rf"`(?:{FOLDER})?([\w./-]+)`:")
 
 
@@ -61,8 +71,10 @@ class Reader:
     """A reader of a page, in a folder with the program and the examples: writes files, and runs commands one after another."""
 
     def __init__(self, room):
-        self.room, self.status = room, 0
+        self.room, self.status, self.place = room, 0, room.folder
         os.mkdir(f"{room.folder}/bin")
+        self.write("bin/gtkwave", GTKWAVE.splitlines())
+        os.chmod(f"{room.folder}/bin/gtkwave", 0o755)
         shutil.copytree(f"{TOP}/examples", f"{room.folder}/examples")
         os.symlink(room.program, f"{room.folder}/bin/fbsim")
 
@@ -82,8 +94,31 @@ class Reader:
         return printed.splitlines()
 
 
+    def follows(self, lines):
+        """Runs a block whose commands print nothing, from the folder where the last such block ended, and returns what they print."""
+        folder, commands = self.room.folder, "\n".join(lines)
+        text = f"set -e\nexec 2>&1\nPATH={folder}/bin:$PATH\ncd '{self.place}'\n{commands.replace(FOLDER, f'{folder}/')}\npwd > {folder}/place\n"
+        ran = self.room.run(["sh", "-c", text])
+        if ran.returncode:
+            return [*ran.stdout.decode().splitlines(), f"the status is {ran.returncode}"]
+        with open(f"{folder}/place") as it:
+            self.place = it.read().rstrip("\n")
+        return ran.stdout.decode().splitlines()
+
+    def texts_of(self, picture):
+        """Returns the texts of a picture that commands have made, or None if they have not."""
+        path = f"{self.room.folder}/{picture}"
+        return texts_of(path) if os.path.exists(path) else None
+
+
+def texts_of(path):
+    """Returns the texts of a picture, which are the same with each version of graphviz and with each font."""
+    with open(path) as it:
+        return TEXT_OF_PICTURE.findall(it.read())
+
+
 def follow(page, text, reader):
-    """Returns the number of commands, and a line for each that prints something else."""
+    """Returns the number of commands, and a line for each that prints something else, and for each picture that differs."""
     count, faults = 0, []
     for above, how, number, lines in blocks(page, text):
         if how == "console":
@@ -92,10 +127,18 @@ def follow(page, text, reader):
                 count += 1
                 if printed != shown:
                     faults.append("\n  ".join([f"{page}:{at}: $ {command}", "prints:", *printed]))
+        elif how == "sh":
+            printed = reader.follows(lines)
+            count += len(lines)
+            if printed:
+                faults.append("\n  ".join([f"{page}:{number}: the block prints:", *printed]))
         elif name := FILE.fullmatch(above):
             reader.write(name[1], lines)
         elif not how:
             sys.exit(f"{page}:{number}: a block that is neither a file nor commands")
+    for picture in SHOWN_PICTURE.findall(text):
+        if (made := reader.texts_of(picture)) not in (None, texts_of(f"{TOP}/docs/{picture}")):
+            faults.append(f"{page}: docs/{picture} has other texts than the commands draw: {made}")
     return count, faults
 
 
