@@ -293,7 +293,7 @@ def version_faults():
 
 def main():
     """Checks the documents and returns the status."""
-    pages = ["README.md", "CONTRIBUTING.md", "CHANGELOG.md", "SECURITY.md", *[f"{folder}/{it}" for folder in ("docs", "docs/maintain", "docs/notes") for it in sorted(os.listdir(f"{TOP}/{folder}")) if it.endswith(".md")], "bench/README.md", "examples/README.md"]
+    pages = ["README.md", "CONTRIBUTING.md", "CHANGELOG.md", "SECURITY.md", *[f"{folder}/{it}" for folder in ("docs", "docs/maintain", "docs/notes") for it in sorted(os.listdir(f"{TOP}/{folder}")) if it.endswith(".md")], "bench/README.md", "examples/README.md", "editors/README.md", *sorted(os.path.relpath(it, TOP) for it in glob.glob(f"{TOP}/examples/*/README.md"))]
     proved = [it for it in crates() if it != "fbsim" and not it.endswith("_tests")]
     faults = has_all("docs/maintain/ARCHITECTURE.md", crates()) + has_all("docs/maintain/PROOFS.md", proved, may_repeat=True)
     faults += module_faults() + proof_faults() + definition_faults()
@@ -307,7 +307,7 @@ def main():
     for page in pages:
         faults += name_faults(page) + link_faults(page)
         # (names of XML and of Python are none of ours)
-        if page not in ("docs/IMPORT.md", "docs/PYTHON.md"):
+        if page not in ("docs/IMPORT.md", "docs/PYTHON.md", "examples/xml/README.md"):
             faults += definition_name_faults(page, known)
     for it in faults:
         print(it, file=sys.stderr)
