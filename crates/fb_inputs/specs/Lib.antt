@@ -1,5 +1,6 @@
 pub mod Counts
 pub mod Positions
+pub mod Searches
 pub mod Records
 pub mod Lines
 pub mod Arrays

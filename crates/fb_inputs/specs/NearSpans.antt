@@ -1,5 +1,5 @@
 -- Where positions are in a text (this project's own).
-use Rattle.std.specs.Prelude.{◌≡◌, ◌⊎◌, ◌≤◌, ℕ, ◌+◌, ◌-◌, List, [], ◌∷◌, length, take, drop, Option, Some, None}
+use Rattle.std.specs.Prelude.{◌≡◌, ◌≤◌, ℕ, ◌+◌, ◌-◌, List, [], ◌∷◌, length, take, drop, Option, Some, None}
 use Rattle.std.specs.Borrow.{Bor}
 use Rattle.csv.specs.Records.{fields_of}
 use Rattle.csv.specs.declared.iter.ByteRecordsIntoIter.{ByteRecordsIntoIter}
@@ -13,7 +13,8 @@ use Rattle.fb_inputs.specs.DeployLocations.{text_of}
 use Rattle.fb_inputs.specs.Arrays.{IsArrayAfter, IsElement}
 use Rattle.fb_inputs.specs.Counts.{Text, IsNth, mark_len}
 use Rattle.fb_inputs.specs.Lines.{IsKeyIn, begins_table, link_heading, resource_heading}
-use Rattle.fb_inputs.specs.Positions.{around_deploy, around_stimuli, stepped}
+use Rattle.fb_inputs.specs.Positions.{around_deploy, around_stimuli}
+use Rattle.fb_inputs.specs.Searches.{IsNearest}
 use Rattle.fb_inputs.specs.Records.{BeginsField, HasLength, HasWordLength, IsReadAt, IsScan, begins_record, begins_word, said, skipped}
 use Rattle.fb_inputs.specs.declared.near_stimuli.Search.{Search}
 use Rattle.fb_inputs.specs.declared.position.DeployPosition.{DeployPosition}
@@ -79,9 +80,10 @@ IsInStimuli text (in_stimuli.Row k) span = IsField text (k + 1) 0 span
 IsInStimuli text (in_stimuli.Field k f) span = IsField text (k + 1) f span
 IsInStimuli text (in_stimuli.Word k w) span = IsWordAt text (k + 1) w span
 
--- The bytes are at the position, at one around it, or at the beginning of the text, which is around all.
+-- The bytes are at the position, or at the first one around it at which there are any. The beginning of the text is
+-- around all, and is the last one.
 abbrev pub IsNearInStimuli : Text → StimuliPosition → Span → Type 0
-IsNearInStimuli text position span = ((steps : ℕ) × IsInStimuli text (stepped around_stimuli steps position) span) ⊎ IsStart text span
+IsNearInStimuli text position span = IsNearest (IsInStimuli text) around_stimuli position span
 
 -- ---- Deployments
 
@@ -132,6 +134,7 @@ IsInDeployment text (in_deploy.Table t) span = IsTableAt text t span
 IsInDeployment text (in_deploy.Key t k) span = IsKeyAt text t k span
 IsInDeployment text (in_deploy.Element t k i) span = IsElementAt text t k i span
 
--- The bytes are at the position, at one around it, or at the beginning of the text, which is around all.
+-- The bytes are at the position, or at the first one around it at which there are any. The beginning of the text is
+-- around all, and is the last one.
 abbrev pub IsNearInDeployment : Text → DeployPosition → Span → Type 0
-IsNearInDeployment text position span = ((steps : ℕ) × IsInDeployment text (stepped around_deploy steps position) span) ⊎ IsStart text span
+IsNearInDeployment text position span = IsNearest (IsInDeployment text) around_deploy position span

@@ -41,9 +41,9 @@ IsOpened it z = IsAt it z × (it.rdr.state ≡ st.StartRecord)
 abbrev pub rows_from : State → Text → List Row
 rows_from s z = records_from default_config (length z + 1) s z
 
--- the last record that was read, after this many
+-- the last record that was read, if any was, after this many
 abbrev pub IsLast : Text → ℕ → Option ByteRecord → Type 0
-IsLast text count None = Unit {0}
+IsLast text count None = count ≡ 0
 IsLast text count (Some row) = (before : ℕ) × (count ≡ before + 1) × (slice_get (records default_config (strip_bom text)) before ≡ Some (fields_of row))
 
 -- The reader has read some records of the text, and has the others left.

@@ -1,10 +1,11 @@
 //! Scans for the elements of an array of a deployment.
 
-ghost use Rattle.std.specs.Prelude.{◌≡◌, ◌+◌, ◌<◌, ◌&&◌, ◌||◌, ◌==◌, IfSome, length, not, slice_index};
+ghost use Rattle.std.specs.Prelude.{◌≡◌, ◌+◌, ◌<◌, ◌&&◌, ◌||◌, ◌==◌, length, not, slice_index};
 ghost use Rattle.fb_inputs.specs.Arrays as spec;
 ghost use Rattle.fb_inputs.specs.Arrays.{IsArrayAfter, IsElement};
 ghost use Rattle.fb_inputs.specs.Lines.{is_blank};
 ghost use Rattle.fb_inputs.specs.Passing.{IsPassed};
+ghost use Rattle.fb_inputs.specs.Searches.{FindsOne};
 
 use crate::lines::is_blank;
 use crate::scan::count_if;
@@ -18,7 +19,7 @@ fn is_lead(byte: u8) -> bool
 
 /// The offset of the bracket with which an array begins, after blanks and an equals sign from an offset on.
 pub(crate) fn array_begin(text: &[u8], from: usize) -> Option<usize>
-    ensures { IfSome result (IsArrayAfter text.now from) }
+    ensures { FindsOne result (IsArrayAfter text.now from) }
 {
     for at in from..text.len() {
         if text[at] == b'[' {
@@ -168,7 +169,7 @@ fn stops(z: &[u8], at: usize, passed: Passed) -> bool
 
 /// The offset at which the element with this index begins, in what begins with the bracket of an array.
 pub(crate) fn element_begin(z: &[u8], index: usize) -> Option<usize>
-    ensures { IfSome result (IsElement z.now index) }
+    ensures { FindsOne result (IsElement z.now index) }
 {
     let mut passed = Passed {
         quote: 0,

@@ -1,8 +1,9 @@
 //! Scans for the records and fields of a text in CSV, and for the words of a field.
 
-ghost use Rattle.std.specs.Prelude.{◌≡◌, ◌⊎◌, ◌+◌, ◌<◌, ◌≤◌, ℕ, IfSome, false, true, length};
+ghost use Rattle.std.specs.Prelude.{◌≡◌, ◌⊎◌, ◌+◌, ◌<◌, ◌≤◌, IfSome, MatchOption, false, true, length};
 ghost use Rattle.fb_inputs.specs.Counts.{IsNth, Text, count_below, mark_len};
 ghost use Rattle.fb_inputs.specs.Records as spec;
+ghost use Rattle.fb_inputs.specs.Searches.{FindsOne, HasNone};
 
 use crate::scan::{count_if, mark_len};
 
@@ -45,7 +46,8 @@ pub(crate) struct RecordScan {
 
 /// The scan of which nothing is done.
 pub(crate) fn first_scan() -> RecordScan
-    ensures { (text : Text) → spec.IsScan text result }
+    ensures scanned { (text : Text) → spec.IsScan text result }
+    ensures none { result.records ≡ 0 }
 {
     RecordScan {
         at: 0,
@@ -56,9 +58,10 @@ pub(crate) fn first_scan() -> RecordScan
 
 /// Scans on to the record with this index, which does not begin before.
 fn scan_on(text: &[u8], from: RecordScan, index: usize) -> Option<RecordScan>
-    requires { spec.IsScan text.now from }
+    requires scanned { spec.IsScan text.now from }
+    requires before { from.records ≤ index }
     ensures scanned { IfSome result (spec.IsScan text.now) }
-    ensures begins { IfSome result (λ scan. IsNth text.now (spec.begins_record text.now) index scan.at) }
+    ensures begins { MatchOption result (HasNone (IsNth text.now (spec.begins_record text.now) index)) (λ scan. IsNth text.now (spec.begins_record text.now) index scan.at) }
 {
     let mark = mark_len(text);
     let mut quotes = from.quotes;
@@ -82,7 +85,7 @@ fn scan_on(text: &[u8], from: RecordScan, index: usize) -> Option<RecordScan>
 pub(crate) fn scan_to(text: &[u8], from: RecordScan, index: usize) -> Option<RecordScan>
     requires { spec.IsScan text.now from }
     ensures scanned { IfSome result (spec.IsScan text.now) }
-    ensures begins { IfSome result (λ scan. IsNth text.now (spec.begins_record text.now) index scan.at) }
+    ensures begins { MatchOption result (HasNone (IsNth text.now (spec.begins_record text.now) index)) (λ scan. IsNth text.now (spec.begins_record text.now) index scan.at) }
 {
     if index < from.records {
         scan_on(text, first_scan(), index)
@@ -111,7 +114,7 @@ fn ends_record(rest: &[u8], quotes: usize, at: usize) -> bool
 
 /// The offset of the comma with this index in the record with which a text begins.
 fn comma(rest: &[u8], index: usize) -> Option<usize>
-    ensures { IfSome result (λ at. IsNth rest.now (spec.is_comma rest.now) index at × spec.IsInRecord rest.now at) }
+    ensures { FindsOne result (λ at. IsNth rest.now (spec.is_comma rest.now) index at × spec.IsInRecord rest.now at) }
 {
     let mut quotes = 0;
     let mut before = 0;
@@ -131,7 +134,7 @@ fn comma(rest: &[u8], index: usize) -> Option<usize>
 
 /// The offset at which a field begins, by its index in the record with which a text begins.
 pub(crate) fn field_begin(rest: &[u8], index: usize) -> Option<usize>
-    ensures { IfSome result (λ at. spec.BeginsField rest.now index at × (at ≤ length rest.now)) }
+    ensures { MatchOption result (HasNone (spec.BeginsField rest.now index)) (λ at. spec.BeginsField rest.now index at × (at ≤ length rest.now)) }
 {
     if index == 0 {
         return Some(0);
@@ -199,7 +202,7 @@ fn begins_word(said: &[u8], at: usize) -> bool
 
 /// The offset at which a word begins, by its index in what a field says.
 pub(crate) fn word_begin(said: &[u8], index: usize) -> Option<usize>
-    ensures { IfSome result (IsNth said.now (spec.begins_word said.now) index) }
+    ensures { FindsOne result (IsNth said.now (spec.begins_word said.now) index) }
 {
     let mut before = 0;
     for at in 0..said.len() {

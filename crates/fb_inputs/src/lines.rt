@@ -1,9 +1,10 @@
 //! Scans for the headings of tables and the keys of a deployment.
 
-ghost use Rattle.std.specs.Prelude.{◌≡◌, ◌&&◌, ◌||◌, ◌==◌, ◌<◌, ◌≤◌, ℕ, IfSome, IsTrue, drop, false, length, true};
+ghost use Rattle.std.specs.Prelude.{◌≡◌, ◌&&◌, ◌||◌, ◌==◌, ◌<◌, ◌≤◌, IsTrue, drop, false, length, true};
 ghost use Rattle.fb_inputs.specs.Counts.{IsNth};
 ghost use Rattle.fb_inputs.specs.Lines as spec;
 ghost use Rattle.fb_inputs.specs.Lines.{IsKeyIn};
+ghost use Rattle.fb_inputs.specs.Searches.{FindsOne};
 
 use crate::scan::count_if;
 use fb_read::token::Span;
@@ -84,7 +85,7 @@ fn begins_any(text: &[u8], first: bool, at: usize) -> bool
 
 /// The offset at which the heading with this index begins.
 pub(crate) fn heading_begin(text: &[u8], heading: &[u8], index: usize) -> Option<usize>
-    ensures { IfSome result (IsNth text.now (spec.begins_table heading.now text.now) index) }
+    ensures { FindsOne result (IsNth text.now (spec.begins_table heading.now text.now) index) }
 {
     let mut first = true;
     let mut before = 0;
@@ -104,7 +105,7 @@ pub(crate) fn heading_begin(text: &[u8], heading: &[u8], index: usize) -> Option
 pub(crate) fn key_from(text: &[u8], from: usize, first: bool, name: &[u8]) -> Option<Span>
     requires within { from ≤ length text.now }
     requires known { first ≡ spec.is_first text.now from }
-    ensures { IfSome result (IsKeyIn text.now from name.now) }
+    ensures { FindsOne result (IsKeyIn text.now from name.now) }
 {
     let mut first = first;
     for at in from..text.len() {

@@ -1,7 +1,8 @@
 //! Finds a position of a deployment in its text.
 
-ghost use Rattle.std.specs.Prelude.{◌≡◌, IfSome};
+ghost use Rattle.std.specs.Prelude.{◌≡◌};
 ghost use Rattle.fb_inputs.specs.NearSpans.{IsByteAt, IsElementAt, IsHeadingAt, IsInDeployment, IsKeyAfter, IsKeyAt, IsNamedKeyAt, IsNearInDeployment, IsTableAt};
+ghost use Rattle.fb_inputs.specs.Searches.{FindsOne};
 
 use crate::arrays::{array_begin, element_begin};
 use crate::lines::{LINK, RESOURCE, heading_begin, is_first_after, key_from};
@@ -15,7 +16,7 @@ const MOST_AROUND: usize = 5;
 
 /// An offset of a text after its byte order mark, or its end.
 fn byte_span(text: &[u8], at: usize) -> Option<Span>
-    ensures { IfSome result (IsByteAt text.now at) }
+    ensures { FindsOne result (IsByteAt text.now at) }
 {
     if mark_len(text) <= at && at <= text.len() {
         Some(Span { start: at, end: at })
@@ -26,7 +27,7 @@ fn byte_span(text: &[u8], at: usize) -> Option<Span>
 
 /// The two brackets of the heading with this index.
 pub fn heading_span(text: &[u8], heading: &[u8], index: usize) -> Option<Span>
-    ensures { IfSome result (IsHeadingAt text.now heading.now index) }
+    ensures { FindsOne result (IsHeadingAt text.now heading.now index) }
 {
     let start = heading_begin(text, heading, index)?;
     Some(Span {
@@ -37,7 +38,7 @@ pub fn heading_span(text: &[u8], heading: &[u8], index: usize) -> Option<Span>
 
 /// The bytes that begin a table.
 fn table_span(text: &[u8], table: TableLocation) -> Option<Span>
-    ensures { IfSome result (IsTableAt text.now table) }
+    ensures { FindsOne result (IsTableAt text.now table) }
 {
     match table {
         TableLocation::Top => None,
@@ -48,7 +49,7 @@ fn table_span(text: &[u8], table: TableLocation) -> Option<Span>
 
 /// The key with this name in the table with this heading and this index.
 fn key_after(text: &[u8], heading: &[u8], index: usize, name: &[u8]) -> Option<Span>
-    ensures { IfSome result (IsKeyAfter text.now heading.now index name.now) }
+    ensures { FindsOne result (IsKeyAfter text.now heading.now index name.now) }
 {
     let begin = heading_span(text, heading, index)?;
     let first = is_first_after(text[begin.start], true);
@@ -57,7 +58,7 @@ fn key_after(text: &[u8], heading: &[u8], index: usize, name: &[u8]) -> Option<S
 
 /// The key with this name in a table, also one that the table may not have.
 pub fn named_key_span(text: &[u8], table: TableLocation, name: &[u8]) -> Option<Span>
-    ensures { IfSome result (IsNamedKeyAt text.now table name.now) }
+    ensures { FindsOne result (IsNamedKeyAt text.now table name.now) }
 {
     match table {
         TableLocation::Top => key_from(text, 0, true, name),
@@ -68,14 +69,14 @@ pub fn named_key_span(text: &[u8], table: TableLocation, name: &[u8]) -> Option<
 
 /// The name of a key of a table.
 fn key_span(text: &[u8], table: TableLocation, key: DeployKey) -> Option<Span>
-    ensures { IfSome result (IsKeyAt text.now table key) }
+    ensures { FindsOne result (IsKeyAt text.now table key) }
 {
     named_key_span(text, table, key.text().as_bytes())
 }
 
 /// The byte that begins an element of the array at a key of a table.
 fn element_span(text: &[u8], table: TableLocation, key: DeployKey, index: usize) -> Option<Span>
-    ensures { IfSome result (IsElementAt text.now table key index) }
+    ensures { FindsOne result (IsElementAt text.now table key index) }
 {
     let key = key_span(text, table, key)?;
     let array = array_begin(text, key.end)?;
@@ -87,10 +88,10 @@ fn element_span(text: &[u8], table: TableLocation, key: DeployKey, index: usize)
     })
 }
 
-/// The bytes at a position of a deployment. `None` if a scan for headings of tables and keys at the beginning of a line,
-/// and for the elements of arrays after keys, does not find it.
+/// The bytes at a position of a deployment. `None` if there are none, by a scan for headings of tables and keys at the
+/// beginning of a line, and for the elements of arrays after keys.
 pub fn span_in_deployment(text: &[u8], position: DeployPosition) -> Option<Span>
-    ensures { IfSome result (IsInDeployment text.now position) }
+    ensures { FindsOne result (IsInDeployment text.now position) }
 {
     match position {
         DeployPosition::Start => Some(start_of(text)),
@@ -101,7 +102,7 @@ pub fn span_in_deployment(text: &[u8], position: DeployPosition) -> Option<Span>
     }
 }
 
-/// The bytes at a position of a deployment, or at the nearest one around it that a scan finds.
+/// The bytes at a position of a deployment, or at the nearest one around it at which there are any.
 pub fn nearest_in_deployment(text: &[u8], position: DeployPosition) -> Span
     ensures { IsNearInDeployment text.now position result }
 {

@@ -1,10 +1,11 @@
 //! Finds a position of stimuli in their text.
 
-ghost use Rattle.std.specs.Prelude.{◌≡◌, ◌+◌, ◌<◌, ◌≤◌, ℕ, IfOk, IfSome, length};
+ghost use Rattle.std.specs.Prelude.{◌≡◌, ◌+◌, ◌<◌, ◌≤◌, ℕ, IfOk, length};
 ghost use Rattle.std.specs.List.{AllZip};
 ghost use Rattle.fb_inputs.specs.Counts.{IsNth};
 ghost use Rattle.fb_inputs.specs.NearSpans.{IsField, IsFieldAt, IsInStimuli, IsNearInStimuli, IsSearch, IsWordIn};
 ghost use Rattle.fb_inputs.specs.Records.{begins_record};
+ghost use Rattle.fb_inputs.specs.Searches.{FindsOne};
 
 use crate::csv_records::{
     RecordScan, field_begin, field_len, first_scan, said, scan_to, skipped, word_begin, word_len,
@@ -32,7 +33,7 @@ struct Search<'a> {
 /// The bytes of a field, as the scan finds them in the record that begins here.
 fn scanned_field(text: &[u8], begin: usize, field: usize) -> Option<Span>
     requires { begin < length text.now }
-    ensures { (record_index : ℕ) → IsNth text.now (begins_record text.now) record_index begin → IfSome result (IsFieldAt text.now record_index field) }
+    ensures { (record_index : ℕ) → IsNth text.now (begins_record text.now) record_index begin → FindsOne result (IsFieldAt text.now record_index field) }
 {
     let start = begin + field_begin(&text[begin..], field)?;
     let end = start + field_len(&text[start..]);
@@ -51,7 +52,7 @@ fn read_field<'a>(
     requires search { IsSearch text.now search.old }
     requires scanned { IsFieldAt text.now record_index field span }
     ensures search { IfOk result (λ _. IsSearch text.now search.new) }
-    ensures found { IfOk result (λ o. IfSome o (IsField text.now record_index field)) }
+    ensures found { IfOk result (λ o. FindsOne o (IsField text.now record_index field)) }
 {
     let value = said(&text[span.start..span.end]);
     let reader = &mut search.reader;
@@ -72,7 +73,7 @@ fn field_span<'a>(
 ) -> Result<Option<Span>, AllocError>
     requires { IsSearch text.now search.old }
     ensures search { IfOk result (λ _. IsSearch text.now search.new) }
-    ensures found { IfOk result (λ o. IfSome o (IsField text.now record_index field)) }
+    ensures found { IfOk result (λ o. FindsOne o (IsField text.now record_index field)) }
 {
     let Some(scan) = scan_to(text, search.scan, record_index) else {
         return Ok(None);
@@ -88,7 +89,7 @@ fn field_span<'a>(
 fn word_in(text: &[u8], field: Span, word: usize) -> Option<Span>
     requires ordered { field.start ≤ field.end }
     requires within { field.end ≤ length text.now }
-    ensures { IfSome result (IsWordIn text.now field word) }
+    ensures { FindsOne result (IsWordIn text.now field word) }
 {
     let raw = &text[field.start..field.end];
     let value = said(raw);
@@ -108,7 +109,7 @@ fn field_of_row<'a>(
 ) -> Result<Option<Span>, AllocError>
     requires { IsSearch text.now search.old }
     ensures search { IfOk result (λ _. IsSearch text.now search.new) }
-    ensures found { IfOk result (λ o. IfSome o (IsField text.now (row + 1) field)) }
+    ensures found { IfOk result (λ o. FindsOne o (IsField text.now (row + 1) field)) }
 {
     match row.checked_add(1) {
         Some(record_index) => field_span(alloc, text, search, record_index, field),
@@ -125,7 +126,7 @@ fn span_at<'a>(
 ) -> Result<Option<Span>, AllocError>
     requires { IsSearch text.now search.old }
     ensures search { IfOk result (λ _. IsSearch text.now search.new) }
-    ensures found { IfOk result (λ o. IfSome o (IsInStimuli text.now position)) }
+    ensures found { IfOk result (λ o. FindsOne o (IsInStimuli text.now position)) }
 {
     match position {
         StimuliPosition::Start => Ok(Some(start_of(text))),
@@ -141,7 +142,7 @@ fn span_at<'a>(
     }
 }
 
-/// The bytes at a position, or at the nearest one around it that is found.
+/// The bytes at a position, or at the nearest one around it at which there are any.
 fn nearest_at<'a>(
     alloc: Global,
     text: &'a [u8],
@@ -179,7 +180,7 @@ fn all_nearest<'a>(
     Ok(spans)
 }
 
-/// The bytes at positions of stimuli, or at the nearest ones around them that are found, each at the index of its
+/// The bytes at positions of stimuli, or at the nearest ones around them at which there are any, each at the index of its
 /// position. Where the positions follow the order of the text, it is scanned and read once for all of them.
 ///
 /// # Errors

@@ -89,7 +89,7 @@ pub fn stimuli_position(location: StimuliLocation) -> StimuliPosition
 impl DeployPosition {
     /// The position that is used if the bytes of this one are not found: the key of an element, the table of a key, and
     /// so on up to the beginning of the text. A link without a table of latencies has one latency.
-    pub(crate) fn around(self) -> DeployPosition
+    pub fn around(self) -> DeployPosition
         ensures { result ≡ spec.around_deploy self }
     {
         match self {

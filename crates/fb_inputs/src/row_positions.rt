@@ -1,6 +1,7 @@
 //! The fields of a text in CSV, as the reader of CSV reads them.
 
-ghost use Rattle.std.specs.Prelude.{◌≡◌, ◌+◌, ◌<◌, ◌^◌, IfOk, IfSome, IsSomeAnd, IsTrue, Some, option_map, slice_get};
+ghost use Rattle.std.specs.Prelude.{◌≡◌, ◌+◌, ◌<◌, ◌≤◌, ◌^◌, IfOk, IsSomeAnd, Some, length, option_map, slice_get};
+ghost use Rattle.std.specs.Bool.{MatchBool};
 ghost use Rattle.csv.specs.Reading.{default_config, records, strip_bom};
 ghost use Rattle.csv.specs.Records.{field_at, fields_of};
 ghost use Rattle.fb_inputs.specs.Readers.{IsAt, IsReaderOf, rows_from};
@@ -73,7 +74,8 @@ pub(crate) struct RecordReader<'a> {
 
 /// A reader that has read nothing of a text.
 pub(crate) fn reader_of(alloc: Global, text: &[u8]) -> RecordReader<'_>
-    ensures { IsReaderOf text.now result }
+    ensures reader { IsReaderOf text.now result }
+    ensures none { result.read ≡ 0 }
 {
     RecordReader {
         rows: records_of(alloc, text),
@@ -84,7 +86,8 @@ pub(crate) fn reader_of(alloc: Global, text: &[u8]) -> RecordReader<'_>
 
 /// Begins again, with a reader that has read nothing.
 fn begin_again<'a>(alloc: Global, text: &'a [u8], reader: &mut RecordReader<'a>)
-    ensures { IsReaderOf text.now reader.new }
+    ensures reader { IsReaderOf text.now reader.new }
+    ensures none { reader.new.read ≡ 0 }
 {
     drop(mem::replace(reader, reader_of(alloc, text)));
 }
@@ -109,7 +112,7 @@ fn read_next<'a>(
     requires reader { IsReaderOf text.now reader.old }
     requires room { reader.old.read + 1 < 2 ^ 64 }
     ensures reader { IfOk result (λ _. IsReaderOf text.now reader.new) }
-    ensures one { IfOk result (λ more. IsTrue more → reader.new.read ≡ reader.old.read + 1) }
+    ensures one { IfOk result (λ more. MatchBool more (reader.new.read ≡ reader.old.read + 1) (length (records default_config (strip_bom text.now)) ≤ reader.old.read)) }
 {
     match next_row(&mut reader.rows)? {
         Some(row) => {
@@ -123,28 +126,31 @@ fn read_next<'a>(
     }
 }
 
-/// Reads on until this number of records was read, or no more are left.
+/// Reads on until this number of records was read, and returns whether the text has that many.
 fn read_up_to<'a>(
     alloc: Global,
     text: &'a [u8],
     reader: &mut RecordReader<'a>,
     count: usize,
-) -> Result<(), AllocError>
-    requires { IsReaderOf text.now reader.old }
-    ensures { IfOk result (λ _. IsReaderOf text.now reader.new) }
+) -> Result<bool, AllocError>
+    requires reader { IsReaderOf text.now reader.old }
+    requires before { reader.old.read ≤ count }
+    ensures reader { IfOk result (λ _. IsReaderOf text.now reader.new) }
+    ensures all { IfOk result (λ all. MatchBool all (reader.new.read ≡ count) (length (records default_config (strip_bom text.now)) < count)) }
 {
     while reader.read < count {
         if !read_next(alloc, text, reader)? {
-            return Ok(());
+            return Ok(false);
         }
     }
-    Ok(())
+    Ok(true)
 }
 
 /// Begins again, if more records than this number were read.
 fn go_back<'a>(alloc: Global, text: &'a [u8], reader: &mut RecordReader<'a>, count: usize)
     requires { IsReaderOf text.now reader.old }
-    ensures { IsReaderOf text.now reader.new }
+    ensures reader { IsReaderOf text.now reader.new }
+    ensures before { reader.new.read ≤ count }
 {
     if count < reader.read {
         begin_again(alloc, text, reader);
@@ -153,7 +159,7 @@ fn go_back<'a>(alloc: Global, text: &'a [u8], reader: &mut RecordReader<'a>, cou
 
 /// Whether a field of a record, if there is one, is this value.
 fn is_field(row: &Option<ByteRecord>, field: usize, value: &[u8]) -> bool
-    ensures { IsTrue result → IsSomeAnd row.now (λ r. field_at (fields_of r) field ≡ Some value.now) }
+    ensures { MatchBool result (IsSomeAnd row.now (λ r. field_at (fields_of r) field ≡ Some value.now)) (IsSomeAnd row.now (λ r. field_at (fields_of r) field ≡ Some value.now) → ⊥) }
 {
     match row {
         Some(row) => match row.get(field) {
@@ -162,13 +168,6 @@ fn is_field(row: &Option<ByteRecord>, field: usize, value: &[u8]) -> bool
         },
         None => false,
     }
-}
-
-/// How many records are read once the one with this index is.
-fn count_to(record_index: usize) -> Option<usize>
-    ensures { IfSome result (λ count. count ≡ record_index + 1) }
-{
-    record_index.checked_add(1)
 }
 
 /// Whether the reader of CSV reads this value as a field of a text, by the indexes of the record and the field. It
@@ -181,16 +180,14 @@ pub(crate) fn reads_field<'a>(
     field: usize,
     value: &[u8],
 ) -> Result<bool, AllocError>
-    requires { IsReaderOf text.now reader.old }
+    requires reader { IsReaderOf text.now reader.old }
+    requires room { record_index + 1 < 2 ^ 64 }
     ensures reader { IfOk result (λ _. IsReaderOf text.now reader.new) }
-    ensures read { IfOk result (λ b. IsTrue b → IsReadAt text.now record_index field value.now) }
+    ensures read { IfOk result (λ b. MatchBool b (IsReadAt text.now record_index field value.now) (IsReadAt text.now record_index field value.now → ⊥)) }
 {
-    let Some(count) = count_to(record_index) else {
-        return Ok(false);
-    };
+    let count = record_index + 1;
     go_back(alloc, text, reader, count);
-    read_up_to(alloc, text, reader, count)?;
-    if reader.read != count {
+    if !read_up_to(alloc, text, reader, count)? {
         return Ok(false);
     }
     Ok(is_field(&reader.last, field, value))

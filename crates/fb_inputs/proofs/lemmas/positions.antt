@@ -1,3 +1,6 @@
 pub mod Counting
+pub mod FieldSpans
+pub mod Found
+pub mod Keys
 pub mod StepsAround
 pub mod NearestSpans

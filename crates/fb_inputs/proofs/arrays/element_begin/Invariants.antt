@@ -8,5 +8,6 @@ invariant-loop-at l = record {
   passed : IsPassed l.z l.at l.passed;
   before : l.before ≡ count_below (begins_element l.z) l.at;
   before_fits : l.before ≤ l.at;
+  few : l.before ≤ l.index;
   inside : (k : ℕ) → k < l.at → stops l.z k ≡ false;
 }

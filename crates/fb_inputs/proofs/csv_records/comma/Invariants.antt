@@ -9,4 +9,5 @@ invariant-loop-at l = record {
   inside : IsInRecord l.rest l.at;
   quotes_fit : l.quotes ≤ l.at;
   before_fits : l.before ≤ l.at;
+  few : l.before ≤ l.index;
 }

@@ -1,5 +1,9 @@
 use Rattle.std.proofs.Common.{◌≡◌, ◌≤◌, ◌+◌, ◌-◌, length, inr, refl, arith}
+use Rattle.fb_inputs.proofs.lemmas.positions.FieldSpans.{no_field_from}
 use Rattle.fb_inputs.proofs.csv_records.field_begin.Goals as goal
+
+pub returns-in_err-at : goal.returns-in_err-at
+returns-in_err-at c = rw c.from_residual.ensures (no_field_from c.args.rest.now c.args.index c.if-index-eq0.false c.in_err-at.ensures)
 
 pub returns : goal.returns
 returns c =

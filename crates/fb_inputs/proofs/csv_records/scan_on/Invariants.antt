@@ -8,4 +8,5 @@ invariant-loop-at l = record {
   records : l.records ≡ count_below (begins_record l.text) l.at;
   few_quotes : l.quotes ≤ l.at;
   few_records : l.records ≤ l.at;
+  before : l.records ≤ l.index;
 }

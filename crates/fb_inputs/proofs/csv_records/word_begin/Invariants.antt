@@ -6,4 +6,5 @@ abbrev pub invariant-loop-at : goal.invariant-loop-at
 invariant-loop-at l = record {
   before : l.before ≡ count_below (begins_word l.said) l.at;
   before_fits : l.before ≤ l.at;
+  few : l.before ≤ l.index;
 }

@@ -3,8 +3,11 @@ use Rattle.fb_types.proofs.Common.{◌≡◌, ℕ, ◌+◌, ◌<◌, List, [], �
 use Rattle.std.proofs.lemmas.Slice.Zip.{all_zipped_more}
 use Rattle.fb_read.specs.declared.token.Span.{Span}
 use Rattle.fb_inputs.specs.Counts.{Text}
-use Rattle.fb_inputs.specs.NearSpans.{IsNearInStimuli}
+use Rattle.fb_inputs.specs.NearSpans.{IsInDeployment, IsInStimuli, IsNearInStimuli, IsStart}
+use Rattle.fb_inputs.specs.Positions.{around_deploy, around_stimuli, stepped}
+use Rattle.fb_inputs.specs.declared.position.DeployPosition.{DeployPosition}
 use Rattle.fb_inputs.specs.declared.position.StimuliPosition.{StimuliPosition}
+use Rattle.fb_inputs.proofs.lemmas.positions.StepsAround.{steps_to_beginning, steps_to_start}
 
 -- one span more
 pub one_near :
@@ -15,3 +18,13 @@ one_near text positions i spans more span d within added before here =
     subst (λ (ss : List Span). AllZip R (take (i + 1) positions) ss) (sym added)
     (subst (λ (ps : List StimuliPosition). AllZip R ps (spans ++ span ∷ [])) (sym (take_more positions i d within))
     (all_zipped_more R (take i positions) spans (get_or positions i d) span before here))
+
+-- ---- The beginning of a text, which is around all
+
+pub begins_deployment : (text : Text) (position : DeployPosition) (steps : ℕ) (span : Span) → steps ≡ 5 → IsStart text span → IsInDeployment text (stepped around_deploy steps position) span
+begins_deployment text position steps span five start =
+    subst (λ (n : ℕ). IsInDeployment text (stepped around_deploy n position) span) (sym five) (subst (λ (p : DeployPosition). IsInDeployment text p span) (steps_to_start position) start)
+
+pub begins_stimuli : (text : Text) (position : StimuliPosition) (steps : ℕ) (span : Span) → steps ≡ 3 → IsStart text span → IsInStimuli text (stepped around_stimuli steps position) span
+begins_stimuli text position steps span three start =
+    subst (λ (n : ℕ). IsInStimuli text (stepped around_stimuli n position) span) (sym three) (subst (λ (p : StimuliPosition). IsInStimuli text p span) (steps_to_beginning position) start)

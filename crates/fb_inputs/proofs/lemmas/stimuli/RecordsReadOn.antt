@@ -1,5 +1,7 @@
 -- A reader of records that reads on.
-use Rattle.std.proofs.Common.{◌≡◌, ℕ, zero, suc, ◌+◌, ◌-◌, ◌≤◌, [], ◌∷◌, List, Option, Some, None, Bor, refl, sym, ap, ◌∙◌, arith, zero-add}
+use Rattle.std.proofs.Common.{◌≡◌, ℕ, zero, suc, ◌+◌, ◌-◌, ◌<◌, ◌≤◌, Bool, true, false, [], ◌∷◌, List, length, Option, Some, None, Bor, refl, sym, subst, ap, ◌∙◌, arith, zero-add}
+use Rattle.std.proofs.lemmas.Option.{same_Some, slice_get_within}
+use Rattle.std.specs.Bool.{MatchBool}
 use Rattle.std.specs.Prelude.{IfOk, IsSomeAnd, Result, Ok, Err, option_map, slice_get}
 use Rattle.csv.specs.Reading.{default_config, records, strip_bom}
 use Rattle.csv.specs.Records.{field_at, fields_of}
@@ -26,17 +28,54 @@ one_read text old new row of (rest, there, is) count last =
     ap (λ (n : ℕ). slice_get all n) (sym turns) ∙ sym (of.others 0) ∙ ap (λ (rows : List Row). slice_get rows 0) is in
     record { left = rest; here = there; others = later; last = rw last (old.read, count, first) }
 
--- the value of the field is read, if that many records were
+-- the value of the field is read, if that many records were and the last one has it
+last_read :
+    (text : Text) (index count read field : ℕ) (value : Text) (o : Option ByteRecord) → IsLast text read o → count ≡ index + 1 → read ≡ count
+    → IsSomeAnd o (λ r. field_at (fields_of r) field ≡ Some value) → IsReadAt text index field value
+last_read text index count read field value None last next is there = absurd there
+last_read text index count read field value (Some row) (before, one, at) next is there =
+    let same : before ≡ index = omega (arith, one, next, is) in
+    record { row = fields_of row; row_is = ap (λ (n : ℕ). slice_get (records default_config (strip_bom text)) n) (sym same) ∙ at; value_is = there }
+
+-- the last one has it, if the value is read
+read_last :
+    (text : Text) (index count read field : ℕ) (value : Text) (o : Option ByteRecord) → IsLast text read o → count ≡ index + 1 → read ≡ count
+    → IsReadAt text index field value → IsSomeAnd o (λ r. field_at (fields_of r) field ≡ Some value)
+read_last text index count read field value None last next is there = absurd (omega (arith, last, next, is))
+read_last text index count read field value (Some row) (before, one, at) next is there =
+    let same : before ≡ index = omega (arith, one, next, is) in
+    let rows : Some there.row ≡ Some (fields_of row) = sym there.row_is ∙ ap (λ (n : ℕ). slice_get (records default_config (strip_bom text)) n) (sym same) ∙ at in
+    subst (λ (r : Row). field_at r field ≡ Some value) (same_Some there.row (fields_of row) rows) there.value_is
+
+decided : (b : Bool) (P Q : Type 0) → (P → Q) → (Q → P) → MatchBool b P (P → ⊥) → MatchBool b Q (Q → ⊥)
+decided true P Q to from h = to h
+decided false P Q to from h = λ q. h (from q)
+
+-- whether the value is read, by the last of that many records
 pub field_read :
-    (text : Text) (reader : RecordReader) (index count field : ℕ) (value : Text) → IsReaderOf text reader → count ≡ index + 1 → reader.read ≡ count
-    → IsSomeAnd reader.last (λ r. field_at (fields_of r) field ≡ Some value) → IsReadAt text index field value
-field_read text reader index count field value of next is found = go reader.last of.last found
-  where
-    go : (o : Option ByteRecord) → IsLast text reader.read o → IsSomeAnd o (λ r. field_at (fields_of r) field ≡ Some value) → IsReadAt text index field value
-    go None last there = absurd there
-    go (Some row) (before, one, at) there =
-        let same : before ≡ index = omega (arith, one, next, is) in
-        record { row = fields_of row; row_is = ap (λ (n : ℕ). slice_get (records default_config (strip_bom text)) n) (sym same) ∙ at; value_is = there }
+    (text : Text) (reader : RecordReader) (index count field : ℕ) (value : Text) (b : Bool) → IsReaderOf text reader → count ≡ index + 1 → reader.read ≡ count
+    → MatchBool b (IsSomeAnd reader.last (λ r. field_at (fields_of r) field ≡ Some value)) (IsSomeAnd reader.last (λ r. field_at (fields_of r) field ≡ Some value) → ⊥)
+    → MatchBool b (IsReadAt text index field value) (IsReadAt text index field value → ⊥)
+field_read text reader index count field value b of next is found =
+    decided b _ _ (last_read text index count reader.read field value reader.last of.last next is) (read_last text index count reader.read field value reader.last of.last next is) found
+
+-- nothing is read in a record that the text does not have
+pub none_read : (text : Text) (index count field : ℕ) (value : Text) → count ≡ index + 1 → length (records default_config (strip_bom text)) < count → IsReadAt text index field value → ⊥
+none_read text index count field value next few there =
+    let within : index < length (records default_config (strip_bom text)) = slice_get_within (records default_config (strip_bom text)) index there.row there.row_is in
+    omega (arith, within, next, few)
+
+-- there are no more records if none is left
+past_last : (rows : List Row) (k : ℕ) → slice_get rows k ≡ None → length rows ≤ k
+past_last [] k none = omega arith
+past_last (row ∷ rows) zero none = absurd cc
+past_last (row ∷ rows) (suc k) none = omega (arith, past_last rows k none)
+
+pub none_after : (text : Text) (reader : RecordReader) (of : IsReaderOf text reader) → rows_from reader.rows.rdr.state of.left ≡ [] → length (records default_config (strip_bom text)) ≤ reader.read
+none_after text reader of none =
+    let all = records default_config (strip_bom text) in
+    let turns : reader.read ≡ reader.read + 0 = omega arith in
+    past_last all reader.read (ap (λ (n : ℕ). slice_get all n) turns ∙ sym (of.others 0) ∙ ap (λ (rows : List Row). slice_get rows 0) none)
 
 -- ---- A record by its index
 

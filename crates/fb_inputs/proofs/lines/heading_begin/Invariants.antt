@@ -7,4 +7,5 @@ invariant-loop-at l = record {
   first : l.first ≡ is_first l.text l.at;
   before : l.before ≡ count_below (begins_table l.heading l.text) l.at;
   before_fits : l.before ≤ l.at;
+  few : l.before ≤ l.index;
 }

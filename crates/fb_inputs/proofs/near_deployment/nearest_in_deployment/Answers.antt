@@ -1,18 +1,29 @@
-use Rattle.std.proofs.Common.{inl, inr, subst}
+use Rattle.std.proofs.Common.{◌≡◌, ℕ, arith, below_more, subst}
+use Rattle.fb_read.specs.declared.token.Span.{Span}
 use Rattle.fb_inputs.specs.NearSpans.{IsInDeployment}
 use Rattle.fb_inputs.specs.Positions.{around_deploy}
 use Rattle.fb_inputs.specs.declared.position.DeployPosition.{DeployPosition}
+use Rattle.fb_inputs.proofs.lemmas.positions.NearestSpans.{begins_deployment}
 use Rattle.fb_inputs.proofs.lemmas.positions.StepsAround.{next_step, no_step}
 use Rattle.fb_inputs.proofs.near_deployment.nearest_in_deployment.Goals as goal
 
 pub loop-init : goal.loop-init
-loop-init c = no_step around_deploy c.args.position
+loop-init c = record { here = no_step around_deploy c.args.position; nearer = λ k lt. absurd (omega arith) }
 
 pub loop-preserved : goal.loop-preserved
-loop-preserved c = next_step around_deploy c.loop.counter c.args.position c.loop.here _ c.around-here.ensures c.loop.invariant
+loop-preserved c = record {
+  here = next_step around_deploy c.loop.counter c.args.position c.loop.here _ c.around-here.ensures c.loop.invariant.here;
+  nearer = below_more _ c.loop.counter c.loop.invariant.nearer (subst (λ (p : DeployPosition). (other : Span) → IsInDeployment c.args.text.now p other → ⊥) c.loop.invariant.here c.in_default.ensures);
+}
 
 pub returns-in-Some : goal.returns-in-Some
-returns-in-Some c = inl (c.loop.counter, subst (λ (p : DeployPosition). IsInDeployment c.args.text.now p c.in-Some.span) c.loop.invariant c.in-Some.ensures)
+returns-in-Some c = record {
+  steps = c.loop.counter;
+  here = subst (λ (p : DeployPosition). IsInDeployment c.args.text.now p c.in-Some.span) c.loop.invariant.here c.in-Some.ensures;
+  nearer = c.loop.invariant.nearer;
+}
 
 pub returns : goal.returns
-returns c = inr c.start_of.ensures
+returns c =
+    let last : c.loop.counter ≡ 5 = let ended = c.loop-test.false in let most = c.loop.auto.counter-end in omega (arith, ended, most) in
+    record { steps = c.loop.counter; here = begins_deployment c.args.text.now c.args.position c.loop.counter _ last c.start_of.ensures; nearer = c.loop.invariant.nearer }
