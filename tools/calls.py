@@ -638,6 +638,8 @@ def of(words, *ending, **how):
     return Call(words.split(), *ending, **how)
 
 
+LACKING = b"error: an option lacks another one: --allow and --deny need --lint; --deploy and --types of expect need --decl\n"
+
 # Declarations in several files: block types in files of their own, which are read before the declaration, in their order.
 CALLS += [
     *(Call(["run", "--types", "lamp", "lit", "--horizon", "1", *way], 0, out=LIT_TO_1) for way in WAYS),
@@ -709,7 +711,7 @@ CALLS += [
     of("draw lit --types gone", 3, err=b"file fault\n"),
     of("expect rules trace --decl lit --types gone --why", 3, err=b"file fault\ntypes gone: no file of this name can be read\n"),
     # Block types are those of a declaration.
-    of("expect rules trace --types lamp", 5, err=b"error: the words name no call\n"),
+    of("expect rules trace --types lamp", 5, err=LACKING),
 ]
 
 # Which events of a trace are shown: from a tick on, before a tick, and those that cleared no transition.
@@ -814,7 +816,7 @@ NO_WARNINGS = ("L6", "L00", "L99", "M06", "L06:", "L06T", "L061", "al", "every",
 CALLS += [
     *(of(f"check warned --lint {words}", status, out=b"accepted\n", err=lines) for words, status, lines in LINTED),
     *(of(f"check warned --lint {option} {name}", 5, err=f"error: no warning is called {name}\n".encode()) for name in NO_WARNINGS for option in ("--allow", "--deny")),
-    *(of(f"check warned {words}", 5, err=b"error: the words name no call\n") for words in ("--allow L06", "--deny L06", "--allow L99", "--allow L06 --deny all")),
+    *(of(f"check warned {words}", 5, err=LACKING) for words in ("--allow L06", "--deny L06", "--allow L99", "--allow L06 --deny all")),
     of("check nowhere --lint --allow L99", 5, err=b"error: no warning is called L99\n"),
     of("check slip --lint --deny all", 2, err=b"refused E21\n"),
     of("run cycle --horizon 1 --allow L06", 5, err=None),
@@ -1093,7 +1095,7 @@ CALLS += [
     of("expect rules nowhere", 3, err=b"file fault\n"),
     of("expect nowhere trace", 3, err=b"file fault\n"),
     of("expect no_plan trace --decl nowhere", 3, err=b"file fault\n"),
-    of("expect rules trace --deploy cycle_plan", 5, err=b"error: the words name no call\n"),
+    of("expect rules trace --deploy cycle_plan", 5, err=LACKING),
     of("expect rules", 5, err=None),
     *(of("expect rules trace", 3, err=b"write fault after 0 bytes\n", to=it) for it in OUTPUTS[:3]),
     # Where two traces differ.

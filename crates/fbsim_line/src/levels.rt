@@ -23,7 +23,7 @@ pub(crate) const ALLOW_HELP: &str =
     "With --lint: leaves out these warnings: L06, those about a type or an instance as L06:MOTOR, or all; may be repeated.";
 
 pub(crate) const DENY_HELP: &str =
-    "With --lint: ends with status 1 if one of these warnings remains, named as for --allow; may be repeated.";
+    "With --lint: ends with status 1 if one of these warnings remains, or nothing has the name; named as for --allow; may be repeated.";
 
 /// Whether one of two lists has a name.
 fn has_any(allow: &[&str], deny: &[&str]) -> bool

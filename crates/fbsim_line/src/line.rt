@@ -125,8 +125,9 @@ impl From<AllocError> for LineFault {
     }
 }
 
-/// The text for words that the parser accepts and that still name no call.
-const NO_CALL: &str = "error: the words name no call\n";
+/// The text for words that the parser accepts and that still name no call: an option lacks the one that it needs.
+const NO_CALL: &str =
+    "error: an option lacks another one: --allow and --deny need --lint; --deploy and --types of expect need --decl\n";
 
 /// The version of the program, that of CHANGELOG.md.
 const VERSION: &str = "1.2.0";
