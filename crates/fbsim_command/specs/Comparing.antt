@@ -2,7 +2,7 @@
 use Rattle.std.specs.Prelude.{◌≡◌, ◌⊎◌, ◌++◌, ℕ, IsTrue, Option, Some, None, Ok, Err, codes}
 use Rattle.std.specs.Io.KnownBytes.{Appends}
 use Rattle.clap.specs.Words.{Text}
-use Rattle.fb_expect.specs.Parting.{MayPart}
+use Rattle.fb_expect.specs.Parting.{IsUnparted, MayPart}
 use Rattle.fb_expect.specs.DifferenceReport.{ShowsDifference}
 use Rattle.fb_expect.specs.declared.parting.Difference.{Difference}
 use Rattle.fb_expect.specs.declared.parting.PartFault.{PartFault}
@@ -42,15 +42,6 @@ Differs d first second old new (Err Memory) = new ≡ old
 Differs d first second old new (Err (Line message)) = ⊥
 Differs d first second old new (Err BadOption) = ⊥
 
--- Both files are opened, and compared.
-pub record AreCompared {S : Type 0} (opens : Opening S) (from to : S) (d : Diff) (old new : Held) (end : End) : Type 0 where
-  pub between : S
-  pub first : Held
-  pub second : Held
-  pub first_opened : opens from d.first.now (Ok first) between
-  pub second_opened : opens between d.second.now (Ok second) to
-  pub done : Differs d first second old new end
-
 -- The first is opened, and the second is not.
 pub record IsSecondUnopened {S : Type 0} (opens : Opening S) (from to : S) (d : Diff) (fault : SourceFault) : Type 0 where
   pub between : S
@@ -73,13 +64,29 @@ NotesUnread d part_fault.Memory (Some note) = ⊥
 NotesUnread d part_fault.First (Some note) = IsTrue d.why × (note ≡ rest_note (codes "trace") d.first.now)
 NotesUnread d part_fault.Second (Some note) = IsTrue d.why × (note ≡ rest_note (codes "trace") d.second.now)
 
--- One of the two can't be read to its end, and the note says which.
-abbrev pub NotesEither : Diff → End → Option Text → Type 0
-NotesEither d end None = Unit {0}
-NotesEither d end (Some note) = (fault : PartFault) × (end ≡ Err (failure_of_part fault)) × NotesUnread d fault (Some note)
+-- what two readers have left
+pub record Both : Type 0 where
+  pub first : Held
+  pub second : Held
+
+-- One of the two can't be read to its end, and the note says which: its reader stands in a line, after lines that are alike.
+abbrev pub NotesEither : Diff → (from to : Both) → End → Option Text → Type 0
+NotesEither d from to end None = Unit {0}
+NotesEither d from to end (Some note) =
+    (fault : PartFault) × (end ≡ Err (failure_of_part fault)) × IsUnparted d.is_without_ticks from.first from.second to.first to.second fault × NotesUnread d fault (Some note)
+
+-- Both files are opened, and compared.
+pub record AreCompared {S : Type 0} (opens : Opening S) (from to : S) (d : Diff) (old new : Held) (end : End) (note : Option Text) : Type 0 where
+  pub between : S
+  pub both : Both
+  pub left : Both
+  pub first_opened : opens from d.first.now (Ok both.first) between
+  pub second_opened : opens between d.second.now (Ok both.second) to
+  pub done : Differs d both.first both.second old new end
+  pub noted : NotesEither d both left end note
 
 -- What a call that compares two traces does, from one state of the source to the next, and its note.
 abbrev pub Compares : {S : Type 0} → Opening S → (from to : S) → Diff → (old new : Held) → End → Option Text → Type 0
 Compares opens from to d old new end note =
-    (AreCompared opens from to d old new end × NotesEither d end note)
+    AreCompared opens from to d old new end note
     ⊎ ((fault : SourceFault) × AreUnopened opens from to d fault note × (end ≡ Err (failure_of_source fault)) × (new ≡ old))

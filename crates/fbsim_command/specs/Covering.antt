@@ -8,6 +8,8 @@ use Rattle.fb_coverage.specs.OfSystem.{is_below}
 use Rattle.fb_coverage.specs.Reports.{report_text}
 use Rattle.fb_coverage.specs.declared.marks.Marks.{Marks}
 use Rattle.fb_inspect.specs.Covering.{Covers}
+use Rattle.fb_inspect.specs.declared.error.InspectError.{InspectError}
+use Rattle.fb_inspect.specs.declared.error.InspectError.TheVariants as inspection
 use Rattle.fb_inspect.specs.declared.walk.Extent.{Extent}
 use Rattle.fb_inspect.specs.declared.walk.Extent.TheVariants.{Whole, CutOff}
 use Rattle.fb_wave.specs.declared.truncation.Cut.{Cut}
@@ -112,6 +114,15 @@ RefusesAt true name line Memory = Unit {0}
 RefusesAt true name line _ = ⊥
 RefusesAt false name line (Refused refusal) = refusal ≡ Trace line
 RefusesAt false name line _ = ⊥
+
+-- The failure for which a trace is not gone through. What is written is dropped, so a writer that fails is out of memory.
+abbrev pub IsTraceFailure : (is_named : Bool) → (name : Text) → InspectError → Failure → Type 0
+IsTraceFailure is_named name (inspection.Refused line) failure = RefusesAt is_named name line failure
+IsTraceFailure is_named name inspection.Memory failure = failure ≡ Memory
+IsTraceFailure is_named name inspection.Read failure = failure ≡ File
+IsTraceFailure is_named name (inspection.Write n) failure = failure ≡ Memory
+IsTraceFailure is_named name inspection.Names failure = ⊥
+IsTraceFailure is_named name inspection.Unknown failure = ⊥
 
 -- A trace is opened, and refused for a line that is wrong.
 pub record RefusesOne {S : Type 0} (opens : Opening S) (wrong : Held → ℕ → Type 0) (is_named : Bool) (name : Text) (from to : S) (failure : Failure) : Type 0 where

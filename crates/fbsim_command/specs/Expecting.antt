@@ -13,6 +13,8 @@ use Rattle.fb_expect.specs.Locations.{IsLocation, number_at}
 use Rattle.fb_expect.specs.Reading.{most_bytes, rules_of}
 use Rattle.fb_expect.specs.Reports.{are_well, plan, points}
 use Rattle.fb_expect.specs.Suites.{suite, suites_head, suites_tail}
+use Rattle.fb_expect.specs.declared.fault.TraceError.{TraceError}
+use Rattle.fb_expect.specs.declared.fault.TraceError.TheVariants as trace_error
 use Rattle.fb_expect.specs.declared.judging.Cut.{Cut}
 use Rattle.fb_expect.specs.declared.judging.Cut.TheVariants as cut
 use Rattle.fb_expect.specs.declared.judging.Judged.{Judged}
@@ -256,6 +258,12 @@ IsRefusedAt name line File = ⊥
 IsRefusedAt name line (Write n) = ⊥
 IsRefusedAt name line (Line message) = ⊥
 IsRefusedAt name line BadOption = ⊥
+
+-- the failure for which a trace is not held
+abbrev pub IsTraceFailure : (name : Text) → TraceError → Failure → Type 0
+IsTraceFailure name (trace_error.Refused line) failure = IsRefusedAt name line failure
+IsTraceFailure name trace_error.Memory failure = failure ≡ Memory
+IsTraceFailure name trace_error.Read failure = failure ≡ File
 
 abbrev pub IsUnheld : {S : Type 0} → Opening S → Expect → (old new : S) → (name : Text) → Failure → Type 0
 IsUnheld opens x old new name (RefusedTrace text) = (trace : Held) × opens old name (Ok trace) new × ((line : ℕ) × IsWrongLine x trace line × (string_bytes text ≡ refused_trace name line))

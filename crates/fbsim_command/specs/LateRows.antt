@@ -1,5 +1,5 @@
 -- Rows of stimuli that a run never comes to (docs/FORMATS.md, "What to look at"; this project's own).
-use Rattle.std.specs.Prelude.{◌≡◌, ◌⊎◌, ◌<◌, ◌++◌, ℕ, nat_le, List, [], length, count_by, IsTrue, Option, Some, Ok, codes, decimal}
+use Rattle.std.specs.Prelude.{◌≡◌, ◌⊎◌, ◌<◌, ◌++◌, ℕ, nat_le, List, [], length, count_by, IsTrue, Option, Some, None, Ok, codes, decimal}
 use Rattle.clap.specs.Words.{Text}
 use Rattle.fb_inputs.specs.Stimuli.{stimuli_of}
 use Rattle.fb_types.specs.declared.deploy.Stimulus.{Stimulus}
@@ -23,6 +23,17 @@ pub record IsLateLine (bytes : Text) (horizon : ℕ) (line : Text) : Type 0 wher
   pub read : stimuli_of bytes ≡ Ok rows
   pub some : 0 < late_count horizon rows
   pub is : line ≡ late_line horizon (late_count horizon rows) (length rows)
+
+-- The stimuli have no such rows.
+pub record HasNoLate (bytes : Text) (horizon : ℕ) : Type 0 where
+  pub rows : List Stimulus
+  pub read : stimuli_of bytes ≡ Ok rows
+  pub none : late_count horizon rows ≡ 0
+
+-- there is such a line exactly if there are such rows
+abbrev pub SaysLate : (bytes : Text) → (horizon : ℕ) → (line : Option Text) → Type 0
+SaysLate bytes horizon None = HasNoLate bytes horizon
+SaysLate bytes horizon (Some line) = IsLateLine bytes horizon line
 
 -- the horizon of a run
 abbrev pub IsHorizonOf : Action → (horizon : ℕ) → Type 0

@@ -1,11 +1,12 @@
 //! What traces cover.
 
-ghost use Rattle.std.specs.Prelude.{◌≡◌, ◌++◌, IfErr, IfOk, IfSome, OnOk, codes, decimal, map, option_map, string_bytes, true};
+ghost use Rattle.std.specs.Prelude.{◌≡◌, ◌<◌, ◌+◌, ◌^◌, ◌++◌, IfErr, IfOk, IfSome, OnOk, codes, decimal, map, option_map, string_bytes, true};
+ghost use Rattle.fb_inspect.specs.declared.error.InspectError.TheVariants as inspection;
 ghost use Rattle.fb_wave.specs.OfSystem.{HasNames};
 ghost use Rattle.fbsim_command.specs.declared.coverage.Gleaned.{Gleaned};
 ghost use Rattle.fbsim_command.specs.Covering as spec;
 ghost use Rattle.fbsim_command.specs.WrongLines.{IsWrongIn};
-ghost use Rattle.fbsim_command.specs.Covering.{AreGoneThrough, AreStopped, GoesThrough, IsStopped, NotesTrace, RefusesAt, ReportsCoverage, WritesReport, are_several, coverage_text, cut_line, cut_of, note_front};
+ghost use Rattle.fbsim_command.specs.Covering.{AreGoneThrough, AreStopped, GoesThrough, IsStopped, IsTraceFailure, NotesTrace, RefusesAt, ReportsCoverage, WritesReport, are_several, coverage_text, cut_line, cut_of, note_front};
 
 use crate::expect::refused_trace;
 use crate::failure::{Failure, RefusalLine};
@@ -116,30 +117,63 @@ fn note_of_unread(alloc: Global, coverage: &Coverage<'_>, name: &str) -> Option<
     note_of_rest(alloc, "trace", name)
 }
 
-/// One more trace that is cut off, or not. No call names more traces than can be counted.
-fn cut_count(extent: Extent, cut: u64) -> Result<u64, Failure>
-    ensures count { IfOk result (λ n. n ≡ spec.cut_count extent cut) }
-    ensures memory { IfErr result (λ failure. failure ≡ Failure.Memory) }
+/// The failure for which a trace is not gone through. Whatever was read has names, and no path is given.
+fn failure_of_trace(alloc: Global, is_named: bool, name: &str, error: InspectError) -> Failure
+    requires names { error ≡ inspection.Names → ⊥ }
+    requires paths { error ≡ inspection.Unknown → ⊥ }
+    ensures { IsTraceFailure is_named name.now error result }
+{
+    match error {
+        InspectError::Refused(line) => refusal_of(alloc, is_named, name, line),
+        InspectError::Read => Failure::File,
+        // What is written is dropped, so no writer fails.
+        InspectError::Memory | InspectError::Write(_) => Failure::Memory,
+        InspectError::Names | InspectError::Unknown => unreachable!(),
+    }
+}
+
+/// The note to a trace that is not gone through, where one is asked for.
+fn note_of_fault(
+    alloc: Global,
+    coverage: &Coverage<'_>,
+    name: &str,
+    system: &System,
+    error: &InspectError,
+    refused: &RefusedLine,
+) -> Option<String>
+    ensures { NotesTrace coverage.now (option_map string_bytes result) }
+{
+    match error {
+        InspectError::Refused(line) => {
+            note_of_refusal(alloc, coverage, name, system, *line, refused)
+        }
+        InspectError::Read => note_of_unread(alloc, coverage, name),
+        _ => None,
+    }
+}
+
+/// One more trace that is cut off, or not.
+fn cut_count(extent: Extent, cut: u64) -> u64
+    requires { cut + 1 < 2 ^ 64 }
+    ensures { result ≡ spec.cut_count extent cut }
 {
     match extent {
-        Extent::Whole => Ok(cut),
-        Extent::CutOff => match cut.checked_add(1) {
-            Some(more) => Ok(more),
-            None => Err(Failure::Memory),
-        },
+        Extent::Whole => cut,
+        Extent::CutOff => cut + 1,
     }
 }
 
 /// What is gleaned, after a trace that covers this, and after this number of traces that are cut off before it.
-fn gleaned_with(covered: Covered, cut: u64) -> Result<Gleaned, Failure>
-    ensures gleaned { IfOk result (λ g. (g.marks ≡ covered.marks) × (g.cut ≡ spec.cut_count covered.extent cut)) }
-    ensures memory { IfErr result (λ failure. failure ≡ Failure.Memory) }
+fn gleaned_with(covered: Covered, cut: u64) -> Gleaned
+    requires { cut + 1 < 2 ^ 64 }
+    ensures marks { result.marks ≡ covered.marks }
+    ensures cut { result.cut ≡ spec.cut_count covered.extent cut }
 {
-    let cut = cut_count(covered.extent, cut)?;
-    Ok(Gleaned {
+    let cut = cut_count(covered.extent, cut);
+    Gleaned {
         marks: covered.into_marks(),
         cut,
-    })
+    }
 }
 
 /// Opens a trace, and gleans from it what it covers next to what others covered.
@@ -152,7 +186,8 @@ fn cover_one<S: Streams>(
     note: &mut Option<String>,
     source: &mut S,
 ) -> Result<Gleaned, Failure>
-    requires { HasNames system.now }
+    requires names { HasNames system.now }
+    requires room { gleaned.cut + 1 < 2 ^ 64 }
     ensures covered { IfOk result (GoesThrough S.opens system.now coverage.now name.now source.old source.new gleaned) }
     ensures stopped { IfErr result (IsStopped S.opens (IsWrongIn (cut_of coverage.now) system.now coverage.now.steps) (are_several coverage.now) name.now source.old source.new) }
     ensures noted { NotesTrace coverage.now (option_map string_bytes note.old) → NotesTrace coverage.now (option_map string_bytes note.new) }
@@ -171,21 +206,11 @@ fn cover_one<S: Streams>(
     };
     let (marks, cut) = gleaned.parts();
     match cover(alloc, system, terms, marks, &mut refused, &mut trace) {
-        Ok(covered) => gleaned_with(covered, cut),
-        Err(InspectError::Refused(line)) => {
-            *note = note_of_refusal(alloc, coverage, name, system, line, &refused);
-            Err(refusal_of(alloc, are_several(coverage), name, line))
+        Ok(covered) => Ok(gleaned_with(covered, cut)),
+        Err(error) => {
+            *note = note_of_fault(alloc, coverage, name, system, &error, &refused);
+            Err(failure_of_trace(alloc, are_several(coverage), name, error))
         }
-        Err(InspectError::Read) => {
-            *note = note_of_unread(alloc, coverage, name);
-            Err(Failure::File)
-        }
-        Err(InspectError::Memory) => Err(Failure::Memory),
-        // What is written is dropped, so no writer fails.
-        Err(InspectError::Write(_)) => Err(Failure::Memory),
-        // The system has names, and no path is given.
-        Err(InspectError::Names) => unreachable!(),
-        Err(InspectError::Unknown) => unreachable!(),
     }
 }
 

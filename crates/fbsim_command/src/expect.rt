@@ -4,7 +4,7 @@ ghost use Rattle.std.specs.Prelude.{◌≡◌, ◌&&◌, IfErr, IfOk, OnOk, ◌*
 ghost use Rattle.fb_expect.specs.Parting.{MayPart};
 ghost use Rattle.fbsim_command.specs.Comparing.{Compares, Differs, NotesEither, NotesUnread};
 ghost use Rattle.fbsim_command.specs.Failures.{refused_trace};
-ghost use Rattle.fbsim_command.specs.Expecting.{AreRules, AreUnheld, Expects, Holds, IsHeld, IsRefusedAt, IsUndeclared, IsUnheld, MayDeclare, NotesTrace, PutsAll, PutsOne, RefusesFor, Reports, cut_of, head_of, own_of, part_of, tail_of, types_of};
+ghost use Rattle.fbsim_command.specs.Expecting.{AreRules, AreUnheld, Expects, Holds, IsHeld, IsRefusedAt, IsTraceFailure, IsUndeclared, IsUnheld, MayDeclare, NotesTrace, PutsAll, PutsOne, RefusesFor, Reports, cut_of, head_of, own_of, part_of, tail_of, types_of};
 ghost use Rattle.fbsim_command.specs.Notes.{IsNoteOfName, Notes};
 ghost use Rattle.fbsim_command.specs.Outcomes.{Held};
 ghost use Rattle.fbsim_command.specs.OwnLines.{EndsIn};
@@ -57,6 +57,32 @@ fn note_of_unread(alloc: Global, expect: &Expect<'_>, name: &str) -> Option<Stri
     note_of_rest(alloc, "trace", name)
 }
 
+/// The failure for which a trace is not held against rules.
+fn failure_of_trace(alloc: Global, name: &str, error: TraceError) -> Failure
+    ensures { IsTraceFailure name.now error result }
+{
+    match error {
+        TraceError::Refused(line) => refused_trace(alloc, name, line),
+        TraceError::Memory => Failure::Memory,
+        TraceError::Read => Failure::File,
+    }
+}
+
+/// The note to a trace that is not held against rules: one that can't be read to its end has one, where it is asked for.
+fn note_of_fault(
+    alloc: Global,
+    expect: &Expect<'_>,
+    name: &str,
+    error: &TraceError,
+) -> Option<String>
+    ensures { NotesTrace expect.now (option_map string_bytes result) }
+{
+    match error {
+        TraceError::Read => note_of_unread(alloc, expect, name),
+        _ => None,
+    }
+}
+
 /// Opens a trace, and holds all rules against it. Of a file that fails there is a note, where one is asked for.
 fn hold<S: Streams>(
     alloc: Global,
@@ -79,12 +105,10 @@ fn hold<S: Streams>(
     };
     match judge(alloc, rules, cut_of(expect), &mut trace) {
         Ok(judged) => Ok(judged),
-        Err(TraceError::Memory) => Err(Failure::Memory),
-        Err(TraceError::Read) => {
-            *note = note_of_unread(alloc, expect, name);
-            Err(Failure::File)
+        Err(error) => {
+            *note = note_of_fault(alloc, expect, name, &error);
+            Err(failure_of_trace(alloc, name, error))
         }
-        Err(TraceError::Refused(line)) => Err(refused_trace(alloc, name, line)),
     }
 }
 
@@ -408,7 +432,7 @@ fn compare<R: BufRead, T: BufRead, W: Write>(
     out: &mut W,
 ) -> (Result<Done, Failure>, Option<String>)
     ensures done { Differs diff.now (R.remaining first.old) (T.remaining second.old) (W.contents out.old) (W.contents out.new) result.0 }
-    ensures noted { NotesEither diff.now result.0 (option_map string_bytes result.1) }
+    ensures noted { NotesEither diff.now (record { first = R.remaining first.old; second = T.remaining second.old }) (record { first = R.remaining first.new; second = T.remaining second.new }) result.0 (option_map string_bytes result.1) }
 {
     let found = match part(alloc, diff.is_without_ticks, first, second) {
         Ok(found) => found,

@@ -1,6 +1,7 @@
 //! The files of the machine.
 
-ghost use Rattle.std.specs.Prelude.{◌≡◌, ◌≤◌, IfErr, IfOk, IfSome, false, take, vec_len};
+ghost use Rattle.std.specs.Prelude.{◌≡◌, ◌≤◌, Bool, IfErr, IfOk, IfSome, false, take, vec_len};
+ghost use Rattle.fbsim_command.specs.Files as spec;
 ghost use Rattle.std.specs.Io.Buffered.{reader_inner};
 
 use crate::sources::{Source, SourceFault, Streams};
@@ -33,15 +34,34 @@ impl<'r, R: rt::Files + Input> Files<'r, R> {
     }
 }
 
-/// Opens a file of the machine. A folder can be opened like one, and only reading it fails, so what it is comes first.
-fn open_file<R: rt::Files>(files: &R, name: &str) -> Result<R::File, SourceFault> {
+/// Whether a folder of the machine has this name.
+fn is_folder<R: rt::Files>(files: &R, name: &str) -> bool {
     match fs::metadata(files, name) {
-        Ok(metadata) if metadata.is_dir() => Err(SourceFault::Folder),
-        _ => match fs::open(files, name) {
-            Ok(file) => Ok(file),
-            Err(_) => Err(SourceFault::File),
-        },
+        Ok(metadata) => metadata.is_dir(),
+        Err(_) => false,
     }
+}
+
+/// Why a name is not opened as a file: it is that of a folder, or not.
+fn fault_of(is_folder: bool) -> SourceFault
+    ensures { result ≡ spec.fault_of is_folder }
+{
+    if is_folder {
+        SourceFault::Folder
+    } else {
+        SourceFault::File
+    }
+}
+
+/// Opens a file of the machine. A folder can be opened like one, and only reading it fails, so what it is comes first.
+fn open_file<R: rt::Files>(files: &R, name: &str) -> Result<R::File, SourceFault>
+    ensures { IfErr result (λ fault. (is_folder : Bool) × (fault ≡ spec.fault_of is_folder)) }
+{
+    let is_folder = is_folder(files, name);
+    if !is_folder && let Ok(file) = fs::open(files, name) {
+        return Ok(file);
+    }
+    Err(fault_of(is_folder))
 }
 
 /// The first bytes of a reader, at most `most` of them.

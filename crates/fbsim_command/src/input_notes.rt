@@ -58,7 +58,10 @@ fn note_at(
     let name = name_in(&refused.names, place.file)?;
     let bytes = bytes_in(refused.texts, place.file)?;
     match matter_at(alloc, refused.number, words, bytes, place.at) {
-        Ok(matter) => placed(alloc, name, place.at.line, place.at.column, matter.as_str()),
+        Ok(matter) => {
+            let column = place.at.column as u128;
+            placed(alloc, name, place.at.line, column, matter.as_str())
+        }
         Err(_) => None,
     }
 }

@@ -252,10 +252,10 @@ pub(crate) fn line_in_file(lines: &[FileLines], whole: usize) -> Option<FileLine
 
 impl FileLine {
     /// The column in the file of a column of this line in the whole text.
-    pub(crate) fn column(self, whole: usize) -> Option<usize>
-        ensures { IfSome result (λ column. column ≡ whole + self.mark) }
+    pub(crate) fn column(self, whole: usize) -> u128
+        ensures { result ≡ whole + self.mark }
     {
-        whole.checked_add(self.mark)
+        whole as u128 + self.mark as u128
     }
 }
 

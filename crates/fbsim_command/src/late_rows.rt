@@ -1,16 +1,16 @@
 //! Rows of stimuli that a run never comes to, which are reported after the run if that is asked for.
 
-ghost use Rattle.std.specs.Prelude.{◌≡◌, ◌++◌, ℕ, IfOk, IfSome, List, Option, length, string_bytes};
+ghost use Rattle.std.specs.Prelude.{◌≡◌, ◌++◌, ℕ, IfOk, IfSome, List, Option, length, option_map, string_bytes};
 ghost use Rattle.fb_sim.specs.Reports.{Hears};
 ghost use Rattle.fbsim_command.specs.LateRows as spec;
-ghost use Rattle.fbsim_command.specs.LateRows.{AsksHowMany, IsLateLine, ReportsRows};
+ghost use Rattle.fbsim_command.specs.LateRows.{AsksHowMany, ReportsRows, SaysLate};
 ghost use Rattle.fbsim_command.specs.Texts.{given_of};
 
 use crate::failure::Failure;
 use crate::lint::report_lines;
 use crate::statuses::Done;
 use crate::texts::Texts;
-use fb_inputs::read_stimuli;
+use fb_inputs::{InputError, read_stimuli};
 use fb_types::Stimulus;
 use fbsim_line::{Action, Task};
 use std::alloc::{AllocError, Global};
@@ -32,19 +32,17 @@ fn line_of(alloc: Global, horizon: u64, late: usize, rows: usize) -> Result<Stri
     )?)
 }
 
-/// The line about rows at or beyond the horizon, if there are such rows. Without memory for it there is none.
-fn late_line(alloc: Global, bytes: &[u8], horizon: u64) -> Option<String>
-    ensures { IfSome result (λ line. IsLateLine bytes.now horizon (string_bytes line)) }
+/// The line about rows at or beyond the horizon, if there are such rows.
+fn late_line(alloc: Global, bytes: &[u8], horizon: u64) -> Result<Option<String>, InputError>
+    ensures { IfOk result (λ line. SaysLate bytes.now horizon (option_map string_bytes line)) }
 {
-    let Ok(rows) = read_stimuli(alloc, bytes) else {
-        return None;
-    };
+    let rows = read_stimuli(alloc, bytes)?;
     let rows = rows.as_slice();
     let late = late_count(rows, horizon);
     if late == 0 {
-        return None;
+        return Ok(None);
     }
-    line_of(alloc, horizon, late, rows.len()).ok()
+    Ok(Some(line_of(alloc, horizon, late, rows.len())?))
 }
 
 /// The horizon of a run that took place, if it is asked how many rows it does not come to.
@@ -60,8 +58,9 @@ fn asked(task: &Task<'_>, end: &Result<Done, Failure>) -> Option<u64>
     }
 }
 
-/// Reports how many rows of the stimuli are at or beyond the horizon of a run, if that is asked for and there are such
-/// rows, after other reports, of which standard error took all or not. It says whether it took all of them and this one.
+/// Reports how many rows of the stimuli are at or beyond the horizon of a run, if that is asked for, there are such rows
+/// and memory is there, after other reports, of which standard error took all or not. It says whether it took all of
+/// them and this one.
 pub(crate) fn report_rows_after<E: Write>(
     alloc: Global,
     task: &Task<'_>,
@@ -80,7 +79,7 @@ pub(crate) fn report_rows_after<E: Write>(
         return true;
     };
     match late_line(alloc, bytes, horizon) {
-        Some(line) => report_lines(err, line.as_bytes()),
-        None => true,
+        Ok(Some(line)) => report_lines(err, line.as_bytes()),
+        _ => true,
     }
 }

@@ -87,7 +87,7 @@ fn placed_text(
     alloc: Global,
     name: &str,
     line: usize,
-    column: usize,
+    column: u128,
     matter: &str,
 ) -> Result<String, AllocError>
     ensures { IfOk result (λ text. string_bytes text ≡ spec.placed_text name.now line column matter.now) }
@@ -101,7 +101,7 @@ pub(crate) fn placed(
     alloc: Global,
     name: &str,
     line: usize,
-    column: usize,
+    column: u128,
     matter: &str,
 ) -> Option<String>
     ensures { IfSome result (λ note. IsPlacedText name.now line column (string_bytes note)) }
@@ -124,9 +124,8 @@ pub(crate) fn note_at(
     match line_in_file(lines, at.line) {
         Some(there) => {
             let name = file_name(types, own, there.file);
-            let column = there.column(at.column)?;
-            placed(alloc, name, there.line, column, matter)
+            placed(alloc, name, there.line, there.column(at.column), matter)
         }
-        None => placed(alloc, own, at.line, at.column, matter),
+        None => placed(alloc, own, at.line, at.column as u128, matter),
     }
 }

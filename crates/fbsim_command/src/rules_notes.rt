@@ -84,7 +84,7 @@ fn note_at_key(
             alloc,
             expect.rules,
             place.line,
-            place.column,
+            place.column as u128,
             matter.as_str(),
         ),
         Err(_) => None,

@@ -23,7 +23,7 @@ use fb_why::place_in_deployment;
 use std::alloc::{AllocError, Global};
 
 /// A file, a line and a column, as editors take them.
-fn place_text(alloc: Global, name: &str, line: usize, column: usize) -> Result<String, AllocError>
+fn place_text(alloc: Global, name: &str, line: usize, column: u128) -> Result<String, AllocError>
     ensures { IfOk result (λ text. string_bytes text ≡ place_text name.now line column) }
 {
     let name = shown_name(alloc, name)?;
@@ -41,12 +41,9 @@ fn place_in_files(
     match line_in_file(naming.lines, at.line) {
         Some(there) => {
             let name = file_name(naming.types, naming.own, there.file);
-            let Some(column) = there.column(at.column) else {
-                return Err(AllocError);
-            };
-            place_text(alloc, name, there.line, column)
+            place_text(alloc, name, there.line, there.column(at.column))
         }
-        None => place_text(alloc, naming.own, at.line, at.column),
+        None => place_text(alloc, naming.own, at.line, at.column as u128),
     }
 }
 
@@ -64,7 +61,7 @@ fn place_of_link(
     };
     let position = DeployPosition::Table(TableLocation::Link(link));
     match place_in_deployment(bytes, position) {
-        Some(at) => place_text(alloc, name, at.line, at.column),
+        Some(at) => place_text(alloc, name, at.line, at.column as u128),
         None => Ok(String::new(alloc)),
     }
 }
@@ -81,7 +78,7 @@ fn place_of_row(
     ensures { IfOk result (λ text. IsRowPlace (naming_of naming.now) (option_map (λ b. b.now) stimuli.entry) row (string_bytes text) ⊎ (string_bytes text ≡ [])) }
 {
     match (naming.stimuli, stimuli, at) {
-        (Some(name), Some(_), Some(at)) => place_text(alloc, name, at.line, at.column),
+        (Some(name), Some(_), Some(at)) => place_text(alloc, name, at.line, at.column as u128),
         _ => Ok(String::new(alloc)),
     }
 }

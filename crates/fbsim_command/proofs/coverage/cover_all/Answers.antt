@@ -1,7 +1,7 @@
-use Rattle.fbsim_command.proofs.lemmas.Common.{Bor, [], refl, Memory}
+use Rattle.fbsim_command.proofs.lemmas.Common.{Bor, [], arith, refl, Memory}
 use Rattle.clap.specs.Words.{Text}
 use Rattle.fbsim_command.specs.Covering.{AreStopped}
-use Rattle.fbsim_command.proofs.lemmas.calls.CoverageCalls.{gone-all, gone-more-of, stops-at-of}
+use Rattle.fbsim_command.proofs.lemmas.calls.CoverageCalls.{cut-rises, gone-all, gone-more-of, stops-at-of}
 use Rattle.fbsim_command.proofs.lemmas.rules.HeldRules.{passed-on}
 use Rattle.fbsim_command.proofs.coverage.cover_all.Goals as goal
 
@@ -10,13 +10,14 @@ returns-in_err-of-clause-stopped g c =
     passed-on c.from_residual.result Memory (AreStopped g.S.Streams.opens c.args.system.now c.args.coverage.now c.args.source.now c.args.source.now) c.from_residual.ensures.1 tt
 
 pub loop-name-init : goal.loop-name-init
-loop-name-init g c = ((refl, refl), λ noted. noted)
+loop-name-init g c = ((refl, refl), λ noted. noted, omega arith)
 
 pub loop-name-preserved : goal.loop-name-preserved
 loop-name-preserved g c = (
   gone-more-of g.S.Streams.opens c.args.system.now c.args.coverage.now (record { marks = c.in_ok-of.field-0; cut = 0 }) (c.in_ok-of.ensures, refl) c.deref-name-items.result.now c.loop-name.name-index _ c.args.source.now
       c.loop-name.source c.cover_one.new.source c.loop-name.gleaned _ c.deref-name-items.ensures.value c.loop-name-test.true c.loop-name.invariant.0 c.in_ok-gleaned.ensures.covered,
   λ noted. c.cover_one.ensures.noted (c.loop-name.invariant.1 noted),
+  cut-rises g.S.Streams.opens c.args.system.now c.args.coverage.now _ c.loop-name.source c.cover_one.new.source c.loop-name.gleaned _ c.loop-name.name-index c.in_ok-gleaned.ensures.covered c.loop-name.invariant.2,
 )
 
 pub returns-in_err-gleaned-clause-stopped : goal.returns-in_err-gleaned-clause-stopped

@@ -1,10 +1,11 @@
-use Rattle.std.proofs.Common.{map, option_map, string_bytes, take}
+use Rattle.std.proofs.Common.{◌≤◌, map, option_map, string_bytes, take}
 use Rattle.fbsim_command.specs.Covering.{GoThrough, NotesTrace}
 use Rattle.fbsim_command.proofs.lemmas.calls.CoverageCalls.{now}
 use Rattle.fbsim_command.proofs.coverage.cover_all.Given as goal
 
--- the first traces are gone through
+-- The first traces are gone through, and no more than these are cut off.
 abbrev pub invariant-loop-name : goal.invariant-loop-name
 invariant-loop-name g l =
     GoThrough g.S.Streams.opens l.system l.coverage (map now (take l.name-index l.coverage.traces.items)) l.fn.source l.source l.initial.gleaned l.gleaned
     × (NotesTrace l.coverage (option_map string_bytes l.fn.note) → NotesTrace l.coverage (option_map string_bytes l.note))
+    × (l.gleaned.cut ≤ l.name-index)

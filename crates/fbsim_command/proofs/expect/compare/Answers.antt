@@ -1,4 +1,5 @@
 use Rattle.std.proofs.Common.{option_map, string_bytes}
+use Rattle.fbsim_command.specs.Comparing.{Both}
 use Rattle.fbsim_command.proofs.lemmas.calls.DifferenceCalls.{noted_either, unread_by}
 use Rattle.fbsim_command.proofs.expect.compare.Goals as goal
 
@@ -8,7 +9,9 @@ returns-in-Err-clause-done g c =
 
 pub returns-in-Err-clause-noted : goal.returns-in-Err-clause-noted
 returns-in-Err-clause-noted g c =
-    noted_either c.args.diff.now c.in-Err.fault c.from.result (option_map string_bytes c.note_of_part-note.result) c.from.ensures c.note_of_part-note.ensures
+    let from : Both = record { first = g.R.Read.remaining c.args.first.now; second = g.T.Read.remaining c.args.second.now } in
+    let to : Both = record { first = g.R.Read.remaining c.part.new.first; second = g.T.Read.remaining c.part.new.second } in
+    noted_either c.args.diff.now from to c.in-Err.fault c.from.result (option_map string_bytes c.note_of_part-note.result) c.from.ensures c.in-Err.ensures.unread c.note_of_part-note.ensures
 
 pub returns-clause-done : goal.returns-clause-done
 returns-clause-done g c = c.show_parted-end.ensures _ _ c.in-Ok.ensures.parted

@@ -14,4 +14,12 @@ returns-in-Err-open g c =
 
 pub returns : goal.returns
 returns g c =
-    inl (record { between = c.open.new.self; first = _; second = _; first_opened = c.in-Ok.ensures; second_opened = c.in-Ok-open.ensures; done = c.compare.ensures.done }, c.compare.ensures.noted)
+    inl (record {
+      between = c.open.new.self;
+      both = record { first = _; second = _ };
+      left = record { first = _; second = _ };
+      first_opened = c.in-Ok.ensures;
+      second_opened = c.in-Ok-open.ensures;
+      done = c.compare.ensures.done;
+      noted = c.compare.ensures.noted;
+    })

@@ -1,6 +1,5 @@
-use Rattle.fbsim_command.proofs.lemmas.Common.{Err, ap, inr, string_bytes, subst, sym, ◌∙◌, IsUnheld, Failure}
-use Rattle.fb_expect.specs.declared.fault.TraceError.{TraceError}
-use Rattle.fbsim_command.proofs.lemmas.rules.HeldRules.{held-one, open-noted, refused-at, unopened}
+use Rattle.fbsim_command.proofs.lemmas.Common.{string_bytes, subst, sym, IsUnheld, Failure}
+use Rattle.fbsim_command.proofs.lemmas.rules.HeldRules.{failed-at, held-one, open-noted, unopened}
 use Rattle.fbsim_command.proofs.expect.hold.Goals as goal
 
 pub returns-in-Err-clause-unheld : goal.returns-in-Err-clause-unheld
@@ -16,10 +15,10 @@ returns-in-Ok-judge-clause-held g c =
     held-one g.S.Streams.opens c.args.expect.now c.args.rules.now c.args.source.now c.open.new.self c.args.name.now _ c.cut_of.result c.in-Ok-judge.judged.items c.cut_of.ensures
     c.in-Ok.ensures c.in-Ok-judge.ensures.judged
 
-pub returns-in-Err-Read-clause-unheld : goal.returns-in-Err-Read-clause-unheld
-returns-in-Err-Read-clause-unheld g c = inr (_, c.in-Ok.ensures)
-
 pub returns-clause-unheld : goal.returns-clause-unheld
 returns-clause-unheld g c =
-    refused-at g.S.Streams.opens c.args.expect.now c.cut_of.result c.args.source.now c.open.new.self c.args.name.now c.in-Err-Refused.line _ c.judge.result c.refused_trace.result c.in-Ok.ensures
-    c.cut_of.ensures (c.in-Err-Refused.is ∙ ap (λ (e : TraceError). Err e) c.in-Err-Refused.field-0-is) c.judge.ensures.refused c.refused_trace.ensures
+    failed-at g.S.Streams.opens c.args.expect.now c.cut_of.result c.args.source.now c.open.new.self c.args.name.now _ c.judge.result c.in-Err-judge.error c.failure_of_trace.result c.in-Ok.ensures
+    c.cut_of.ensures c.in-Err-judge.is c.judge.ensures.refused c.failure_of_trace.ensures
+
+pub returns-clause-noted : goal.returns-clause-noted
+returns-clause-noted g c = λ before. c.note_of_fault.ensures

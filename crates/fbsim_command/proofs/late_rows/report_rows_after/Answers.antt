@@ -9,20 +9,20 @@ returns-then-not-is_heard g c = ([], inl refl, nothing_more c.args.is_heard fals
 pub returns-in_default : goal.returns-in_default
 returns-in_default g c = ([], inl refl, nothing_more c.args.is_heard true (g.E.Write.contents c.args.err.now) c.if-not-is_heard.false)
 
-pub returns-in-Some : goal.returns-in-Some
-returns-in-Some g c = (
+pub returns-in-Ok-Some : goal.returns-in-Ok-Some
+returns-in-Ok-Some g c = (
   c.as_bytes.result.now,
   inr (record {
     horizon = c.in-Some-Some.horizon;
     asks = subst (λ (o : Option ℕ). IfSome o (AsksHowMany c.args.task.now c.args.end.now)) c.in-Some-Some.is-0 c.asked.ensures;
     bytes = c.in-Some-Some.bytes.now;
     given = sym c.rows.ensures ∙ ap (λ (o : Option (Bor (List ℕ))). option_map (λ (b : Bor (List ℕ)). b.now) o) c.in-Some-Some.is-1;
-    is = subst (λ (line : List ℕ). IsLateLine c.in-Some-Some.bytes.now c.in-Some-Some.horizon line) (sym c.as_bytes.ensures.value) c.in-Some.ensures;
+    is = subst (λ (line : List ℕ). IsLateLine c.in-Some-Some.bytes.now c.in-Some-Some.horizon line) (sym c.as_bytes.ensures.value) (rw c.in-Ok-Some.field-0-is at c.in-Ok-Some.ensures);
   }),
   λ (old : Held) (first : List ℕ) h.
       hears_after old (g.E.Write.contents c.args.err.now) (g.E.Write.contents c.report_lines.new.err) first c.as_bytes.result.now c.report_lines.result
       (subst (λ (b : Bool). Hears b old (g.E.Write.contents c.args.err.now) first) c.if-not-is_heard.false h) c.report_lines.ensures,
 )
 
-pub returns-in-None : goal.returns-in-None
-returns-in-None g c = ([], inl refl, nothing_more c.args.is_heard true (g.E.Write.contents c.args.err.now) c.if-not-is_heard.false)
+pub returns-in_default-late_line : goal.returns-in_default-late_line
+returns-in_default-late_line g c = ([], inl refl, nothing_more c.args.is_heard true (g.E.Write.contents c.args.err.now) c.if-not-is_heard.false)

@@ -1,12 +1,15 @@
 -- Traces that are gone through one after the other, and how the report of what they cover ends.
-use Rattle.fbsim_command.proofs.lemmas.Common.{◌≡◌, ◌<◌, ◌≤◌, ◌+◌, ◌⊎◌, ℕ, Bool, true, false, Bor, List, [], ◌∷◌, ◌++◌, drop, get_or, length, map, option_map, take, codes, Option, Some, None, Result, Ok, Err, refl, sym, ◌∙◌, ap, subst, inl, inr, Appends, IfErr, IfOk, IfSome, IsTrue, drop_more, map-append, take-append-drop, take_all, take_more, Inputs, system_of, IsErrAnd, Given, Declares, Cut, WritesPart, failure_of_source, Notes, NotesOf, End, Held, IsWrongIn, Opening, Failure, Refused, RefusedTrace, File, Write, Memory, Line, BadOption, SourceFault}
+use Rattle.fbsim_command.proofs.lemmas.Common.{◌≡◌, ◌<◌, ◌≤◌, ◌+◌, ◌⊎◌, ℕ, Bool, true, false, Bor, List, [], ◌∷◌, ◌++◌, drop, get_or, length, map, option_map, take, codes, Option, Some, None, Result, Ok, Err, refl, sym, ◌∙◌, ap, subst, inl, inr, arith, Appends, IfErr, IfOk, IfSome, IsTrue, drop_more, map-append, take-append-drop, take_all, take_more, Inputs, system_of, IsErrAnd, OfRefusal, Given, Declares, Cut, WritesPart, failure_of_source, Notes, NotesOf, End, Held, IsWrongIn, Opening, Failure, Refused, RefusedTrace, File, Write, Memory, Line, BadOption, SourceFault}
 use Rattle.fbsim_command.specs.Outcomes.{IsUndeclared}
 use Rattle.clap.specs.Words.{Text}
 use Rattle.fb_coverage.specs.Reports.{report_text}
 use Rattle.fb_coverage.specs.declared.marks.Marks.{Marks}
 use Rattle.fb_inspect.specs.Covering.{Covers}
+use Rattle.fb_inspect.specs.declared.error.InspectError.{InspectError}
+use Rattle.fb_inspect.specs.declared.error.InspectError.TheVariants as inspection
 use Rattle.fb_inspect.specs.declared.walk.Extent.{Extent}
-use Rattle.fbsim_command.specs.Covering.{AreGoneThrough, AreStopped, GoThrough, GoesThrough, IsFirst, IsReport, IsStopped, IsUnreported, NotesTrace, RefusesAt, StopsAt, WritesReport, are_several, cut_count, coverage_text, covered_by, cut_line, cut_of, files_of, is_too_little, note_front}
+use Rattle.fb_inspect.specs.declared.walk.Extent.TheVariants as extent
+use Rattle.fbsim_command.specs.Covering.{AreGoneThrough, AreStopped, GoThrough, GoesThrough, IsFirst, IsReport, IsStopped, IsTraceFailure, IsUnreported, NotesTrace, RefusesAt, StopsAt, WritesReport, are_several, cut_count, coverage_text, covered_by, cut_line, cut_of, files_of, is_too_little, note_front}
 use Rattle.fbsim_command.specs.InsideNotes.{SaysLine}
 use Rattle.fbsim_command.specs.Notes.{IsNoteOfName, rest_note}
 use Rattle.fbsim_line.specs.declared.coverage_line.Coverage.{Coverage}
@@ -56,12 +59,23 @@ refused-at opens wrong is_named from to name line trace BadOption is bad_line re
     never true bad = absurd bad
     never false bad = absurd bad
 
+-- the same for each error
+pub failed-at :
+    {S : Type 0} (opens : Opening S) (wrong : Held → ℕ → Type 0) (is_named : Bool) (from to : S) (name : Text) (trace : Held) (e : InspectError) (f : Failure) → opens from name (Ok trace) to → OfRefusal (wrong trace) e
+    → IsTraceFailure is_named name e f → IsStopped opens wrong is_named name from to f
+failed-at opens wrong is_named from to name trace (inspection.Refused line) f is bad reported = refused-at opens wrong is_named from to name line trace f is bad reported
+failed-at opens wrong is_named from to name trace inspection.Memory f is bad reported = subst (IsStopped opens wrong is_named name from to) (sym reported) tt
+failed-at opens wrong is_named from to name trace inspection.Read f is bad reported = subst (IsStopped opens wrong is_named name from to) (sym reported) (inr (trace, is))
+failed-at opens wrong is_named from to name trace (inspection.Write n) f is bad reported = subst (IsStopped opens wrong is_named name from to) (sym reported) tt
+failed-at opens wrong is_named from to name trace inspection.Names f is bad reported = absurd reported
+failed-at opens wrong is_named from to name trace inspection.Unknown f is bad reported = absurd reported
+
 -- it is gone through
 pub goes-through :
-    {S : Type 0} (opens : Opening S) (i : Inputs) (x : Coverage) (name : Text) (from to : S) (trace : Held) (may : Cut) (old : Gleaned) (marks last : Marks) (extent : Extent) (k n : ℕ) (new : Gleaned)
-    → opens from name (Ok trace) to → may ≡ cut_of x → marks ≡ old.marks → k ≡ old.cut → IfSome trace (λ text. Covers may i x.steps text marks last extent) → n ≡ cut_count extent k
-    → new.marks ≡ last → new.cut ≡ n → GoesThrough opens i x name from to old new
-goes-through opens i x name from to trace may old marks last extent k n new opened cuts first count covers counts ends counted_is = record {
+    {S : Type 0} (opens : Opening S) (i : Inputs) (x : Coverage) (name : Text) (from to : S) (trace : Held) (may : Cut) (old : Gleaned) (marks last : Marks) (extent : Extent) (k : ℕ) (new : Gleaned)
+    → opens from name (Ok trace) to → may ≡ cut_of x → marks ≡ old.marks → k ≡ old.cut → IfSome trace (λ text. Covers may i x.steps text marks last extent) → new.marks ≡ last
+    → new.cut ≡ cut_count extent k → GoesThrough opens i x name from to old new
+goes-through opens i x name from to trace may old marks last extent k new opened cuts first count covers ends counts = record {
   trace = trace;
   opened = opened;
   extent = extent;
@@ -69,22 +83,17 @@ goes-through opens i x name from to trace may old marks last extent k n new open
       subst (λ (m : Cut). IfSome trace (λ text. Covers m i x.steps text old.marks new.marks extent)) cuts
       (subst (λ (m : Marks). IfSome trace (λ text. Covers may i x.steps text m new.marks extent)) first
       (subst (λ (m : Marks). IfSome trace (λ text. Covers may i x.steps text marks m extent)) (sym ends) covers));
-  cuts = counted_is ∙ counts ∙ ap (cut_count extent) count;
+  cuts = counts ∙ ap (cut_count extent) count;
 }
 
--- a trace was gone through, unless memory ran out
-pub goes-on :
-    {S : Type 0} (opens : Opening S) (i : Inputs) (x : Coverage) (name : Text) (from to : S) (trace : Held) (may : Cut) (old : Gleaned) (marks last : Marks) (extent : Extent) (k : ℕ) (r : Result Gleaned Failure)
-    → opens from name (Ok trace) to → may ≡ cut_of x → marks ≡ old.marks → k ≡ old.cut → IfSome trace (λ text. Covers may i x.steps text marks last extent)
-    → IfOk r (λ g. (g.marks ≡ last) × (g.cut ≡ cut_count extent k)) → IfOk r (GoesThrough opens i x name from to old)
-goes-on opens i x name from to trace may old marks last extent k (Err f) opened cuts first count covers is = tt
-goes-on opens i x name from to trace may old marks last extent k (Ok new) opened cuts first count covers is =
-    goes-through opens i x name from to trace may old marks last extent k (cut_count extent k) new opened cuts first count covers refl is.0 is.1
+-- at most one more trace is cut off
+cut-by : (extent : Extent) (n k : ℕ) → n ≤ k → cut_count extent n ≤ k + 1
+cut-by extent.Whole n k few = omega (arith, few)
+cut-by extent.CutOff n k few = omega (arith, few)
 
-pub stops-for-memory :
-    {S : Type 0} (opens : Opening S) (wrong : Held → ℕ → Type 0) (is_named : Bool) (from to : S) (name : Text) (r : Result Gleaned Failure) → IfErr r (λ f. f ≡ Memory) → IfErr r (IsStopped opens wrong is_named name from to)
-stops-for-memory opens wrong is_named from to name (Ok g) is = tt
-stops-for-memory opens wrong is_named from to name (Err f) is = subst (IsStopped opens wrong is_named name from to) (sym is) tt
+pub cut-rises :
+    {S : Type 0} (opens : Opening S) (i : Inputs) (x : Coverage) (name : Text) (from to : S) (old new : Gleaned) (k : ℕ) → GoesThrough opens i x name from to old new → old.cut ≤ k → new.cut ≤ k + 1
+cut-rises opens i x name from to old new k gone few = subst (λ (n : ℕ). n ≤ k + 1) (sym gone.cuts) (cut-by gone.extent old.cut k few)
 
 -- ---- All traces
 

@@ -1,13 +1,13 @@
 -- Two traces that are compared.
 use Rattle.fbsim_command.proofs.lemmas.Common.{◌≡◌, Option, Some, None, Ok, Err, refl, sym, ap, subst, inr, codes, option_map, IsTrue, IfSome, Appends, IsErrAnd, WritesPart, failure_of_source, End, Held, Opening, Failure, Refused, RefusedTrace, File, Write, Memory, Line, BadOption, SourceFault}
 use Rattle.clap.specs.Words.{Text}
-use Rattle.fb_expect.specs.Parting.{MayPart}
+use Rattle.fb_expect.specs.Parting.{IsUnparted, MayPart}
 use Rattle.fb_expect.specs.DifferenceReport.{ShowsDifference}
 use Rattle.fb_expect.specs.declared.parting.Difference.{Difference}
 use Rattle.fb_expect.specs.declared.parting.PartFault.{PartFault}
 use Rattle.fb_expect.specs.declared.parting.PartFault.TheVariants as part_fault
 use Rattle.fbsim_command.specs.declared.statuses.Done.TheVariants.{Different}
-use Rattle.fbsim_command.specs.Comparing.{AreUnopened, Compares, Differs, IsReported, NotesEither, NotesUnread}
+use Rattle.fbsim_command.specs.Comparing.{AreUnopened, Both, Compares, Differs, IsReported, NotesEither, NotesUnread}
 use Rattle.fbsim_command.specs.Failures.{failure_of_part}
 use Rattle.fbsim_command.specs.Notes.{rest_note}
 use Rattle.fbsim_line.specs.declared.bench_line.Diff.{Diff}
@@ -27,9 +27,11 @@ pub unread_by : (d : Diff) (first second old : Held) (fault : PartFault) (f : Fa
 unread_by d first second old fault f same = subst (λ (g : Failure). Differs d first second old old (Err g)) (sym same) (unread d first second old fault)
 
 -- the note to it
-pub noted_either : (d : Diff) (fault : PartFault) (f : Failure) (note : Option Text) → f ≡ failure_of_part fault → NotesUnread d fault note → NotesEither d (Err f) note
-noted_either d fault f None same noted = tt
-noted_either d fault f (Some note) same noted = (fault, ap (λ (g : Failure). Err g) same, noted)
+pub noted_either :
+    (d : Diff) (from to : Both) (fault : PartFault) (f : Failure) (note : Option Text) → f ≡ failure_of_part fault → IsUnparted d.is_without_ticks from.first from.second to.first to.second fault
+    → NotesUnread d fault note → NotesEither d from to (Err f) note
+noted_either d from to fault f None same stands noted = tt
+noted_either d from to fault f (Some note) same stands noted = (fault, ap (λ (g : Failure). Err g) same, stands, noted)
 
 pub noted_first : {X : Type 0} (bytes : X → Text) (d : Diff) (o : Option X) → IsTrue d.why → IfSome o (λ n. bytes n ≡ rest_note (codes "trace") d.first.now) → NotesUnread d part_fault.First (option_map bytes o)
 noted_first bytes d None asked is = tt

@@ -86,13 +86,12 @@ wrong_so H L M W U (Err (inspection.Write n)) has is uncut = tt
 
 -- the line for which a walk refuses a trace is wrong
 pub wrong-covered :
-    {A : Type 0} (may : Cut) (i : Inputs) (steps : ℕ) (trace : Held) (r : Result A InspectError) (line : ℕ) → HasNames (system_of i) → r ≡ Err (inspection.Refused line)
+    {A : Type 0} (may : Cut) (i : Inputs) (steps : ℕ) (trace : Held) (r : Result A InspectError) (e : InspectError) → HasNames (system_of i) → r ≡ Err e
     → (HasNames (system_of i) → steps ≤ most → IfErr r (OfRefusal (λ n. IfSome trace (IsWrongAt (system_of i) steps n))))
-    → (HasNames (system_of i) → steps ≤ most → may ≡ cut.Allowed → IfErr r (OfRefusal (λ n. IfSome trace (IsUncut (system_of i) n)))) → IsWrongIn may i steps trace line
-wrong-covered {A} may i steps trace r line names is wrong uncut = λ few. (
-  subst (λ (s : Result A InspectError). IfErr s (OfRefusal (λ n. IfSome trace (IsWrongAt (system_of i) steps n)))) is (wrong names few),
-  λ allowed. subst (λ (s : Result A InspectError). IfErr s (OfRefusal (λ n. IfSome trace (IsUncut (system_of i) n)))) is (uncut names few allowed),
-)
+    → (HasNames (system_of i) → steps ≤ most → may ≡ cut.Allowed → IfErr r (OfRefusal (λ n. IfSome trace (IsUncut (system_of i) n)))) → OfRefusal (IsWrongIn may i steps trace) e
+wrong-covered {A} may i steps trace r e names is wrong uncut =
+    subst (λ (s : Result A InspectError). IfErr s (OfRefusal (IsWrongIn may i steps trace))) is
+    (wrong_so (HasNames (system_of i)) (steps ≤ most) (may ≡ cut.Allowed) (λ n. IfSome trace (IsWrongAt (system_of i) steps n)) (λ n. IfSome trace (IsUncut (system_of i) n)) r names wrong uncut)
 
 -- a walk of a system that has names does not end for them
 pub never_names : {A : Type 0} (H : Type 0) (r : Result A InspectError) → H → r ≡ Err inspection.Names → IfErr r (λ e. e ≡ inspection.Names → H → ⊥) → ⊥

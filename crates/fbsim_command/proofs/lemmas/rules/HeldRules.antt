@@ -12,7 +12,7 @@ use Rattle.fb_expect.specs.declared.judging.Cut.{Cut}
 use Rattle.fb_expect.specs.declared.judging.Judged.{Judged}
 use Rattle.fb_expect.specs.declared.rule.Rule.{Rule}
 use Rattle.fbsim_command.specs.Notes.{IsNoteOfName, Notes, rest_note}
-use Rattle.fbsim_command.specs.Expecting.{AreHeld, AreRules, ComesTo, IsHeld, IsRefusedAt, IsWrongLine, NotesTrace, Puts, PutsOne, Reports, all_well, cut_of, head_of, part_of, points_of, tail_of}
+use Rattle.fbsim_command.specs.Expecting.{AreHeld, AreRules, ComesTo, IsHeld, IsRefusedAt, IsTraceFailure, IsWrongLine, NotesTrace, Puts, PutsOne, Reports, all_well, cut_of, head_of, part_of, points_of, tail_of}
 use Rattle.fbsim_command.specs.Failures.{IsPartWritten}
 use Rattle.fbsim_command.specs.declared.sources.SourceFault.TheVariants as source
 use Rattle.fbsim_command.specs.declared.statuses.Done.TheVariants.{Met, Unmet}
@@ -67,6 +67,14 @@ refused-at {A = A} opens x cut old new name line trace r f is same refused wrong
     by (Write n) reported = absurd reported
     by (Line message) reported = absurd reported
     by BadOption reported = absurd reported
+
+-- the same for each error
+pub failed-at :
+    {A : Type 0} {S : Type 0} (opens : Opening S) (x : Expect) (cut : Cut) (old new : S) (name : Text) (trace : Held) (r : Result A TraceError) (e : TraceError) (f : Failure) → opens old name (Ok trace) new
+    → cut ≡ cut_of x → r ≡ Err e → IfErr r (IsRefusal cut trace) → IsTraceFailure name e f → IsUnheld opens x old new name f
+failed-at opens x cut old new name trace r (trace_error.Refused line) f is same refused wrong reported = refused-at opens x cut old new name line trace r f is same refused wrong reported
+failed-at opens x cut old new name trace r trace_error.Memory f is same refused wrong reported = subst (IsUnheld opens x old new name) (sym reported) tt
+failed-at opens x cut old new name trace r trace_error.Read f is same refused wrong reported = subst (IsUnheld opens x old new name) (sym reported) (inr (trace, is))
 
 -- it is held
 pub held-one :
