@@ -15,6 +15,7 @@ use Rattle.fb_inspect.specs.dump.Dumping as dumping
 use Rattle.fb_inspect.specs.dump.Heads as heads
 use Rattle.fb_inspect.specs.Inspections as inspections
 use Rattle.fb_inspect.specs.refused.LineFaults as line_faults
+use Rattle.fb_inspect.specs.refused.Messages as messages
 use Rattle.fb_inspect.specs.walk.Lines as lines
 use Rattle.fb_inspect.specs.walk.Looks as looks
 use Rattle.fb_inspect.specs.walk.Moves as moves
@@ -28,6 +29,7 @@ use Rattle.fb_inspect.specs.declared.error.InspectError.{InspectError}
 use Rattle.fb_inspect.specs.declared.walk.error.Refusal.{Refusal}
 use Rattle.fb_inspect.specs.declared.dump.before.Before.{Before}
 use Rattle.fb_inspect.specs.declared.walk.blocks.Remembered.{Remembered}
+use Rattle.fb_inspect.specs.declared.refused.finding.Finding.{Finding}
 use Rattle.fb_inspect.specs.declared.refused.line_fault.LineFault.{LineFault}
 use Rattle.fb_inspect.specs.declared.refused.line_fault.PortFault.{PortFault}
 use Rattle.fb_inspect.specs.declared.refused.line_fault.ValueFault.{ValueFault}
@@ -103,6 +105,12 @@ CanGoOn i = line_faults.CanGoOn (system_of i)
 
 abbrev pub Applies : Inputs → CurrentLine → LineFault → Type 0
 Applies i = line_faults.Applies (system_of i)
+
+abbrev pub finding_text : Inputs → Finding → List ℕ
+finding_text i = messages.finding_text (system_of i)
+
+abbrev pub fault_text : Inputs → (tick : ℕ) → LineFault → List ℕ
+fault_text i = messages.fault_text (system_of i)
 
 -- ---- Inspections
 

@@ -1,1 +1,2 @@
 pub mod LineFaults
+pub mod Messages

@@ -16,7 +16,8 @@
 //! - What `refused::line_finding::fault_of` returns is true of the line, of what was known before it, and of the system. For
 //!   example, no instance has the name that it returns. If it returns nothing, a trace of the system can go on with the
 //!   line.
-//! - No contract says the words of the texts.
+//! - `refused::line_words::line_message` and `refused::message::finding_message` return exactly the texts that the
+//!   definitions have of a fault and of a finding (`Messages`).
 //!
 //! Read in this order:
 //!

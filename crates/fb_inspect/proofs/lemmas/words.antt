@@ -3,3 +3,4 @@ pub mod LastMark
 pub mod PortWords
 pub mod BoundValues
 pub mod NamesApart
+pub mod Texts

@@ -1,98 +1,82 @@
-//! Texts that are composed of words, numbers and parts of a line.
+//! Pieces of texts: numbers, values, names, and parts of a line.
+
+ghost use Rattle.std.specs.Prelude.{◌≡◌, ◌<◌, ◌++◌, OnOk, decimal, string_bytes};
+ghost use Rattle.fb_types.specs.Text.{value_text};
+ghost use Rattle.fb_inspect.specs.refused.Messages as spec;
 
 use fb_types::Value;
-use std::alloc::{AllocError, Global};
+use std::alloc::AllocError;
 
 /// The most bytes of a part of a line that are shown.
 const MOST_SHOWN: usize = 60;
 
 /// The byte as it is shown: a question mark for all but printable ASCII characters.
-fn shown(byte: u8) -> u8 {
-    match byte {
-        b' '..=b'~' => byte,
-        _ => b'?',
+fn shown(byte: u8) -> u8
+    ensures is { result ≡ spec.shown_byte byte }
+    ensures ascii { result < 128 }
+{
+    if byte < b' ' || b'~' < byte {
+        b'?'
+    } else {
+        byte
     }
 }
 
-/// A growing text. If memory runs out for a part, it stops growing, and `into_string` reports it. So code that appends
-/// needs no check.
-#[derive(Drop)]
-pub(crate) struct LineText {
-    all: String,
-    /// `Ok` while there was memory for everything.
-    written: Result<(), AllocError>,
+/// Adds a number.
+pub(crate) fn put_number(text: &mut String, number: u64) -> Result<(), AllocError>
+    ensures { OnOk result (string_bytes text.new ≡ string_bytes text.old ++ decimal number) }
+{
+    write!(text, "{number}")
 }
 
-impl LineText {
-    /// An empty text.
-    pub(crate) fn new(alloc: Global) -> LineText {
-        LineText {
-            all: String::new(alloc),
-            written: Ok(()),
-        }
+/// Adds a value, as a trace has it.
+pub(crate) fn put_value(text: &mut String, value: Value) -> Result<(), AllocError>
+    ensures { OnOk result (string_bytes text.new ≡ string_bytes text.old ++ value_text value) }
+{
+    match value {
+        Value::Bool(true) => text.push_str("TRUE"),
+        Value::Bool(false) => text.push_str("FALSE"),
+        Value::Whole(number) => write!(text, "{number}"),
     }
+}
 
-    /// The finished text.
-    ///
-    /// # Errors
-    ///
-    /// If memory ran out on the way.
-    pub(crate) fn into_string(self) -> Result<String, AllocError> {
-        let LineText { all, written } = self;
-        written?;
-        Ok(all)
+/// Adds a name of the system, or a part of a line.
+pub(crate) fn put_shown(text: &mut String, bytes: &[u8]) -> Result<(), AllocError>
+    ensures { OnOk result (string_bytes text.new ≡ string_bytes text.old ++ spec.shown bytes.now) }
+{
+    for byte in bytes {
+        text.push(char::from(shown(*byte)))?;
     }
+    Ok(())
+}
 
-    /// Appends words.
-    pub(crate) fn words(&mut self, words: &str) {
-        if self.written.is_ok() {
-            self.written = self.all.push_str(words);
-        }
+/// Adds a part of a line between quotes, up to a limit.
+pub(crate) fn put_quoted(text: &mut String, part: &[u8]) -> Result<(), AllocError>
+    ensures { OnOk result (string_bytes text.new ≡ string_bytes text.old ++ spec.quoted part.now) }
+{
+    text.push_str("\"")?;
+    if part.len() > MOST_SHOWN {
+        let front = &part[..MOST_SHOWN];
+        put_shown(text, front)?;
+        text.push_str("\"..")
+    } else {
+        put_shown(text, part)?;
+        text.push_str("\"")
     }
+}
 
-    /// Appends words and a number.
-    pub(crate) fn numbered(&mut self, words: &str, number: u64) {
-        self.words(words);
-        if self.written.is_ok() {
-            self.written = write!(self.all, "{number}");
-        }
-    }
+/// Adds words, and a part of a line between quotes.
+pub(crate) fn put_unknown(text: &mut String, words: &str, part: &[u8]) -> Result<(), AllocError>
+    ensures { OnOk result (string_bytes text.new ≡ string_bytes text.old ++ (words.now ++ spec.quoted part.now)) }
+{
+    text.push_str(words)?;
+    put_quoted(text, part)
+}
 
-    /// Appends a value, as a trace has it.
-    pub(crate) fn value(&mut self, value: Value) {
-        match value {
-            Value::Bool(true) => self.words("TRUE"),
-            Value::Bool(false) => self.words("FALSE"),
-            Value::Whole(number) => {
-                if self.written.is_ok() {
-                    self.written = write!(self.all, "{number}");
-                }
-            }
-        }
-    }
-
-    /// Appends an ASCII character.
-    fn letter(&mut self, byte: u8) {
-        if self.written.is_ok() {
-            self.written = self.all.push(char::from(byte));
-        }
-    }
-
-    /// Appends a name of the system.
-    pub(crate) fn name(&mut self, name: &[u8]) {
-        for byte in name {
-            self.letter(shown(*byte));
-        }
-    }
-
-    /// Appends a part of a line between quotes, up to a limit.
-    pub(crate) fn quoted(&mut self, part: &[u8]) {
-        self.words("\"");
-        self.name(part.get(..MOST_SHOWN).unwrap_or(part));
-        self.words(if part.len() > MOST_SHOWN {
-            "\".."
-        } else {
-            "\""
-        });
-    }
+/// Adds a part of a line between quotes, and words.
+pub(crate) fn put_known(text: &mut String, part: &[u8], words: &str) -> Result<(), AllocError>
+    ensures { OnOk result (string_bytes text.new ≡ string_bytes text.old ++ (spec.quoted part.now ++ words.now)) }
+{
+    put_quoted(text, part)?;
+    text.push_str(words)
 }

@@ -1,13 +1,17 @@
 //! The texts that say what is wrong with a line of a trace.
 
+ghost use Rattle.std.specs.Prelude.{◌≡◌, ◌++◌, IfOk, OnOk, string_bytes};
+ghost use Rattle.fb_types.specs.Headline.{system_of};
+ghost use Rattle.fb_inspect.specs.OfSystem.{fault_text};
+ghost use Rattle.fb_inspect.specs.refused.Messages as spec;
+
 use crate::refused::fault_names::events_of;
-use crate::refused::fault_text::LineText;
+use crate::refused::fault_text::{put_known, put_number, put_quoted, put_shown, put_unknown};
 use crate::refused::fault_values::variables_of;
 use crate::refused::line_fault::{LineFault, PortFault, ValueFault};
 use fb_system::System;
-use fb_text::type_words;
 use fb_trace::Outcome;
-use fb_types::Variable;
+use fb_types::{EventPort, Ty, Variable};
 use fb_wave::{CurrentLine, Port};
 use std::alloc::{AllocError, Global};
 
@@ -20,78 +24,107 @@ pub fn line_message(
     system: &System,
     current: &CurrentLine,
     fault: LineFault<'_>,
-) -> Result<String, AllocError> {
-    let mut text = LineText::new(alloc);
+) -> Result<String, AllocError>
+    ensures { IfOk result (λ text. string_bytes text ≡ fault_text system.now current.now.tick fault.entry) }
+{
+    let mut text = String::new(alloc);
+    put_fault(&mut text, system, current.tick, fault)?;
+    Ok(text)
+}
+
+/// Adds what is wrong with a line, after the tick of the line before it.
+fn put_fault(
+    text: &mut String,
+    system: &System,
+    tick: u64,
+    fault: LineFault<'_>,
+) -> Result<(), AllocError>
+    ensures { OnOk result (string_bytes text.new ≡ string_bytes text.old ++ fault_text system.now tick fault.entry) }
+{
     match fault {
-        LineFault::AfterEnd => text.words("the trace has ended before it"),
-        LineFault::Missing => text.words("the trace has no last line"),
-        LineFault::Unended => text.words("it does not end in a line feed"),
-        LineFault::Early(Outcome::End(horizon)) => {
-            text.numbered("end ", horizon);
-            text.numbered(" is not after tick ", current.tick);
+        LineFault::AfterEnd => text.push_str("the trace has ended before it"),
+        LineFault::Missing => text.push_str("the trace has no last line"),
+        LineFault::Unended => text.push_str("it does not end in a line feed"),
+        LineFault::Early(end) => put_early(text, tick, end),
+        LineFault::NoEnd => text.push_str("it is no last line of this system"),
+        LineFault::Key => {
+            text.push_str("it does not begin with a class and two numbers of a key")
         }
-        LineFault::Early(Outcome::Stop(mark)) => {
-            text.numbered("a stop in tick ", mark.tick);
-            text.numbered(" comes after tick ", current.tick);
-        }
-        LineFault::NoEnd => text.words("it is no last line of this system"),
-        LineFault::Key => text.words("it does not begin with a class and two numbers of a key"),
-        LineFault::Tick => text.words("it does not begin with a tick"),
-        LineFault::Falls(tick) => {
-            text.numbered("tick ", tick);
-            text.numbered(" comes after tick ", current.tick);
-        }
-        LineFault::Port(fault) => push_port_fault(&mut text, system, fault),
+        LineFault::Tick => text.push_str("it does not begin with a tick"),
+        LineFault::Falls(now) => put_two_ticks(text, "tick ", now, " comes after tick ", tick),
+        LineFault::Port(fault) => put_port_fault(text, system, fault),
     }
-    text.into_string()
 }
 
-/// Adds words, and a part of a line between quotes.
-fn push_unknown(text: &mut LineText, words: &str, part: &[u8]) {
-    text.words(words);
-    text.quoted(part);
+/// Adds a tick after words, and another one after other words.
+fn put_two_ticks(
+    text: &mut String,
+    words: &str,
+    tick: u64,
+    more: &str,
+    other: u64,
+) -> Result<(), AllocError>
+    ensures { OnOk result (string_bytes text.new ≡ string_bytes text.old ++ spec.two_ticks words.now tick more.now other) }
+{
+    text.push_str(words)?;
+    put_number(text, tick)?;
+    text.push_str(more)?;
+    put_number(text, other)
 }
 
-/// Adds a part of a line between quotes, and words.
-fn push_known(text: &mut LineText, part: &[u8], words: &str) {
-    text.quoted(part);
-    text.words(words);
+/// Adds that an end may not come after a tick.
+fn put_early(text: &mut String, tick: u64, end: Outcome) -> Result<(), AllocError>
+    ensures { OnOk result (string_bytes text.new ≡ string_bytes text.old ++ spec.early_text tick end) }
+{
+    match end {
+        Outcome::End(horizon) => {
+            put_two_ticks(text, "end ", horizon, " is not after tick ", tick)
+        }
+        Outcome::Stop(mark) => {
+            put_two_ticks(
+                text,
+                "a stop in tick ",
+                mark.tick,
+                " comes after tick ",
+                tick,
+            )
+        }
+    }
 }
 
 /// Adds what is wrong after the tick of a line.
-fn push_port_fault(text: &mut LineText, system: &System, fault: PortFault<'_>) {
+fn put_port_fault(
+    text: &mut String,
+    system: &System,
+    fault: PortFault<'_>,
+) -> Result<(), AllocError>
+    ensures { OnOk result (string_bytes text.new ≡ string_bytes text.old ++ spec.port_fault_text (system_of system.now) fault.entry) }
+{
     match fault {
         PortFault::Short => {
-            text.words("after the tick come a resource, > or <, and an instance with an event");
+            text.push_str("after the tick come a resource, > or <, and an instance with an event")
         }
-        PortFault::Resource(name) => push_unknown(text, "there is no resource ", name),
-        PortFault::Sign(sign) => push_known(text, sign, " is neither > nor <"),
-        PortFault::NoEvent(word) => push_known(text, word, " is no instance with an event"),
-        PortFault::Instance(path) => push_unknown(text, "there is no instance ", path),
+        PortFault::Resource(name) => put_unknown(text, "there is no resource ", name),
+        PortFault::Sign(sign) => put_known(text, sign, " is neither > nor <"),
+        PortFault::NoEvent(word) => put_known(text, word, " is no instance with an event"),
+        PortFault::Instance(path) => put_unknown(text, "there is no instance ", path),
         PortFault::Event {
             instance,
             taken,
             name,
         } => {
-            push_instance(text, system, instance);
-            push_unknown(text, no_event_words(taken), name);
+            put_instance(text, system, instance)?;
+            put_unknown(text, no_event_words(taken), name)
         }
-        PortFault::Elsewhere(port) => {
-            push_instance(text, system, port.instance);
-            if (port.instance as usize) < system.count() {
-                let resource = system.resource(port.instance);
-                if resource < system.resources() {
-                    text.words(" is in resource ");
-                    text.name(system.resource_name(resource));
-                }
-            }
-        }
-        PortFault::Values(port, fault) => push_value_fault(text, system, port, fault),
+        PortFault::Elsewhere(port) => put_elsewhere(text, system, port.instance),
+        PortFault::Values(port, fault) => put_value_fault(text, system, port, fault),
     }
 }
 
-/// Adds that an instance has no such event.
-fn no_event_words(taken: bool) -> &'static str {
+/// What comes between an instance and the event that it does not have.
+fn no_event_words(taken: bool) -> &'static str
+    ensures { result.now ≡ spec.no_event_words taken }
+{
     if taken {
         " has no event input "
     } else {
@@ -100,48 +133,114 @@ fn no_event_words(taken: bool) -> &'static str {
 }
 
 /// Adds the path of an instance.
-fn push_instance(text: &mut LineText, system: &System, instance: u32) {
-    if (instance as usize) < system.count() {
-        text.words("instance ");
-        text.name(system.path(instance));
+fn put_instance(text: &mut String, system: &System, instance: u32) -> Result<(), AllocError>
+    ensures { OnOk result (string_bytes text.new ≡ string_bytes text.old ++ spec.instance_text (system_of system.now) instance) }
+{
+    if instance as usize >= system.count() {
+        return Ok(());
     }
+    text.push_str("instance ")?;
+    put_shown(text, system.path(instance))
+}
+
+/// Adds in which resource an instance is.
+fn put_elsewhere(text: &mut String, system: &System, instance: u32) -> Result<(), AllocError>
+    ensures { OnOk result (string_bytes text.new ≡ string_bytes text.old ++ spec.elsewhere_text (system_of system.now) instance) }
+{
+    if instance as usize >= system.count() {
+        return Ok(());
+    }
+    put_instance(text, system, instance)?;
+    let resource = system.resource(instance);
+    if resource >= system.resources() {
+        return Ok(());
+    }
+    text.push_str(" is in resource ")?;
+    put_shown(text, system.resource_name(resource))
 }
 
 /// Adds what is wrong with the values of a port.
-fn push_value_fault(text: &mut LineText, system: &System, port: Port, fault: ValueFault<'_>) {
+fn put_value_fault(
+    text: &mut String,
+    system: &System,
+    port: Port,
+    fault: ValueFault<'_>,
+) -> Result<(), AllocError>
+    ensures { OnOk result (string_bytes text.new ≡ string_bytes text.old ++ spec.value_fault_text (system_of system.now) port fault.entry) }
+{
     if port.instance as usize >= system.count() {
-        return;
+        return Ok(());
     }
     let ports = system.ports(port.instance);
     let variables = variables_of(ports, port.taken);
     match fault {
         ValueFault::Variable(name) => {
-            push_known(text, name, " is no variable WITH ");
-            if let Some(event) = events_of(ports, port.taken).get(port.event as usize) {
-                text.name(event.name.as_bytes());
-            }
+            put_known(text, name, " is no variable WITH ")?;
+            put_event(text, events_of(ports, port.taken), port.event)
         }
         ValueFault::Missing(index) => {
-            text.words("there is no value of ");
-            push_variable(text, variables, index);
+            text.push_str("there is no value of ")?;
+            put_variable(text, variables, index)
         }
         ValueFault::Value(index, value) => {
-            push_known(text, value, " is no value of ");
-            push_variable(text, variables, index);
+            put_known(text, value, " is no value of ")?;
+            put_variable(text, variables, index)
         }
         ValueFault::More(rest) => {
-            let shown = rest.strip_suffix(b"\n".as_slice()).unwrap_or(rest);
-            push_unknown(text, "after the event and its values comes ", shown);
+            text.push_str("after the event and its values comes ")?;
+            put_quoted(text, without_feed(rest))
         }
     }
 }
 
+/// A text without the line feed that it ends in, if it does.
+fn without_feed(text: &[u8]) -> &[u8]
+    ensures { result.now ≡ spec.without_feed text.now }
+{
+    match text.strip_suffix(b"\n".as_slice()) {
+        Some(front) => front,
+        None => text,
+    }
+}
+
+/// Adds the name of an event.
+fn put_event(text: &mut String, events: &[EventPort], event: u32) -> Result<(), AllocError>
+    ensures { OnOk result (string_bytes text.new ≡ string_bytes text.old ++ spec.event_text events.now event) }
+{
+    if event as usize >= events.len() {
+        return Ok(());
+    }
+    put_shown(text, events[event as usize].name.as_bytes())
+}
+
 /// Adds the name and the type of a variable.
-fn push_variable(text: &mut LineText, variables: &[Variable], index: u32) {
-    if let Some(variable) = variables.get(index as usize) {
-        text.name(variable.name.as_bytes());
-        text.words(" (");
-        text.words(type_words(variable.ty));
-        text.words(")");
+fn put_variable(text: &mut String, variables: &[Variable], index: u32) -> Result<(), AllocError>
+    ensures { OnOk result (string_bytes text.new ≡ string_bytes text.old ++ spec.variable_text variables.now index) }
+{
+    if index as usize >= variables.len() {
+        return Ok(());
+    }
+    let variable = &variables[index as usize];
+    put_shown(text, variable.name.as_bytes())?;
+    text.push_str(" (")?;
+    text.push_str(type_word(variable.ty))?;
+    text.push_str(")")
+}
+
+/// The keyword of a type.
+fn type_word(ty: Ty) -> &'static str
+    ensures { result.now ≡ spec.type_word ty }
+{
+    match ty {
+        Ty::Sint => "SINT",
+        Ty::Int => "INT",
+        Ty::Dint => "DINT",
+        Ty::Lint => "LINT",
+        Ty::Usint => "USINT",
+        Ty::Uint => "UINT",
+        Ty::Udint => "UDINT",
+        Ty::Ulint => "ULINT",
+        Ty::Time => "TIME",
+        Ty::Bool => "BOOL",
     }
 }

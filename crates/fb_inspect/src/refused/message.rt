@@ -1,38 +1,97 @@
 //! The texts that say why no run gives a line.
 
-use crate::refused::fault_text::LineText;
+ghost use Rattle.std.specs.Prelude.{◌≡◌, ◌<◌, ◌++◌, All, IfOk, OnOk, length, map, string_bytes};
+ghost use Rattle.fb_types.specs.Headline.{system_of};
+ghost use Rattle.fb_types.specs.Numbers.{pair_up};
+ghost use Rattle.fb_wave.specs.Reading.{name_at};
+ghost use Rattle.fb_inspect.specs.OfSystem.{finding_text};
+ghost use Rattle.fb_inspect.specs.refused.Messages as spec;
+
+use crate::refused::fault_text::{put_shown, put_value};
 use crate::refused::finding::{Finding, RefusedLine};
 use crate::walk::notes::word_of;
 use fb_system::System;
-use fb_types::{Emission, Ports};
+use fb_types::{Emission, Value, Variable};
 use std::alloc::{AllocError, Global};
 
-/// Adds the values of the variables WITH an event.
-fn push_values(text: &mut LineText, ports: &Ports, indexes: &[u32], emission: &Emission) {
-    let variables = ports.outputs.as_slice();
-    let values = emission.values.as_slice();
-    for index in 0..indexes.len().min(values.len()) {
-        if let Some(variable) = variables.get(indexes[index] as usize) {
-            text.words(" ");
-            text.name(variable.name.as_bytes());
-            text.words("=");
-            text.value(values[index]);
-        }
-    }
+/// Adds a value after the name of its variable.
+fn put_binding(text: &mut String, name: &[u8], value: Value) -> Result<(), AllocError>
+    ensures { OnOk result (string_bytes text.new ≡ string_bytes text.old ++ spec.binding_text name.now value) }
+{
+    text.push_str(" ")?;
+    put_shown(text, name)?;
+    text.push_str("=")?;
+    put_value(text, value)
 }
 
-/// Adds an event that an instance emits, as a line has it.
-fn push_emission(text: &mut LineText, system: &System, instance: u32, emission: &Emission) {
+/// Adds values, each with the name of the variable at its index.
+fn put_values(
+    text: &mut String,
+    variables: &[Variable],
+    indexes: &[u32],
+    values: &[Value],
+) -> Result<(), AllocError>
+    requires { All (λ k. k < length variables.now) indexes.now }
+    ensures { OnOk result (string_bytes text.new ≡ string_bytes text.old ++ spec.bindings_text (pair_up (map (name_at variables.now) indexes.now) values.now)) }
+{
+    for (index, value) in indexes.iter().zip(values) {
+        put_binding(text, variables[*index as usize].name.as_bytes(), *value)?;
+    }
+    Ok(())
+}
+
+/// Adds an event that an instance emits, as a line has it. Nothing is added of an instance or an event that the system
+/// does not have.
+fn put_emission(
+    text: &mut String,
+    system: &System,
+    instance: u32,
+    emission: &Emission,
+) -> Result<(), AllocError>
+    ensures { OnOk result (string_bytes text.new ≡ string_bytes text.old ++ spec.emission_text (system_of system.now) instance emission.now) }
+{
     if instance as usize >= system.count() {
-        return;
+        return Ok(());
     }
     let ports = system.ports(instance);
-    text.name(system.path(instance));
-    if let Some(event) = ports.event_outputs.as_slice().get(emission.event as usize) {
-        text.words(".");
-        text.name(event.name.as_bytes());
-        let indexes = system.outputs_with(instance, emission.event);
-        push_values(text, ports, indexes, emission);
+    let events = ports.event_outputs.as_slice();
+    put_shown(text, system.path(instance))?;
+    if emission.event as usize >= events.len() {
+        return Ok(());
+    }
+    text.push_str(".")?;
+    put_shown(text, events[emission.event as usize].name.as_bytes())?;
+    let indexes = system.outputs_with(instance, emission.event);
+    put_values(
+        text,
+        ports.outputs.as_slice(),
+        indexes,
+        emission.values.as_slice(),
+    )
+}
+
+/// Adds why no run gives a line.
+fn put_finding(text: &mut String, system: &System, finding: &Finding) -> Result<(), AllocError>
+    ensures { OnOk result (string_bytes text.new ≡ string_bytes text.old ++ finding_text system.now finding.now) }
+{
+    match finding {
+        Finding::Line => Ok(()),
+        Finding::Emits { instance, emission } => {
+            text.push_str("the reaction emits ")?;
+            put_emission(text, system, *instance, emission)?;
+            text.push_str(" here")
+        }
+        Finding::Unmade => text.push_str("the block does not emit this event here"),
+        Finding::NotDue => {
+            text.push_str("the timer of the block does not emit this event in this tick")
+        }
+        Finding::Late => text.push_str("no run has so late a tick"),
+        Finding::NoStep => text.push_str("the resource uses more steps in this tick than it has"),
+        Finding::Stops(reason) => {
+            text.push_str("the reaction stops the resource here: ")?;
+            put_shown(text, word_of(*reason))
+        }
+        Finding::Runs => text.push_str("nothing stops the resource here"),
     }
 }
 
@@ -45,26 +104,10 @@ pub fn finding_message(
     alloc: Global,
     system: &System,
     refused: &RefusedLine,
-) -> Result<String, AllocError> {
-    let mut text = LineText::new(alloc);
-    match &refused.finding {
-        Finding::Line => {}
-        Finding::Emits { instance, emission } => {
-            text.words("the reaction emits ");
-            push_emission(&mut text, system, *instance, emission);
-            text.words(" here");
-        }
-        Finding::Unmade => text.words("the block does not emit this event here"),
-        Finding::NotDue => {
-            text.words("the timer of the block does not emit this event in this tick");
-        }
-        Finding::Late => text.words("no run has so late a tick"),
-        Finding::NoStep => text.words("the resource uses more steps in this tick than it has"),
-        Finding::Stops(reason) => {
-            text.words("the reaction stops the resource here: ");
-            text.name(word_of(*reason));
-        }
-        Finding::Runs => text.words("nothing stops the resource here"),
-    }
-    text.into_string()
+) -> Result<String, AllocError>
+    ensures { IfOk result (λ text. string_bytes text ≡ finding_text system.now refused.now.finding) }
+{
+    let mut text = String::new(alloc);
+    put_finding(&mut text, system, &refused.finding)?;
+    Ok(text)
 }
