@@ -123,6 +123,11 @@ RefusedIsNoRun =
     (i : Inputs) → AreGood i → AreNarrow i.library.blocks → HasNames (system_of i) → (limit n : ℕ) (text : List ℕ) → limit ≤ most → IsWrongAt (system_of i) limit n text
     → (form : Form) (horizon : ℕ) (end : Ending) → 0 < horizon → horizon ≤ 10 ^ 12 → (trace : IsTrace i form horizon limit text end) → HaveRoom form (lines_of trace.takings) → ⊥
 
+-- A text that is accepted is wrong at no line, whatever the text is.
+abbrev pub AcceptedIsNotWrong : Type 0
+AcceptedIsNotWrong =
+    (i : Inputs) → AreAccepted i → HasNames (system_of i) → (steps n : ℕ) (text : List ℕ) → steps ≤ most → IsAccepted (system_of i) steps text → IsWrongAt (system_of i) steps n text → ⊥
+
 -- ---- Marks
 
 -- Marks of one trace after another are those of all their takings.

@@ -1,6 +1,6 @@
 //! Laws of the definitions, which callers may use.
 
-ghost use Rattle.fb_inspect.specs.Laws.{AddsUp, FewerSteps, MoreSteps, OneLine, OneRow, OneTaking, ReactionsAreTakings, RefusedIsNoRun, RunsAreTakings, RunsBegin, RunsGoOn, ShownAlike, SomeTaking, TracesAreAccepted, WholeOrCut};
+ghost use Rattle.fb_inspect.specs.Laws.{AcceptedIsNotWrong, AddsUp, FewerSteps, MoreSteps, OneLine, OneRow, OneTaking, ReactionsAreTakings, RefusedIsNoRun, RunsAreTakings, RunsBegin, RunsGoOn, ShownAlike, SomeTaking, TracesAreAccepted, WholeOrCut};
 
 /// For proofs: marks of one trace after another are exactly those of what the takings of all of them do.
 pub fn marks_add_up()
@@ -59,6 +59,11 @@ pub fn runs_are_walks()
 /// the program are.
 pub fn traces_are_accepted()
     ensures { TracesAreAccepted }
+{}
+
+/// A text that is accepted is wrong at no line, as `inspect` says where it refuses one, whatever the text is.
+pub fn accepted_is_not_wrong()
+    ensures { AcceptedIsNotWrong }
 {}
 
 /// No trace of a run is refused: a text that is wrong at a line, as `inspect` says where it refuses one, is the trace

@@ -16,3 +16,4 @@ pub mod GivenLines
 pub mod NotDue
 pub mod Totals
 pub mod ChartFailing
+pub mod LessReactions

@@ -13,3 +13,5 @@ pub mod Splits
 pub mod Rightly
 pub mod Wrongs
 pub mod NoRun
+pub mod LessSteps
+pub mod JudgedLast

@@ -1,4 +1,4 @@
--- No trace of a run is wrong at a line.
+-- No text that is accepted is wrong at a line.
 use Rattle.fb_inspect.proofs.lemmas.Common.{◌≡◌, ◌⊎◌, ◌≤◌, ℕ, List, [], ◌∷◌, ◌++◌, length, map, Some, None, All, refl, sym, ap, subst, ◌∙◌, inl, inr, append-nil, append_assoc, arith, take_through, append_cancel_left, map-append, All-append, All-cons, All-head, All-nil, All-tail, Emission, AreAccepted, Inputs, system_of, Each, line_of, path_at, AtHorizon, AtStop, Ending, System, last_line, lines_text, Key, Form, One, Two, Reason, Steps, Divide, Range, last_tick, IsEndOf, IsInRange, IsLineOf, IsTextOf, HasNames, RiseFrom, AreTakings, EndsBySteps, EndsSo, IsOwnLine, KeepSteps, KeepsLimit, NoneStops, RunsOut, all_lines, last_look, limited, IsTaking, Look, Taking, emission_line, left_at, most, opening_look, taking_lines, IsUnstarted, IsWrongAt, IsWrongLine, Finding, Refusal, steps_stop, MayEnd}
 use Rattle.fb_types.proofs.Common.{All-weaker}
 use Rattle.fb_types.specs.States.{Line}
@@ -12,7 +12,7 @@ use Rattle.fb_inspect.proofs.lemmas.lines.PlainKeys.{bare, shown}
 use Rattle.fb_inspect.proofs.lemmas.lines.LastLines.{not_divide, not_horizon, not_range, stop_once}
 use Rattle.fb_inspect.proofs.lemmas.reactions.OneTaking.{nothing, taking_one}
 use Rattle.fb_inspect.proofs.lemmas.runs.Rightly.{GoesRight, IsNearest, IsRowOf, StopsLast, StopsRight, each_at, steps_nearest}
-use Rattle.fb_inspect.proofs.lemmas.runs.ShownRows.{IsExactly, IsLike, after_shown, all_shown, at_shown, both_shown, chain_shown, ends_shown, exact_shown, first_shown, joined_shown, like, lines_shown, look_shown, no_takings, none_shown, one_shown, resource_shown, shown_lines, shown_taking, shown_takings, stop_shown, taken_shown, takings_shown, tick_shown, two_heads, unshown}
+use Rattle.fb_inspect.proofs.lemmas.runs.ShownRows.{IsLike, JudgesLast, after_shown, all_shown, at_shown, both_shown, chain_shown, ends_shown, exact_shown, first_shown, joined_shown, like, lines_shown, look_shown, no_takings, none_shown, one_shown, resource_shown, shown_lines, shown_taking, shown_takings, stop_shown, taken_shown, takings_shown, tick_shown, two_heads, unshown}
 use Rattle.fb_inspect.proofs.lemmas.runs.Splits.{IsBasic}
 use Rattle.fb_inspect.proofs.lemmas.runs.Wrongs.{begins_right, ends_right, goes_right, stops_right, too_many}
 
@@ -68,14 +68,14 @@ emissions_key first (e ∷ es) = (refl, emissions_key first es)
 no_first : (m : Line) (ms : List Line) → m ∷ ms ≡ [] → ⊥
 no_first m ms e = nothing m ms (sym e)
 
--- ---- A trace of a run
+-- ---- A text that is accepted
 
 no_lines_left : (f : run.Line → Line) (ls : List run.Line) → map f ls ≡ [] → ls ≡ []
 no_lines_left f [] e = refl
 no_lines_left f (l ∷ ls) e = absurd (no_first (f l) (map f ls) e)
 
 module _ (i : Inputs) (accepted : AreAccepted i) (names : HasNames (system_of i)) (limit : ℕ) (within : limit ≤ most) (text : List ℕ) (a : IsAccepted (system_of i) limit text)
-    (exact : IsExactly (system_of i) limit a.takings a.end a.ends) where
+    (exact : JudgesLast (system_of i) limit a.takings a.end a.ends) where
   abbrev sys : System
   sys = system_of i
 
@@ -122,24 +122,24 @@ module _ (i : Inputs) (accepted : AreAccepted i) (names : HasNames (system_of i)
       by [] none next = record { none = none; is = next.0; nothing_more = next.1 }
       by (m ∷ more) some next = absurd (line_not_last sys F m e next.line (sym next.is ∙ says))
 
-  -- where no line is left, the text has all lines of the run
+  -- where no line is left, the text has all lines of the takings
   none_left : (f : Form) (bs : List run.Line) (line rest : List ℕ) (al : Aligned f bs line rest) → al.back ≡ [] → all_lines rows ≡ shown_lines F (map (line_of sys) bs)
   none_left f bs line rest al none = lines_so f bs line rest al ∙ ap (λ (ls : List run.Line). shown_lines F (map (line_of sys) bs) ++ map view ls) none ∙ append-nil (shown_lines F (map (line_of sys) bs))
 
   -- ---- Ends
 
-  -- the run stops there for its steps, where the text says so
+  -- the trace stops there for its steps, where the text says so
   record IsStop : Type 0 where
     tick : ℕ
     resource : ℕ
     is : a.end ≡ AtStop tick resource Steps
     ends : EndsBySteps sys limit tick resource rows
-    apart : ends.limited_so.last ≡ [] → (front : List Taking) (z : Taking) → ends.limited_so.before ≡ front ++ z ∷ [] → z.first.key.tick ≡ tick → z.first.key.resource ≡ resource → ⊥
+    apart : ends.limited_so.last ≡ [] → (front : List Taking) (z : Taking) → ends.limited_so.before ≡ front ++ z ∷ [] → IsBasic sys z.first → z.first.key.tick ≡ tick → z.first.key.resource ≡ resource → ⊥
 
   stop_is : (k r : ℕ) → last_line sys (AtStop k r Steps) ≡ last_line sys a.end → IsStop
   stop_is k r e = by a.end refl row_ends (exact_shown sys limit F a.takings a.end a.ends exact) e
     where
-      by : (end : Ending) → a.end ≡ end → (ends : EndsSo sys limit rows end) → IsExactly sys limit rows end ends → last_line sys (AtStop k r Steps) ≡ last_line sys end → IsStop
+      by : (end : Ending) → a.end ≡ end → (ends : EndsSo sys limit rows end) → JudgesLast sys limit rows end ends → last_line sys (AtStop k r Steps) ≡ last_line sys end → IsStop
       by (AtHorizon h) is ends exact e = absurd (not_horizon sys k r Steps h e)
       by (AtStop j s Steps) is ends exact e = record { tick = j; resource = s; is = is; ends = ends; apart = exact }
       by (AtStop j s Divide) is ends exact e = absurd (not_divide sys k r j s e)
@@ -173,7 +173,7 @@ module _ (i : Inputs) (accepted : AreAccepted i) (names : HasNames (system_of i)
     look_is : last_look (opening_look sys) ahead ≡ here
     look_is = look_shown F (opening_look sys) ys
 
-    -- the lines of the run are those of the takings, those that were begun, and the rest
+    -- the lines of the trace are those of the takings, those that were begun, and the rest
     whole : all_lines rows ≡ all_lines ahead ++ (seen_begun ++ back)
     whole =
         lines_so f before line rest al ∙ ap (λ (ls : List Line). shown_lines F ls ++ back) taken ∙ ap (λ (ls : List Line). ls ++ back) (both_shown F (all_lines ys) begun)
@@ -194,7 +194,7 @@ module _ (i : Inputs) (accepted : AreAccepted i) (names : HasNames (system_of i)
         by [] e = formed e F m is
         by (b ∷ bs) e = al.forms b bs e
 
-    -- the next line of the run, if the line is one
+    -- the next line of the trace, if the line is one
     record IsNextLine (l : Line) (more : List Line) : Type 0 where
       number : run.Line
       text_is : IsTextOf sys F number line
@@ -215,7 +215,7 @@ module _ (i : Inputs) (accepted : AreAccepted i) (names : HasNames (system_of i)
         let found = like sys F line l n.number (sym n.is) n.text_is range in
         subst (λ (g : Form). IsLike sys g line l) (form_is n.number n.text_is) found
 
-    -- no line that the run goes on with is another one
+    -- no line that the trace goes on with is another one
     not_other : (l : Line) (more : List Line) → back ≡ shown F l ∷ more → IsInRange l.key → IsOther sys f line l → ⊥
     not_other l more e range other = let n = like_next l l more e range in other n.number n.text n.is
 

@@ -361,7 +361,7 @@ module _ (sys : System) (limit : ℕ) (within : limit ≤ most) (ys : List Takin
           cc
 
       pub steps_nearest :
-          (last ≡ [] → (front : List Taking) (z : Taking) → before ≡ front ++ z ∷ [] → z.first.key.tick ≡ t → z.first.key.resource ≡ r → ⊥) → first.key.tick ≡ t → first.key.resource ≡ r
+          (last ≡ [] → (front : List Taking) (z : Taking) → before ≡ front ++ z ∷ [] → IsBasic sys z.first → z.first.key.tick ≡ t → z.first.key.resource ≡ r → ⊥) → first.key.tick ≡ t → first.key.resource ≡ r
           → all_lines xs ≡ all_lines ys ++ first ∷ rows → IsNearest first rows
       steps_nearest apart tick resource e = by (parted (first ∷ rows) e)
         where
@@ -383,7 +383,7 @@ module _ (sys : System) (limit : ℕ) (within : limit ≤ most) (ys : List Takin
 
           -- the taking with the greatest limit is the last one of the row, which it can't be
           ended : (z : Taking) → before ≡ ys ++ z ∷ [] → z.first ≡ first → (ls : List Taking) → last ≡ ls → map (emission_line z.first) z.emits ++ all_lines last ≡ rows → ⊥
-          ended z whole is [] none lines = apart none ys z whole (ap (λ (l : Line). l.key.tick) is ∙ tick) (ap (λ (l : Line). l.key.resource) is ∙ resource)
+          ended z whole is [] none lines = apart none ys z whole (subst (IsBasic sys) (sym is) basic) (ap (λ (l : Line). l.key.tick) is ∙ tick) (ap (λ (l : Line). l.key.resource) is ∙ resource)
           ended z whole is (x ∷ ls) e lines =
               let is_x = is_last x ls e in
               let rest : map (emission_line z.first) z.emits ++ x.first ∷ (map (emission_line x.first) x.emits ++ []) ≡ rows =

@@ -16,7 +16,7 @@ use Rattle.fb_inspect.proofs.lemmas.runs.Followed.{IsExact, run_row}
 use Rattle.fb_inspect.proofs.lemmas.lines.LinesOfSystem.{IsLineThere, line_there}
 use Rattle.fb_inspect.proofs.lemmas.runs.RunGiven.{IsGivenTaking, run_given}
 use Rattle.fb_inspect.proofs.lemmas.runs.RunRises.{Rises, chain_end, chain_ends, chain_rises, last_is, last_of, rise_from}
-use Rattle.fb_inspect.proofs.lemmas.runs.ShownRows.{IsExactly, ends_shown, exact_shown}
+use Rattle.fb_inspect.proofs.lemmas.runs.ShownRows.{JudgesLast, ends_shown, exact_shown}
 use Rattle.fb_inspect.proofs.lemmas.reactions.EventPorts.{stimuli_there, targets_there}
 
 -- ---- Lines by numbers
@@ -40,8 +40,8 @@ lines_there sys (l ∷ ls) h =
 -- A text of lines of the system that are those of takings is accepted.
 accepted_by :
     (sys : System) (steps : ℕ) (form : Form) (text : List ℕ) (ls : List Line) (end : Ending) (takings : List Taking) → Each (IsLineThere sys) ls → Rises 0 ls → IsEndOf sys end
-    → EndsAfter (last_of 0 ls) end → text ≡ trace_text form sys ls end → all_lines takings ≡ ls → (ends : EndsSo sys steps takings end) → IsExactly sys steps takings end ends
-    → (a : IsAccepted sys steps text) × IsExactly sys steps a.takings a.end a.ends
+    → EndsAfter (last_of 0 ls) end → text ≡ trace_text form sys ls end → all_lines takings ≡ ls → (ends : EndsSo sys steps takings end) → JudgesLast sys steps takings end ends
+    → (a : IsAccepted sys steps text) × JudgesLast sys steps a.takings a.end a.ends
 accepted_by sys steps form text ls end takings each rises can after is lines ends exact =
     let there = lines_there sys ls each in (
       record {
@@ -115,7 +115,7 @@ module _ (i : Inputs) (good : AreGood i) (narrow : AreNarrow i.library.blocks) w
     takings : List Taking
     lines_are : all_lines takings ≡ lines
     ends : EndsSo sys limit takings (ending_of horizon ts)
-    exact : IsExactly sys limit takings (ending_of horizon ts) ends
+    exact : JudgesLast sys limit takings (ending_of horizon ts) ends
 
   module _ (horizon limit : ℕ) (some : 0 < horizon) (small : horizon ≤ 10 ^ 12) (within : limit ≤ most) (ts : List Taken) (is : IsSimulation sys (stimuli_of i) horizon limit ts) where
     given : Each (IsGivenTaking sys) ts
@@ -136,9 +136,9 @@ module _ (i : Inputs) (good : AreGood i) (narrow : AreNarrow i.library.blocks) w
     abbrev Row : Type 0
     Row = (takings : List Taking) × (all_lines takings ≡ lines_of ts) × (ends : EndsSo sys limit takings (ending_of horizon ts)) × IsExact sys limit within (targets_there i good.accepted) takings (ending_of horizon ts) ends
 
-    exact_is : (takings : List Taking) (end : Ending) (e : EndsSo sys limit takings end) → IsExact sys limit within (targets_there i good.accepted) takings end e → IsExactly sys limit takings end e
+    exact_is : (takings : List Taking) (end : Ending) (e : EndsSo sys limit takings end) → IsExact sys limit within (targets_there i good.accepted) takings end e → JudgesLast sys limit takings end e
     exact_is takings (AtHorizon h) e x = x
-    exact_is takings (AtStop t r Steps) e x = x
+    exact_is takings (AtStop t r Steps) e x = λ none front z parts basic tick resource. x none front z parts tick resource
     exact_is takings (AtStop t r Divide) e x = x
     exact_is takings (AtStop t r Range) e x = x
 
@@ -175,14 +175,9 @@ module _ (i : Inputs) (good : AreGood i) (narrow : AreNarrow i.library.blocks) w
   -- Each trace of a run is accepted, and its takings are those of the run.
   pub trace_exact :
       (form : Form) (horizon limit : ℕ) (bytes : List ℕ) (end : Ending) → 0 < horizon → horizon ≤ 10 ^ 12 → limit ≤ most → (trace : IsTrace i form horizon limit bytes end)
-      → HaveRoom form (lines_of trace.takings) → (a : IsAccepted sys limit bytes) × IsExactly sys limit a.takings a.end a.ends
+      → HaveRoom form (lines_of trace.takings) → (a : IsAccepted sys limit bytes) × JudgesLast sys limit a.takings a.end a.ends
   trace_exact form horizon limit bytes end some small within trace room =
       let ts = trace.takings in
       let run = run_in horizon limit some small within ts trace.simulation form room in
       accepted_by sys limit form bytes run.lines (ending_of horizon ts) run.takings run.there run.rises (chain_end sys limit horizon ts small trace.simulation.below (homes horizon limit some small within ts trace.simulation))
       run.after (trace.text ∙ ap (trace_text form sys (lines_of ts)) trace.ending ∙ run.text) run.lines_are run.ends run.exact
-
-  pub trace_accepted :
-      (form : Form) (horizon limit : ℕ) (bytes : List ℕ) (end : Ending) → 0 < horizon → horizon ≤ 10 ^ 12 → limit ≤ most → (trace : IsTrace i form horizon limit bytes end)
-      → HaveRoom form (lines_of trace.takings) → IsAccepted sys limit bytes
-  trace_accepted form horizon limit bytes end some small within trace room = (trace_exact form horizon limit bytes end some small within trace room).0

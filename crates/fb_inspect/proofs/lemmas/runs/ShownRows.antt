@@ -2,6 +2,7 @@
 use Rattle.fb_inspect.proofs.lemmas.Common.{◌≡◌, ◌<◌, ℕ, List, [], ◌∷◌, ◌++◌, length, map, refl, sym, ap, subst, ◌∙◌, map-append, line_of, AtHorizon, AtStop, Ending, System, line_text, Form, One, Two, Steps, Divide, Range, IsInRange, IsTextOf, AreTakings, EndsSo, NoneStops, all_lines, last_look, IsTaking, Look, Taking, taking_lines}
 use Rattle.fb_types.specs.States.{Line}
 use Rattle.fb_types.specs.declared.run.Line as run
+use Rattle.fb_inspect.proofs.lemmas.runs.Splits.{IsBasic}
 use Rattle.fb_inspect.proofs.lemmas.lines.PlainKeys.{are_bare, bare, bare_taking, ends_bare, lines_bare, look_bare, none_bare, shown, taking_bare, takings_bare}
 
 abbrev pub shown_lines : Form → List Line → List Line
@@ -136,13 +137,13 @@ unshown One (y ∷ ys) (x ∷ front) z e =
     let rest = unshown One ys front z h.1 in
     (y ∷ rest.0, rest.1, ap (λ (ts : List Taking). y ∷ ts) rest.2, rest.3)
 
--- Where no taking ends a row for its steps, its last taking is not of that resource in that tick.
-abbrev pub IsExactly : (sys : System) (limit : ℕ) (takings : List Taking) (end : Ending) → EndsSo sys limit takings end → Type 0
-IsExactly sys limit takings (AtHorizon h) e = Unit {0}
-IsExactly sys limit takings (AtStop t r Steps) e =
-    e.limited_so.last ≡ [] → (front : List Taking) (z : Taking) → e.limited_so.before ≡ front ++ z ∷ [] → z.first.key.tick ≡ t → z.first.key.resource ≡ r → ⊥
-IsExactly sys limit takings (AtStop t r Divide) e = Unit {0}
-IsExactly sys limit takings (AtStop t r Range) e = Unit {0}
+-- Where no taking ends a row for its steps, its last taking is of no basic block of that resource in that tick.
+abbrev pub JudgesLast : (sys : System) (limit : ℕ) (takings : List Taking) (end : Ending) → EndsSo sys limit takings end → Type 0
+JudgesLast sys limit takings (AtHorizon h) e = Unit {0}
+JudgesLast sys limit takings (AtStop t r Steps) e =
+    e.limited_so.last ≡ [] → (front : List Taking) (z : Taking) → e.limited_so.before ≡ front ++ z ∷ [] → IsBasic sys z.first → z.first.key.tick ≡ t → z.first.key.resource ≡ r → ⊥
+JudgesLast sys limit takings (AtStop t r Divide) e = Unit {0}
+JudgesLast sys limit takings (AtStop t r Range) e = Unit {0}
 
 abbrev pub ends_shown : (sys : System) (form : Form) (limit : ℕ) (takings : List Taking) (end : Ending) → EndsSo sys limit takings end → EndsSo sys limit (shown_takings form takings) end
 ends_shown sys One limit takings end e = ends_bare sys limit takings end e
@@ -153,13 +154,13 @@ no_takings Two xs e = e
 no_takings One [] e = refl
 no_takings One (x ∷ xs) e = absurd (let clash : bare_taking x ∷ map bare_taking xs ≡ [] = e in cc)
 
-pub exact_shown : (sys : System) (limit : ℕ) (form : Form) (takings : List Taking) (end : Ending) (e : EndsSo sys limit takings end) → IsExactly sys limit takings end e
-    → IsExactly sys limit (shown_takings form takings) end (ends_shown sys form limit takings end e)
+pub exact_shown : (sys : System) (limit : ℕ) (form : Form) (takings : List Taking) (end : Ending) (e : EndsSo sys limit takings end) → JudgesLast sys limit takings end e
+    → JudgesLast sys limit (shown_takings form takings) end (ends_shown sys form limit takings end e)
 exact_shown sys limit Two takings end e h = h
 exact_shown sys limit One takings (AtHorizon n) e h = tt
 exact_shown sys limit One takings (AtStop t r Steps) e h =
-    λ none front z parts tick resource.
+    λ none front z parts basic tick resource.
     let w = unshown One e.limited_so.before front z parts in
-    h (no_takings One e.limited_so.last none) w.0 w.1 w.2 (ap (λ (v : Taking). v.first.key.tick) w.3 ∙ tick) (ap (λ (v : Taking). v.first.key.resource) w.3 ∙ resource)
+    h (no_takings One e.limited_so.last none) w.0 w.1 w.2 (basic.0, ap (λ (v : Taking). sys.kind v.first.at) w.3 ∙ basic.1) (ap (λ (v : Taking). v.first.key.tick) w.3 ∙ tick) (ap (λ (v : Taking). v.first.key.resource) w.3 ∙ resource)
 exact_shown sys limit One takings (AtStop t r Divide) e h = tt
 exact_shown sys limit One takings (AtStop t r Range) e h = tt
