@@ -1,10 +1,10 @@
 -- Where a location is in the deployment or in the stimuli (this project's own).
-use Rattle.std.specs.Prelude.{◌≡◌, ◌⊎◌, ℕ, ◌+◌, ◌-◌, nat_lt, if◌then◌else◌, List, [], ◌∷◌, ◌++◌, codes, length, Option, Some, None, Ok, IfSome}
+use Rattle.std.specs.Prelude.{◌≡◌, ◌⊎◌, ℕ, ◌+◌, ◌-◌, nat_lt, if◌then◌else◌, List, [], ◌∷◌, length, Option, Some, None, Ok, MatchOption}
 use Rattle.fb_types.specs.declared.deploy.Plan.{Plan}
 use Rattle.fb_types.specs.declared.deploy.ResourceEntry.{ResourceEntry}
 use Rattle.fb_read.specs.declared.token.Span.{Span}
 use Rattle.fb_inputs.specs.Deployments.{deploy_of}
-use Rattle.fb_inputs.specs.NearSpans.{IsHeadingAt, IsNamedKeyAt, IsNearInStimuli}
+use Rattle.fb_inputs.specs.NearSpans.{IsNamedKeyAt, IsNearInStimuli}
 use Rattle.fb_inputs.specs.declared.deploy_location.DeployKey.{DeployKey}
 use Rattle.fb_inputs.specs.declared.deploy_location.DeployKey.TheVariants as key
 use Rattle.fb_inputs.specs.declared.deploy_location.DeployLocation.TheVariants as in_document
@@ -18,7 +18,7 @@ use Rattle.fb_inputs.specs.declared.position.DeployPosition.TheVariants as in_de
 use Rattle.fb_inputs.specs.declared.position.StimuliPosition.{StimuliPosition}
 use Rattle.fb_inputs.specs.declared.position.StimuliPosition.TheVariants as in_stimuli
 use Rattle.fb_why.specs.WrittenKeys.{IsWritten}
-use Rattle.fb_why.specs.InputStretches.{IsDeployPlace, IsStimuliPlace}
+use Rattle.fb_why.specs.InputStretches.{IsDeployOutside, IsDeployPlace, IsOutside, IsStimuliOutside, IsStimuliPlace}
 use Rattle.fb_check_names.specs.declared.location.Side.{Side}
 use Rattle.fb_check_names.specs.declared.location.Side.TheVariants as side
 use Rattle.fb_check_names.specs.declared.location.UnknownName.{UnknownName}
@@ -38,6 +38,7 @@ use Rattle.fb_why.specs.declared.location.FindingLocation.{FindingLocation}
 use Rattle.fb_why.specs.declared.location.FindingLocation.TheVariants as found
 use Rattle.fb_check_names.specs.declared.twice.GivenTwice.{GivenTwice}
 use Rattle.fb_check_names.specs.declared.twice.GivenTwice.TheVariants as given
+use Rattle.fb_check_names.specs.declared.location.NotMappedAt.{NotMappedAt}
 use Rattle.fb_check_names.specs.declared.location.NotMappedAt.TheVariants as not_mapped
 
 abbrev pub Text : Type 0
@@ -45,14 +46,10 @@ Text = List ℕ
 
 -- ---- Keys that a table may not have
 
--- The bytes are the two brackets that begin the heading of the first array of tables at a key of the document.
-abbrev pub IsArrayAt : Text → (key : Text) → Span → Type 0
-IsArrayAt text key span = IsHeadingAt text (codes "[[" ++ key ++ codes "]]") 0 span
-
--- The bytes are those of the key, or of the heading of an array of tables at this key of the document; in another form
--- they are those that TOML reads as the key.
+-- The bytes are those of the key. In another form than its name alone they are those that TOML reads as the key, or those of
+-- a heading that has it.
 abbrev pub IsKeyOrHeading : Text → TableLocation → (key : Text) → Span → Type 0
-IsKeyOrHeading text t key span = IsNamedKeyAt text t key span ⊎ (((t ≡ table.Top) × IsArrayAt text key span) ⊎ IsWritten text t key span)
+IsKeyOrHeading text t key span = IsNamedKeyAt text t key span ⊎ IsWritten text t key span
 
 -- The same for some key. That it is the first one which the table may not have is only tested.
 abbrev pub IsFurtherAt : Text → TableLocation → Span → Type 0
@@ -94,21 +91,14 @@ fault_position row (fault.Twice word) = in_stimuli.Word row word
 abbrev pub stimulus_position : StimulusLocation → StimuliPosition
 stimulus_position location = fault_position location.row location.fault
 
--- The position at which a location of the check is shown, if it is one in the deployment or in the stimuli. For a name
--- that is listed twice the deployment says where it is.
+-- The position at which a location of the check is shown, if it is one in the deployment or in the stimuli. For an instance
+-- that is not mapped the deployment says where it is.
 abbrev pub checked_position : Location → Option InputPosition
 checked_position (at.NameTwice what) = twice_position what
 checked_position (at.NameUnknown name) = unknown_position name
 checked_position (at.BadStimulus location) = Some (input.Stimuli (stimulus_position location))
 checked_position (at.OverLimit limit.Stimuli) = Some (input.Stimuli in_stimuli.Start)
 checked_position _ = None
-
--- the position at which a location is shown, if it is one in the deployment or in the stimuli
-abbrev pub position_of : FindingLocation → Option InputPosition
-position_of (found.Text place) = None
-position_of (found.Deployment location) = Some (input.Deployment (deploy_position location))
-position_of (found.Stimuli location) = Some (input.Stimuli (stimuli_position location))
-position_of (found.Check location) = checked_position location
 
 -- the position in the stimuli; for one elsewhere it is their beginning
 abbrev pub row_of : Option InputPosition → StimuliPosition
@@ -136,11 +126,41 @@ IsFurtherOf bytes t position = (span : Span) × IsFurtherAt bytes t span × (pos
 abbrev pub IsFurtherIn : (deploy : Option Text) → TableLocation → InputPosition → Type 0
 IsFurtherIn deploy t position = (bytes : Text) × (deploy ≡ Some bytes) × IsFurtherOf bytes t position
 
+-- the deployment has no name at the index in its lists
+abbrev pub IsNotListed : (deploy : Option Text) → (index : ℕ) → Type 0
+IsNotListed deploy index = (position : InputPosition) → IsListedIn deploy index position → ⊥
+
+-- An instance that is listed twice is shown at the later name, and one that is not listed nowhere.
+abbrev pub IsNotMappedPosition : (deploy : Option Text) → NotMappedAt → InputPosition → Type 0
+IsNotMappedPosition deploy (not_mapped.Again pair) position = IsListedIn deploy pair.1 position
+IsNotMappedPosition deploy (not_mapped.Unlisted i) position = ⊥
+
+abbrev pub HasNotMappedNone : (deploy : Option Text) → NotMappedAt → Type 0
+HasNotMappedNone deploy (not_mapped.Again pair) = IsNotListed deploy pair.1
+HasNotMappedNone deploy (not_mapped.Unlisted i) = Unit {0}
+
+abbrev pub IsCheckedPosition : (deploy : Option Text) → Location → InputPosition → Type 0
+IsCheckedPosition deploy (at.NotMapped p) position = IsNotMappedPosition deploy p position
+IsCheckedPosition deploy location position = checked_position location ≡ Some position
+
+abbrev pub HasCheckedNone : (deploy : Option Text) → Location → Type 0
+HasCheckedNone deploy (at.NotMapped p) = HasNotMappedNone deploy p
+HasCheckedNone deploy location = checked_position location ≡ None
+
 -- The location is shown at the position. A further key is shown at its table if it is not found.
 abbrev pub IsInputPosition : (deploy : Option Text) → FindingLocation → InputPosition → Type 0
-IsInputPosition deploy (found.Check (at.NotMapped (not_mapped.Again pair))) position = IsListedIn deploy pair.1 position
+IsInputPosition deploy (found.Text place) position = ⊥
+IsInputPosition deploy (found.Check location) position = IsCheckedPosition deploy location position
 IsInputPosition deploy (found.Deployment (in_document.Shape t why.Further)) position = IsFurtherIn deploy t position ⊎ (position ≡ begin_of t)
-IsInputPosition deploy location position = position_of location ≡ Some position
+IsInputPosition deploy (found.Deployment location) position = position ≡ input.Deployment (deploy_position location)
+IsInputPosition deploy (found.Stimuli location) position = position ≡ input.Stimuli (stimuli_position location)
+
+-- The location is shown at no position in the deployment or in the stimuli.
+abbrev pub HasNoInputPosition : (deploy : Option Text) → FindingLocation → Type 0
+HasNoInputPosition deploy (found.Text place) = Unit {0}
+HasNoInputPosition deploy (found.Check location) = HasCheckedNone deploy location
+HasNoInputPosition deploy (found.Deployment location) = ⊥
+HasNoInputPosition deploy (found.Stimuli location) = ⊥
 
 -- ---- Places
 
@@ -164,25 +184,36 @@ IsPlaceIn deploy stimuli (input.Deployment position) place = IsPlaceInDeploy dep
 IsPlaceIn deploy stimuli (input.Further span) place = IsPlaceOfBytes deploy span place
 IsPlaceIn deploy stimuli (input.Stimuli position) place = IsPlaceInRows stimuli position place
 
+-- A position has no place: the input is not given, or its bytes are not in the text.
+abbrev pub HasNoPlaceIn : (deploy stimuli : Option Text) → InputPosition → Type 0
+HasNoPlaceIn deploy stimuli (input.Deployment position) = (deploy ≡ None) ⊎ ((bytes : Text) × (deploy ≡ Some bytes) × IsDeployOutside bytes position)
+HasNoPlaceIn deploy stimuli (input.Further span) = (deploy ≡ None) ⊎ ((bytes : Text) × (deploy ≡ Some bytes) × IsOutside bytes span)
+HasNoPlaceIn deploy stimuli (input.Stimuli position) = (stimuli ≡ None) ⊎ ((bytes : Text) × (stimuli ≡ Some bytes) × IsStimuliOutside bytes position)
+
 -- The bytes are at the position, or near it, in the stimuli that are given.
 abbrev pub IsNearIn : (stimuli : Option Text) → StimuliPosition → Span → Type 0
 IsNearIn None position span = Unit {0}
 IsNearIn (Some bytes) position span = IsNearInStimuli bytes position span
 
--- The place, if there is one, is that of the position.
+-- The place is that of the position, and there is none only if the position has none.
 abbrev pub IsPlaceFor : (deploy stimuli : Option Text) → Option InputPosition → Option InputPlace → Type 0
 IsPlaceFor deploy stimuli None place = place ≡ None
-IsPlaceFor deploy stimuli (Some position) place = IfSome place (IsPlaceIn deploy stimuli position)
+IsPlaceFor deploy stimuli (Some position) place = MatchOption place (HasNoPlaceIn deploy stimuli position) (IsPlaceIn deploy stimuli position)
 
--- The finding is shown at the position, if there is one.
+-- The finding is shown at the position, and there is none only if it is shown at none.
 abbrev pub IsShownAt : (deploy : Option Text) → PlacedFinding → Option InputPosition → Type 0
-IsShownAt deploy x position = IfSome position (IsInputPosition deploy x.finding.location)
+IsShownAt deploy x position = MatchOption position (HasNoInputPosition deploy x.finding.location) (IsInputPosition deploy x.finding.location)
 
 -- The place is that of the position at which the location is shown.
 abbrev pub IsInputPlace : (deploy stimuli : Option Text) → FindingLocation → InputPlace → Type 0
 IsInputPlace deploy stimuli location place =
     (position : InputPosition) × IsInputPosition deploy location position × IsPlaceIn deploy stimuli position place
 
--- The place, if there is one, is that of the finding.
+-- The location is shown at no position in the deployment or in the stimuli, or this has no place.
+abbrev pub HasNoInputPlace : (deploy stimuli : Option Text) → FindingLocation → Type 0
+HasNoInputPlace deploy stimuli location =
+    HasNoInputPosition deploy location ⊎ ((position : InputPosition) × IsInputPosition deploy location position × HasNoPlaceIn deploy stimuli position)
+
+-- The place is that of the finding, and there is none only if the finding has none.
 abbrev pub IsPlaceOf : (deploy stimuli : Option Text) → PlacedFinding → Option InputPlace → Type 0
-IsPlaceOf deploy stimuli x place = IfSome place (IsInputPlace deploy stimuli x.finding.location)
+IsPlaceOf deploy stimuli x place = MatchOption place (HasNoInputPlace deploy stimuli x.finding.location) (IsInputPlace deploy stimuli x.finding.location)

@@ -1,5 +1,5 @@
 -- Keys of a deployment that are not written as their name alone (this project's own; TOML 1.1, "Keys").
-use Rattle.std.specs.Prelude.{◌≡◌, ◌⊎◌, ◌≤◌, ◌+◌, ℕ, List, [], ◌∷◌, codes, drop, length, slice_index, take, Option, Some, None}
+use Rattle.std.specs.Prelude.{◌≡◌, ◌⊎◌, ◌≤◌, ◌+◌, ℕ, List, [], ◌∷◌, codes, drop, length, slice_get, slice_index, take, Option, Some, None}
 use Rattle.toml_parser.specs.Reading.{key_view}
 use Rattle.toml_parser.specs.Strings as toml
 use Rattle.fb_read.specs.declared.token.Span.{Span}
@@ -41,9 +41,13 @@ pub record IsReadAt (text : Text) (key : toml.Key) (span : Span) : Type 0 where
   pub reads : toml.key line ≡ Some (key, rest)
   pub end : span.end + length rest ≡ span.start + length line
 
--- It is a key that begins with this name.
+-- An equals sign is there.
+abbrev pub IsGivenAt : Text → ℕ → Type 0
+IsGivenAt text at = slice_get text at ≡ Some 61
+
+-- It is a key that begins with this name, and an equals sign is after it.
 abbrev pub IsKeyNamed : Text → (name : Text) → Span → Type 0
-IsKeyNamed text name span = (key : toml.Key) × IsReadAt text key span × (first_part key ≡ name)
+IsKeyNamed text name span = (key : toml.Key) × IsReadAt text key span × (first_part key ≡ name) × IsGivenAt text span.end
 
 -- The bytes begin with a bracket, and end with a key that TOML reads.
 pub record IsHeadingRead (text : Text) (key : toml.Key) (span : Span) : Type 0 where
@@ -54,7 +58,7 @@ pub record IsHeadingRead (text : Text) (key : toml.Key) (span : Span) : Type 0 w
 -- What a line begins with is read there.
 abbrev pub IsOpening : Text → Opening → Type 0
 IsOpening text (opening.Heading heading) = IsHeadingRead text (key_view heading.key) heading.span
-IsOpening text (opening.Key key) = IsReadAt text (key_view key.key) key.span
+IsOpening text (opening.Key key) = IsReadAt text (key_view key.key) key.span × IsGivenAt text key.span.end
 IsOpening text opening.Other = Unit {0}
 
 -- ---- The keys of a table
@@ -79,8 +83,7 @@ IsOf t name (opening.Heading heading) span = (span ≡ heading.span) × IsInHead
 IsOf t name (opening.Key key) span = (span ≡ key.span) × (first_part (key_view key.key) ≡ name)
 IsOf t name opening.Other span = ⊥
 
--- TOML reads the key of the table in these bytes, or these are those of a heading that has it.
+-- TOML reads the key of the table in these bytes, and an equals sign is after them; or these are those of a heading that has
+-- the key.
 abbrev pub IsWritten : Text → TableLocation → (name : Text) → Span → Type 0
-IsWritten text t name span =
-    (key : toml.Key)
-    × ((IsReadAt text key span × (first_part key ≡ name)) ⊎ (IsHeadingRead text key span × IsInHeading t name key))
+IsWritten text t name span = IsKeyNamed text name span ⊎ ((key : toml.Key) × IsHeadingRead text key span × IsInHeading t name key)

@@ -1,12 +1,11 @@
 //! Keys that a table of a deployment may not have, and where they are.
 
 ghost use Rattle.std.specs.Prelude.{IfSome};
-ghost use Rattle.fb_why.specs.InputPlaces as spec;
 ghost use Rattle.fb_why.specs.InputPlaces.{IsFurtherAt, IsKeyOrHeading};
 
 use crate::inline::inline_span;
 use crate::written::written_span;
-use fb_inputs::{TableLocation, heading_span, named_key_span};
+use fb_inputs::{TableLocation, named_key_span};
 use fb_read::token::Span;
 use std::alloc::Global;
 use toml::{Table, Value};
@@ -60,31 +59,17 @@ pub(crate) fn item_at<'a>(keys: &'a Table, key: &str, index: usize) -> Option<&'
     }
 }
 
-/// The brackets of the heading of the first array of tables at a key of the document.
-fn array_span(alloc: Global, bytes: &[u8], key: &str) -> Option<Span>
-    ensures { IfSome result (spec.IsArrayAt bytes.now key.now) }
-{
-    match format!(in alloc; "[[{key}]]") {
-        Ok(heading) => heading_span(bytes, heading.as_bytes(), 0),
-        Err(_) => None,
-    }
-}
-
-/// A key of a table, or the heading of an array of tables at a key of the document. Where neither is written as its name
-/// alone, what TOML's reader takes for the key.
+/// A key of a table, or the heading of a table that is its value. Where the key is not written as its name alone, what
+/// TOML's reader takes for it.
 fn key_or_heading(alloc: Global, bytes: &[u8], table: TableLocation, key: &str) -> Option<Span>
     ensures { IfSome result (IsKeyOrHeading bytes.now table key.now) }
 {
-    match (named_key_span(bytes, table, key.as_bytes()), table) {
-        (Some(span), _) => Some(span),
-        (None, TableLocation::Top) => match array_span(alloc, bytes, key) {
-            Some(span) => Some(span),
-            None => written_span(alloc, bytes, table, key),
-        },
-        (None, _) => match written_span(alloc, bytes, table, key) {
-            Some(span) => Some(span),
-            None => inline_span(alloc, bytes, table, key),
-        },
+    if let Some(span) = named_key_span(bytes, table, key.as_bytes()) {
+        return Some(span);
+    }
+    match written_span(alloc, bytes, table, key) {
+        Some(span) => Some(span),
+        None => inline_span(alloc, bytes, table, key),
     }
 }
 

@@ -1,10 +1,10 @@
 //! Where a location is in the deployment or in the stimuli.
 
-ghost use Rattle.std.specs.Prelude.{◌≡◌, ◌⊎◌, IfOk, IfSome, map, option_map};
+ghost use Rattle.std.specs.Prelude.{◌≡◌, ◌⊎◌, IfOk, MatchOption, map, option_map};
 ghost use Rattle.std.specs.List.{AllZip};
 ghost use Rattle.fb_why.specs.InputPlaces as spec;
-ghost use Rattle.fb_why.specs.InputPlaces.{IsFurtherIn, IsFurtherOf, IsInputPosition, IsListedIn, IsNearIn, IsPlaceFor, IsPlaceOf, IsShownAt};
-ghost use Rattle.fb_why.specs.InputStretches.{IsDeployPlace};
+ghost use Rattle.fb_why.specs.InputPlaces.{HasCheckedNone, HasNoInputPosition, HasNotMappedNone, IsCheckedPosition, IsFurtherIn, IsFurtherOf, IsInputPosition, IsListedIn, IsNearIn, IsNotListed, IsNotMappedPosition, IsPlaceFor, IsPlaceOf, IsShownAt};
+ghost use Rattle.fb_why.specs.InputStretches.{IsDeployOutside, IsDeployPlace};
 
 use crate::further::further_span;
 use crate::location::FindingLocation;
@@ -48,7 +48,7 @@ pub enum InputPosition {
 
 /// The place of a position of a deployment: where its key or its table is, or else the beginning of the text.
 pub fn place_in_deployment(bytes: &[u8], position: DeployPosition) -> Option<Place>
-    ensures { IfSome result (IsDeployPlace bytes.now position) }
+    ensures { MatchOption result (IsDeployOutside bytes.now position) (IsDeployPlace bytes.now position) }
 {
     let span = nearest_in_deployment(bytes, position);
     place_between(bytes, span.start, span.end)
@@ -112,8 +112,8 @@ fn stimulus_position(location: StimulusLocation) -> StimuliPosition
     }
 }
 
-/// The position at which a location of the check is shown, if it is one in the deployment or in the stimuli. For a name
-/// that is listed twice the deployment says where it is.
+/// The position at which a location of the check is shown, if it is one in the deployment or in the stimuli. For an
+/// instance that is not mapped the deployment says where it is.
 fn checked_position(location: Location) -> Option<InputPosition>
     ensures { result ≡ spec.checked_position location }
 {
@@ -125,22 +125,6 @@ fn checked_position(location: Location) -> Option<InputPosition>
         }
         Location::OverLimit(Limit::Stimuli) => Some(InputPosition::Stimuli(StimuliPosition::Start)),
         _ => None,
-    }
-}
-
-/// The position at which a location is shown, if it is one in the deployment or in the stimuli.
-fn position_of(location: FindingLocation) -> Option<InputPosition>
-    ensures { result ≡ spec.position_of location }
-{
-    match location {
-        FindingLocation::Text(_) => None,
-        FindingLocation::Deployment(location) => {
-            Some(InputPosition::Deployment(deploy_position(location)))
-        }
-        FindingLocation::Stimuli(location) => {
-            Some(InputPosition::Stimuli(stimuli_position(location)))
-        }
-        FindingLocation::Check(location) => checked_position(location),
     }
 }
 
@@ -165,7 +149,7 @@ fn listed_in(
     deploy: Option<&[u8]>,
     index: usize,
 ) -> Result<Option<InputPosition>, AllocError>
-    ensures { IfOk result (λ o. IfSome o (IsListedIn (option_map (λ b. b.now) deploy.entry) index)) }
+    ensures { let given = option_map (λ b. b.now) deploy.entry in IfOk result (λ o. MatchOption o (IsNotListed given index) (IsListedIn given index)) }
 {
     let Some(bytes) = deploy else {
         return Ok(None);
@@ -197,25 +181,59 @@ fn further_position(alloc: Global, deploy: Option<&[u8]>, table: TableLocation) 
     }
 }
 
+/// The position of an instance that is not mapped, if a deployment lists it.
+fn not_mapped_in(
+    alloc: Global,
+    deploy: Option<&[u8]>,
+    not_mapped: NotMappedAt,
+) -> Result<Option<InputPosition>, AllocError>
+    ensures { let given = option_map (λ b. b.now) deploy.entry in IfOk result (λ o. MatchOption o (HasNotMappedNone given not_mapped) (IsNotMappedPosition given not_mapped)) }
+{
+    match not_mapped {
+        NotMappedAt::Again((_, index)) => listed_in(alloc, deploy, index),
+        NotMappedAt::Unlisted(_) => Ok(None),
+    }
+}
+
+/// The position at which a location of the check is shown, if it is one in the deployment or in the stimuli.
+fn checked_in(
+    alloc: Global,
+    deploy: Option<&[u8]>,
+    location: Location,
+) -> Result<Option<InputPosition>, AllocError>
+    ensures { let given = option_map (λ b. b.now) deploy.entry in IfOk result (λ o. MatchOption o (HasCheckedNone given location) (IsCheckedPosition given location)) }
+{
+    match location {
+        Location::NotMapped(not_mapped) => not_mapped_in(alloc, deploy, not_mapped),
+        _ => Ok(checked_position(location)),
+    }
+}
+
 /// The position at which a location is shown, if it is one in the deployment or in the stimuli.
 fn input_position(
     alloc: Global,
     deploy: Option<&[u8]>,
     location: FindingLocation,
 ) -> Result<Option<InputPosition>, AllocError>
-    ensures { IfOk result (λ o. IfSome o (IsInputPosition (option_map (λ b. b.now) deploy.entry) location)) }
+    ensures { let given = option_map (λ b. b.now) deploy.entry in IfOk result (λ o. MatchOption o (HasNoInputPosition given location) (IsInputPosition given location)) }
 {
     match location {
-        FindingLocation::Check(Location::NotMapped(NotMappedAt::Again((_, index)))) => {
-            listed_in(alloc, deploy, index)
-        }
+        FindingLocation::Check(location) => checked_in(alloc, deploy, location),
         FindingLocation::Deployment(
             DeployLocation::Shape {
                 table,
                 fault: TableFault::Further,
             },
         ) => Ok(Some(further_position(alloc, deploy, table))),
-        _ => Ok(position_of(location)),
+        FindingLocation::Deployment(location) => {
+            let position = deploy_position(location);
+            Ok(Some(InputPosition::Deployment(position)))
+        }
+        FindingLocation::Stimuli(location) => {
+            let position = stimuli_position(location);
+            Ok(Some(InputPosition::Stimuli(position)))
+        }
+        FindingLocation::Text(_) => Ok(None),
     }
 }
 

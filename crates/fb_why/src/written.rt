@@ -4,7 +4,7 @@
 ghost use Rattle.std.specs.Prelude.{◌≡◌, ◌≤◌, IfSome, IsTrue, length, option_map, slice_index};
 ghost use Rattle.toml_parser.specs.Reading.{key_view};
 ghost use Rattle.fb_why.specs.WrittenKeys as spec;
-ghost use Rattle.fb_why.specs.WrittenKeys.{IsFront, IsHeadingRead, IsInHeading, IsKeyNamed, IsOf, IsOpening, IsReadAt, IsWritten};
+ghost use Rattle.fb_why.specs.WrittenKeys.{IsFront, IsGivenAt, IsHeadingRead, IsInHeading, IsKeyNamed, IsOf, IsOpening, IsReadAt, IsWritten};
 
 use fb_inputs::TableLocation;
 use fb_read::token::Span;
@@ -104,13 +104,23 @@ fn key_at(alloc: Global, text: &[u8], at: usize) -> Option<WrittenKey>
     }
 }
 
+/// Whether an equals sign is at an offset.
+fn is_given(text: &[u8], at: usize) -> bool
+    ensures { IsTrue result → IsGivenAt text.now at }
+{
+    match text.get(at) {
+        Some(byte) => *byte == b'=',
+        None => false,
+    }
+}
+
 /// The bytes of the key at an offset, if it begins with this name.
 pub(crate) fn named_key_at(alloc: Global, text: &[u8], at: usize, name: &str) -> Option<Span>
     requires { at ≤ length text.now }
     ensures { IfSome result (IsKeyNamed text.now name.now) }
 {
     let WrittenKey { key, span } = key_at(alloc, text, at)?;
-    if first_part(&key) == name {
+    if is_given(text, span.end) && first_part(&key) == name {
         Some(span)
     } else {
         None
@@ -147,7 +157,11 @@ fn opening_at(alloc: Global, text: &[u8], at: usize) -> Opening
             None => Opening::Other,
         },
         None => match key_at(alloc, text, first) {
-            Some(key) => Opening::Key(key),
+            Some(key) => if is_given(text, key.span.end) {
+                Opening::Key(key)
+            } else {
+                Opening::Other
+            },
             None => Opening::Other,
         },
     }

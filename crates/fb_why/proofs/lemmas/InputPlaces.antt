@@ -1,5 +1,5 @@
 -- Places of findings in the deployment and in the stimuli.
-use Rattle.fb_types.proofs.Common.{◌≡◌, Bor, List, Option, Some, None, Result, Ok, Err, sym, subst, AllZip, IfOk, option_map, unwrap_or}
+use Rattle.fb_types.proofs.Common.{◌≡◌, Bor, List, Option, Some, None, Result, Ok, Err, sym, subst, AllZip, IfOk, inl, inr, option_map, unwrap_or}
 use Rattle.std.proofs.Common.{Vec}
 use Rattle.fb_read.specs.declared.token.Span.{Span}
 use Rattle.fb_inputs.specs.NearSpans.{IsNearInStimuli}
@@ -21,8 +21,8 @@ near_given (Some bytes) empty text rows spans is near = subst (λ (b : Bor Text)
 pub of_finding :
     (deploy stimuli : Option Text) (found : PlacedFinding) (position : Option InputPosition) (place : Option InputPlace) → IsShownAt deploy found position → IsPlaceFor deploy stimuli position place
     → IsPlaceOf deploy stimuli found place
-of_finding deploy stimuli found None place shown at = subst (λ (o : Option InputPlace). IsPlaceOf deploy stimuli found o) (sym at) tt
-of_finding deploy stimuli found (Some position) None shown at = tt
+of_finding deploy stimuli found None place shown at = subst (λ (o : Option InputPlace). IsPlaceOf deploy stimuli found o) (sym at) (inl shown)
+of_finding deploy stimuli found (Some position) None shown at = inr (position, shown, at)
 of_finding deploy stimuli found (Some position) (Some place) shown at = (position, shown, at)
 
 pub all_of_findings :
