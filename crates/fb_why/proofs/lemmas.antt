@@ -5,5 +5,7 @@ pub mod CheckedLocations
 pub mod PlacedFindings
 pub mod PairedLists
 pub mod InputPlaces
+pub mod UnfitOperands
 pub mod Mismatching
+pub mod TokenOrder
 pub mod Marking

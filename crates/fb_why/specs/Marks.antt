@@ -1,8 +1,8 @@
 -- Which tokens a wrong kind of an expression is marked at, and their place (this project's own).
-use Rattle.std.specs.Prelude.{◌≡◌, ℕ, ◌+◌, ◌-◌, Bool, true, false, List, drop, slice_get, Option, Some}
+use Rattle.std.specs.Prelude.{◌≡◌, ℕ, ◌+◌, ◌-◌, ◌<◌, Bool, true, false, List, drop, length, slice_get, Option, Some, None}
 use Rattle.fb_types.specs.Blocks.{types_of}
 use Rattle.fb_types.specs.Names.{Name}
-use Rattle.fb_types.specs.Syntax.{body_of, stmt_of}
+use Rattle.fb_types.specs.Syntax.{Stmt, body_of, stmt_of}
 use Rattle.fb_types.specs.declared.library.Algorithm.{Algorithm}
 use Rattle.fb_types.specs.declared.library.BasicType.{BasicType}
 use Rattle.fb_types.specs.declared.library.Library.{Library}
@@ -31,7 +31,7 @@ use Rattle.fb_read_positions.specs.Spans.{IsAt}
 use Rattle.fb_read_positions.specs.declared.places.Place.{Place}
 use Rattle.fb_read_positions.specs.declared.position.Position.{Position}
 use Rattle.fb_why.specs.Mismatches.{IsMarked}
-use Rattle.fb_why.specs.Positions.{position_of}
+use Rattle.fb_why.specs.Positions.{IsNowhereIf, position_of}
 use Rattle.fb_why.specs.Tokens.{next, past}
 use Rattle.fb_why.specs.declared.marks.TokenRange.{TokenRange}
 
@@ -52,6 +52,14 @@ pub data IsPartAt : read.Stmt → StatementPart → Expr → ℕ → Type 0 wher
 -- the start, the end or the step of a FOR
 abbrev pub IsBoundAt : Expr → Expr → Option Expr → StatementPart → Expr → ℕ → Type 0
 IsBoundAt a b c which e n = (v : Name) (body : List read.Stmt) → IsPartAt (read.For v a b c body) which e n
+
+-- no expression is this part of the statement
+abbrev pub IsNoPartOf : read.Stmt → StatementPart → Type 0
+IsNoPartOf statement which = (e : Expr) (n : ℕ) → IsPartAt statement which e n → ⊥
+
+-- a FOR has no such bound
+abbrev pub IsNoBound : Expr → Expr → Option Expr → StatementPart → Type 0
+IsNoBound a b c which = (v : Name) (body : List read.Stmt) → IsNoPartOf (read.For v a b c body) which
 
 -- ---- The expression that a location is about
 
@@ -98,6 +106,24 @@ IsExpressionOf lib (kind_wrong.Parameter s i p) t e n = ⊥
 IsExpressionOf lib (kind_wrong.Guard b k) t e n = IsGuard lib b k t e n
 IsExpressionOf lib (kind_wrong.Statement b a k which) t e n = IsPart lib b a k which t e n
 
+-- The library has no such transition, or it has no guard.
+abbrev pub HasNoGuard : Library → (b k : ℕ) → Type 0
+HasNoGuard lib b k = (t : BasicType) (transition : Transition) → basic_at lib b ≡ Some t → slice_get t.transitions k ≡ Some transition → transition.condition.guard ≡ None
+
+-- The algorithm has no such statement, or it is read from one that has no such part.
+abbrev pub HasNoPart : Algorithm → (k : ℕ) → StatementPart → Type 0
+HasNoPart algorithm k which =
+    (in_loop : Bool) (meaning : Stmt) → slice_get (each_in_body false (body_of algorithm.body)) k ≡ Some (in_loop, meaning)
+    → (statement : read.Stmt) × (stmt_of statement ≡ meaning) × IsNoPartOf statement which
+
+-- The library has no expression for the location to be about.
+abbrev pub HasNoExpression : Library → KindWrongAt → Type 0
+HasNoExpression lib (kind_wrong.Initial b list k) = Unit {0}
+HasNoExpression lib (kind_wrong.Parameter s i p) = Unit {0}
+HasNoExpression lib (kind_wrong.Guard b k) = HasNoGuard lib b k
+HasNoExpression lib (kind_wrong.Statement b a k which) =
+    (t : BasicType) (algorithm : Algorithm) → basic_at lib b ≡ Some t → slice_get t.algorithms a ≡ Some algorithm → HasNoPart algorithm k which
+
 -- ---- The tokens that are marked
 
 -- The tokens are those of what is marked in an expression.
@@ -135,19 +161,37 @@ abbrev pub IsRange : Library → Location → TokenRange → Type 0
 IsRange lib (at.KindWrong p) r = IsRangeOf lib p r
 IsRange lib _ r = ⊥
 
+-- no expression is marked at the location
+abbrev pub HasNoRange : Library → Location → Type 0
+HasNoRange lib (at.KindWrong p) = HasNoExpression lib p
+HasNoRange lib _ = Unit {0}
+
 -- ---- Their place
 
 -- the token at this index begins at the offset
 abbrev pub IsTokenAt : List Located → (offset index : ℕ) → Type 0
 IsTokenAt tokens offset index = (t : Located) × (slice_get tokens index ≡ Some t) × (t.index ≡ offset)
 
+-- no token begins at the offset
+abbrev pub IsNoToken : List Located → (offset : ℕ) → Type 0
+IsNoToken tokens offset = (index : ℕ) → IsTokenAt tokens offset index → ⊥
+
+-- The bytes are those of the token at an index.
+pub record IsTokenOf (text : Text) (tokens : List Located) (index start end : ℕ) : Type 0 where
+  pub within : index < length tokens
+  pub next : IsNext (drop index tokens) text start end
+
 -- The place is that of these tokens, counted from the token at an index, with the line and the column of the first.
 pub record IsAmong (text : Text) (tokens : List Located) (begin : ℕ) (r : TokenRange) (place : Place) : Type 0 where
   pub first_end : ℕ
-  pub first : IsNext (drop (begin + r.first) tokens) text place.start first_end
+  pub first : IsTokenOf text tokens (begin + r.first) place.start first_end
   pub last_start : ℕ
-  pub last : IsNext (drop (begin + (r.end - 1)) tokens) text last_start place.end
+  pub last : IsTokenOf text tokens (begin + (r.end - 1)) last_start place.end
   pub placed : IsPlace text place
+
+-- no place is that of these tokens
+abbrev pub IsNoneAmong : Text → List Located → (begin : ℕ) → TokenRange → Type 0
+IsNoneAmong text tokens begin r = (place : Place) → IsAmong text tokens begin r place → ⊥
 
 -- The place is that of these tokens, counted from the token at the position.
 pub record IsRangePlace (text : Text) (library : Library) (position : Position) (r : TokenRange) (place : Place) : Type 0 where
@@ -168,3 +212,18 @@ pub record IsMarkedPlace (text : Text) (location : Location) (place : Place) : T
   pub range : TokenRange
   pub range_is : IsRange library location range
   pub placed : IsRangePlace text library position range place
+
+-- Nothing of the text is marked at the location of a library: nothing is at its position, or it is about no expression of
+-- the library, or the text has not all tokens of what is marked, counted from the token at the position.
+pub data IsUnmarkedIn (text : Text) (library : Library) (location : Location) : Type 0 where
+  nothing_there : IsNowhereIf text library (position_of library location) → IsUnmarkedIn text library location
+  no_expression : HasNoRange library location → IsUnmarkedIn text library location
+  no_tokens : (range : TokenRange) → IsRange library location range
+      → ((position : Position) (place : Place) → position_of library location ≡ Some position → IsRangePlace text library position range place → ⊥)
+      → IsUnmarkedIn text library location
+
+-- The text declares a library, and nothing of it is marked at the location.
+pub record IsUnmarked (text : Text) (location : Location) : Type 0 where
+  pub library : Library
+  pub read : IsLibraryText text library
+  pub unmarked : IsUnmarkedIn text library location

@@ -1,6 +1,8 @@
 -- The position of the declaration at which a location is shown (this project's own).
 use Rattle.std.specs.Prelude.{Option, Some, None}
 use Rattle.fb_types.specs.declared.library.Library.{Library}
+use Rattle.fb_read.specs.Blank.{Text}
+use Rattle.fb_read_positions.specs.Spans.{IsNowhere}
 use Rattle.fb_check_names.specs.declared.location.TwoSourcesAt.{TwoSourcesAt}
 use Rattle.fb_check_names.specs.declared.location.Site.TheVariants as site
 use Rattle.fb_check.specs.declared.location.Limit.{Limit}
@@ -32,3 +34,8 @@ position_of lib (at.NoLink p) = Some (no_link_position p)
 position_of lib (at.NoEvent connection) = Some (data_position site.Application connection)
 position_of lib (at.OverLimit p) = limit_position p
 position_of lib (at.BadStimulus p) = None
+
+-- nothing is at the position, if one is given
+abbrev pub IsNowhereIf : Text → Library → Option Position → Type 0
+IsNowhereIf text library None = Unit {0}
+IsNowhereIf text library (Some position) = IsNowhere text library position

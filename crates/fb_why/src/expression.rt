@@ -1,8 +1,8 @@
 //! The expressions of a statement.
 
-ghost use Rattle.std.specs.Prelude.{◌≡◌, IfSome, slice_get, Some};
+ghost use Rattle.std.specs.Prelude.{◌≡◌, MatchOption, None, slice_get, Some};
 ghost use Rattle.fb_types.specs.declared.text.Choice.{Choice, out-Choice};
-ghost use Rattle.fb_why.specs.Marks.{IsBoundAt, IsPartAt};
+ghost use Rattle.fb_why.specs.Marks.{IsBoundAt, IsNoBound, IsNoPartOf, IsPartAt};
 
 use crate::tokens::{next, past};
 use fb_check_names::StatementPart;
@@ -17,7 +17,7 @@ pub(crate) struct Counted<'a> {
 
 /// The condition at an index of an IF.
 fn condition_at(choices: &[Choice], index: usize) -> Option<&Expr>
-    ensures { IfSome result (λ e. (c : Choice) × (slice_get choices.now index ≡ Some c) × (e.now ≡ (out-Choice c).condition)) }
+    ensures { MatchOption result (slice_get choices.now index ≡ None) (λ e. (c : Choice) × (slice_get choices.now index ≡ Some c) × (e.now ≡ (out-Choice c).condition)) }
 {
     match choices.get(index) {
         Some(choice) => Some(&choice.condition),
@@ -32,7 +32,7 @@ fn bound_of<'a>(
     step: &'a Option<Expr>,
     part: StatementPart,
 ) -> Option<Counted<'a>>
-    ensures { IfSome result (λ x. IsBoundAt start.now end.now step.now part x.expr.now x.first) }
+    ensures { MatchOption result (IsNoBound start.now end.now step.now part) (λ x. IsBoundAt start.now end.now step.now part x.expr.now x.first) }
 {
     let second = next(past(start, 3));
     match part {
@@ -57,7 +57,7 @@ fn bound_of<'a>(
 
 /// The expression that is a part of a statement.
 pub(crate) fn expression_of<'a>(stmt: &'a Stmt, part: StatementPart) -> Option<Counted<'a>>
-    ensures { IfSome result (λ x. IsPartAt stmt.now part x.expr.now x.first) }
+    ensures { MatchOption result (IsNoPartOf stmt.now part) (λ x. IsPartAt stmt.now part x.expr.now x.first) }
 {
     match stmt {
         Stmt::Empty | Stmt::Exit | Stmt::Return => None,

@@ -1,15 +1,15 @@
 //! Where a wrong kind of an expression is marked in the text: at the operand that does not fit.
 
-ghost use Rattle.std.specs.Prelude.{◌≡◌, ◌≤◌, ◌-◌, ◌+◌, IfOk, IfSome, Some, drop, length, map};
+ghost use Rattle.std.specs.Prelude.{◌≡◌, ◌≤◌, ◌-◌, ◌+◌, IfOk, MatchOption, None, Some, length, map};
 ghost use Rattle.std.specs.List.{AllZip, list_any};
+ghost use Rattle.std.specs.List.Sorted.{IsNonDecreasingBy};
 ghost use Rattle.fb_check_names.specs.Sites.{basic_at};
 ghost use Rattle.fb_read.specs.Located.{AreLocated};
-ghost use Rattle.fb_read.specs.Refusals.{IsNext};
 ghost use Rattle.fb_read.specs.Tokens.{after_mark};
 ghost use Rattle.fb_read.specs.Whole.{IsLibraryText, most_bytes};
 ghost use Rattle.fb_read_positions.specs.Places.{IsPlace, IsPlaceFor};
 ghost use Rattle.fb_why.specs.Marks as spec;
-ghost use Rattle.fb_why.specs.Marks.{IsAmong, IsGuardRange, IsMarkedPlace, IsPartRange, IsRange, IsRangeIn, IsRangeOf, IsTokenAt};
+ghost use Rattle.fb_why.specs.Marks.{HasNoExpression, HasNoGuard, HasNoPart, HasNoRange, IsAmong, IsGuardRange, IsMarkedPlace, IsNoToken, IsNoneAmong, IsPartRange, IsRange, IsRangeIn, IsRangeOf, IsTokenAt, IsTokenOf, IsUnmarked};
 ghost use Rattle.fb_why.specs.Places.{IsCheckedPlaceIf};
 ghost use Rattle.fb_why.specs.Positions.{position_of};
 
@@ -74,7 +74,7 @@ fn range_in(basic: &BasicType, expr: &Expr, first: usize) -> TokenRange
 
 /// The basic type at an index.
 fn basic_at(library: &Library, block: usize) -> Option<&BasicType>
-    ensures { IfSome result (λ t. basic_at library.now block ≡ Some t.now) }
+    ensures { MatchOption result (basic_at library.now block ≡ None) (λ t. basic_at library.now block ≡ Some t.now) }
 {
     match library.blocks.get(block) {
         Some(BlockType::Basic(basic)) => Some(basic),
@@ -84,7 +84,7 @@ fn basic_at(library: &Library, block: usize) -> Option<&BasicType>
 
 /// The tokens that are marked in the guard of a transition.
 fn guard_range(library: &Library, block: usize, transition: usize) -> Option<TokenRange>
-    ensures { IfSome result (IsGuardRange library.now block transition) }
+    ensures { MatchOption result (HasNoGuard library.now block transition) (IsGuardRange library.now block transition) }
 {
     let basic = basic_at(library, block)?;
     match &basic.transitions.get(transition)?.condition.guard {
@@ -101,7 +101,7 @@ fn part_range(
     statement: usize,
     part: StatementPart,
 ) -> Result<Option<TokenRange>, AllocError>
-    ensures { IfOk result (λ o. IfSome o (IsPartRange basic.now algorithm.now statement part)) }
+    ensures { IfOk result (λ o. MatchOption o (HasNoPart algorithm.now statement part) (IsPartRange basic.now algorithm.now statement part)) }
 {
     let statements = all_statements(alloc, &algorithm.body)?;
     match statements.get(statement) {
@@ -119,7 +119,7 @@ fn kind_range(
     library: &Library,
     location: KindWrongAt,
 ) -> Result<Option<TokenRange>, AllocError>
-    ensures { IfOk result (λ o. IfSome o (IsRangeOf library.now location)) }
+    ensures { IfOk result (λ o. MatchOption o (HasNoExpression library.now location) (IsRangeOf library.now location)) }
 {
     match location {
         KindWrongAt::Initial { .. } | KindWrongAt::Parameter { .. } => Ok(None),
@@ -147,7 +147,7 @@ fn range_of(
     library: &Library,
     location: Location,
 ) -> Result<Option<TokenRange>, AllocError>
-    ensures { IfOk result (λ o. IfSome o (IsRange library.now location)) }
+    ensures { IfOk result (λ o. MatchOption o (HasNoRange library.now location) (IsRange library.now location)) }
 {
     match location {
         Location::KindWrong(location) => kind_range(alloc, library, location),
@@ -157,12 +157,17 @@ fn range_of(
 
 /// The index of the token at an offset. Tokens are in the order of the text.
 fn token_at(tokens: &[Located], offset: usize) -> Option<usize>
-    ensures { IfSome result (IsTokenAt tokens.now offset) }
+    requires { IsNonDecreasingBy (λ token. token.index) tokens.now }
+    ensures { MatchOption result (IsNoToken tokens.now offset) (IsTokenAt tokens.now offset) }
 {
     let index = tokens.partition_point(|token| token.index < offset);
     match tokens.get(index) {
-        Some(token) if token.index == offset => Some(index),
-        _ => None,
+        Some(token) => if token.index == offset {
+            Some(index)
+        } else {
+            None
+        },
+        None => None,
     }
 }
 
@@ -175,7 +180,7 @@ fn span_at(
     offset: usize,
 ) -> Result<Option<Span>, AllocError>
     requires { AreLocated text.now tokens.now (after_mark text.now) }
-    ensures { IfOk result (λ o. IfSome o (λ span. IsNext (drop (begin + offset) tokens.now) text.now span.start span.end)) }
+    ensures { IfOk result (λ o. MatchOption o (length tokens.now ≤ begin + offset) (λ span. IsTokenOf text.now tokens.now (begin + offset) span.start span.end)) }
 {
     match begin.checked_add(offset) {
         Some(index) if index < tokens.len() => {
@@ -197,7 +202,7 @@ fn place_among(
 ) -> Result<Option<Place>, AllocError>
     requires located { AreLocated text.now tokens.now (after_mark text.now) }
     requires earlier { IsPlace text.now earlier }
-    ensures { IfOk result (λ o. IfSome o (IsAmong text.now tokens.now begin range)) }
+    ensures { IfOk result (λ o. MatchOption o (IsNoneAmong text.now tokens.now begin range) (IsAmong text.now tokens.now begin range)) }
 {
     let last = range.end.saturating_sub(1);
     let Some(first) = span_at(alloc, text, tokens, begin, range.first)? else {
@@ -221,7 +226,7 @@ fn marked_place(
     requires read { IsLibraryText text.now library.now }
     requires located { AreLocated text.now tokens.now (after_mark text.now) }
     requires place { IsPlaceFor text.now library.now (position_of library.now location) place }
-    ensures { IfOk result (λ o. IfSome o (IsMarkedPlace text.now location)) }
+    ensures { IfOk result (λ o. MatchOption o (IsUnmarked text.now location) (IsMarkedPlace text.now location)) }
 {
     let Some(earlier) = place else {
         return Ok(None);

@@ -1,10 +1,14 @@
 //! Which operation of an expression has operands that do not fit, and what of it is marked.
 
-ghost use Rattle.std.specs.Prelude.{◌≡◌, IfNone, IfSome};
+ghost use Rattle.std.specs.Prelude.{◌≡◌, IfNone, IfSome, Some};
 ghost use Rattle.fb_types.specs.Blocks.{types_of};
+ghost use Rattle.fb_types.specs.Kinds.{value_kind_of};
 ghost use Rattle.fb_types.specs.Names.{Name};
+ghost use Rattle.fb_types.specs.Syntax.{expr_of};
+ghost use Rattle.fb_types.specs.Values.{function_named};
 ghost use Rattle.fb_types.specs.declared.text.Expr as read;
-ghost use Rattle.fb_why.specs.Mismatches.{HasKind, HasNoKind, IsMismatch};
+ghost use Rattle.fb_why.specs.Mismatches as spec;
+ghost use Rattle.fb_why.specs.Mismatches.{HasKind, HasNoKind, IsMismatch, IsPairFault};
 
 use crate::tokens::{next, past, past_each};
 use fb_check::types::{is_value_kind, value_kind_of};
@@ -47,18 +51,30 @@ enum PairFault {
 }
 
 /// The kind of both operands of an operator. `None` if they are of any kind, but of the same.
-fn kind_of_operands(operator: BinaryOperator) -> Option<ValueKind> {
+fn kind_of_operands(operator: BinaryOperator) -> Option<ValueKind>
+    ensures { result ≡ spec.kind_of_operands operator }
+{
     match operator {
         BinaryOperator::Or | BinaryOperator::Xor | BinaryOperator::And => {
             Some(ValueKind::TruthValue)
         }
         BinaryOperator::Equal | BinaryOperator::NotEqual => None,
-        _ => Some(ValueKind::WholeNumber),
+        BinaryOperator::Less
+        | BinaryOperator::Greater
+        | BinaryOperator::LessOrEqual
+        | BinaryOperator::GreaterOrEqual
+        | BinaryOperator::Add
+        | BinaryOperator::Subtract
+        | BinaryOperator::Multiply
+        | BinaryOperator::Divide
+        | BinaryOperator::Modulo => Some(ValueKind::WholeNumber),
     }
 }
 
 /// What is wrong with the operands of an operator.
-fn pair_fault(basic: &BasicType, operator: BinaryOperator, left: &Expr) -> PairFault {
+fn pair_fault(basic: &BasicType, operator: BinaryOperator, left: &Expr) -> PairFault
+    ensures { IsPairFault (types_of basic.now) operator left.now result }
+{
     match kind_of_operands(operator) {
         Some(required) => if is_value_kind(required, left, basic) {
             PairFault::Right
@@ -79,11 +95,17 @@ pub(crate) fn argument_count(function: Function) -> usize {
 }
 
 /// Whether the argument at an index is of a kind that the function takes there, whatever its other arguments are.
-fn fits(basic: &BasicType, function: Function, index: usize, argument: &Expr) -> bool {
-    match (function, index) {
-        (Function::Sel, 0) => is_value_kind(ValueKind::TruthValue, argument, basic),
-        (Function::Sel, _) => true,
-        _ => is_value_kind(ValueKind::WholeNumber, argument, basic),
+fn fits(basic: &BasicType, function: Function, index: usize, argument: &Expr) -> bool
+    ensures { result ≡ spec.fits function index (value_kind_of (types_of basic.now) (expr_of argument.now)) }
+{
+    match function {
+        Function::Sel => match index {
+            0 => is_value_kind(ValueKind::TruthValue, argument, basic),
+            _ => true,
+        },
+        Function::Min | Function::Max | Function::Abs | Function::Limit => {
+            is_value_kind(ValueKind::WholeNumber, argument, basic)
+        }
     }
 }
 
@@ -163,7 +185,7 @@ fn mismatch_of_call<'a>(
     first: usize,
 ) -> Mismatch<'a>
     requires none { HasNoKind (types_of basic.now) call.now }
-    requires is { (f : Name) × (call.now ≡ read.Call f arguments.now) }
+    requires is { call.now ≡ read.Call name.now arguments.now }
     ensures { IsMismatch (types_of basic.now) call.now first result.operation.now result.marked.now result.first }
 {
     let Some(function) = Function::named(name) else {
@@ -185,7 +207,7 @@ fn mismatch_of_arguments<'a>(
     first: usize,
 ) -> Mismatch<'a>
     requires none { HasNoKind (types_of basic.now) call.now }
-    requires is { (f : Name) × (call.now ≡ read.Call f arguments.now) }
+    requires is { (f : Name) × (call.now ≡ read.Call f arguments.now) × (function_named f ≡ Some function) }
     ensures { IsMismatch (types_of basic.now) call.now first result.operation.now result.marked.now result.first }
 {
     let inside = next(next(first));

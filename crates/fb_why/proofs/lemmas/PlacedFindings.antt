@@ -1,5 +1,5 @@
 -- The place at which a location of what was declared is shown.
-use Rattle.fb_types.proofs.Common.{◌≡◌, ◌∷◌, ◌++◌, ◌+◌, ◌<◌, ◌||◌, [], ℕ, Bool, true, false, List, length, get_or, map, take, Option, Some, None, refl, sym, ◌∙◌, ap, subst, list_any, map-append, take_more, true≢false, All-cons, All-nil, AllZip, All, IfSome}
+use Rattle.fb_types.proofs.Common.{◌≡◌, ◌∷◌, ◌++◌, ◌+◌, ◌<◌, ◌||◌, [], ℕ, Bool, true, false, List, length, get_or, map, take, Option, Some, None, refl, sym, ◌∙◌, ap, subst, list_any, map-append, take_more, true≢false, inl, inr, All-cons, All-nil, AllZip, All, IfSome, MatchOption}
 use Rattle.fb_types.specs.declared.library.Library.{Library}
 use Rattle.std.proofs.lemmas.Slice.Zip.{AllZip-long}
 use Rattle.fb_read.specs.Blank.{Text}
@@ -7,9 +7,10 @@ use Rattle.fb_read.specs.Whole.{IsLibraryText}
 use Rattle.fb_read_positions.specs.declared.position.Position.{Position}
 use Rattle.fb_read_positions.specs.Places.{IsPlaceFor}
 use Rattle.fb_read_positions.specs.declared.places.Place.{Place}
-use Rattle.fb_why.specs.Marks.{IsMarkedPlace, is_of_expression}
-use Rattle.fb_why.specs.Places.{IsCheckedPlaceIf, IsPlaceBy, IsPlaceOf, IsPlacedFinding}
-use Rattle.fb_why.specs.Positions.{position_of}
+use Rattle.fb_why.specs.Findings.{FindsInBytes}
+use Rattle.fb_why.specs.Marks.{IsMarkedPlace, IsUnmarked, is_of_expression}
+use Rattle.fb_why.specs.Places.{HasNoPlace, HasNoPlaceBy, IsCheckedPlaceIf, IsPlaceBy, IsPlaceOf, IsPlacedFinding}
+use Rattle.fb_why.specs.Positions.{IsNowhereIf, position_of}
 use Rattle.fb_why.specs.declared.place.PlacedFinding.{PlacedFinding}
 use Rattle.fb_check.specs.declared.location.Location.{Location}
 use Rattle.fb_why.specs.declared.location.FindingLocation.{FindingLocation}
@@ -17,23 +18,39 @@ use Rattle.fb_why.specs.declared.location.FindingLocation.TheVariants as found
 
 -- ---- Findings with their places
 
--- a finding that is not in the declaration has no place there
-pub is_elsewhere : (text : Text) (o : Option PlacedFinding) → IfSome o (λ r. r.place ≡ None) → IfSome o (IsPlacedFinding text)
-is_elsewhere text None h = tt
-is_elsewhere text (Some r) h = subst (λ (q : Option Place). IfSome q (IsPlaceOf text r.finding.location)) (sym h) tt
+-- what is found in the deployment or in the stimuli has no place in the declaration
+in_inputs : (number : ℕ) (text : Text) (deploy stimuli : Option Text) (l : FindingLocation) → FindsInBytes number deploy stimuli l → HasNoPlace text l
+in_inputs number text deploy stimuli (found.Text p) (inl w) = w.2
+in_inputs number text deploy stimuli (found.Text p) (inr w) = w.2
+in_inputs number text deploy stimuli (found.Check p) (inl w) = absurd w.2
+in_inputs number text deploy stimuli (found.Check p) (inr w) = absurd w.2
+in_inputs number text deploy stimuli (found.Deployment p) w = tt
+in_inputs number text deploy stimuli (found.Stimuli p) w = tt
+
+pub is_elsewhere :
+    (number : ℕ) (text : Text) (deploy stimuli : Option Text) (N : Type 0) (o : Option PlacedFinding) → IfSome o (λ r. r.place ≡ None)
+    → MatchOption o N (λ r. FindsInBytes number deploy stimuli r.finding.location) → IfSome o (IsPlacedFinding text)
+is_elsewhere number text deploy stimuli N None h finds = tt
+is_elsewhere number text deploy stimuli N (Some r) h finds =
+    subst (λ (q : Option Place). MatchOption q (HasNoPlace text r.finding.location) (IsPlaceOf text r.finding.location)) (sym h) (in_inputs number text deploy stimuli r.finding.location finds)
 
 -- a location that is about no expression is shown at its position
 pub shown_for :
     (text : Text) (library : Library) (location : Location) (p : Option Position) (place : Option Place) → IsLibraryText text library → position_of library location ≡ p → is_of_expression location ≡ false
     → IsPlaceFor text library p place → IsCheckedPlaceIf text location place
-shown_for text library location None place read is whole holds = subst (λ (q : Option Place). IsCheckedPlaceIf text location q) (sym holds) tt
-shown_for text library location (Some p) None read is whole holds = tt
+shown_for text library location None place read is whole holds =
+    subst (λ (q : Option Place). IsCheckedPlaceIf text location q) (sym holds)
+    (subst (λ (b : Bool). HasNoPlaceBy b text location) (sym whole)
+    (record { library = library; read = read; nowhere = subst (λ (o : Option Position). IsNowhereIf text library o) (sym is) tt }))
+shown_for text library location (Some p) None read is whole holds =
+    subst (λ (b : Bool). HasNoPlaceBy b text location) (sym whole)
+    (record { library = library; read = read; nowhere = subst (λ (o : Option Position). IsNowhereIf text library o) (sym is) holds })
 shown_for text library location (Some p) (Some x) read is whole holds =
     subst (λ (b : Bool). IsPlaceBy b text location x) (sym whole) (record { library = library; read = read; position = p; position_is = is; placed = holds })
 
 -- what is marked in an expression
-pub marked_for : (text : Text) (location : Location) (place : Option Place) → is_of_expression location ≡ true → IfSome place (IsMarkedPlace text location) → IsCheckedPlaceIf text location place
-marked_for text location None whole holds = tt
+pub marked_for : (text : Text) (location : Location) (place : Option Place) → is_of_expression location ≡ true → MatchOption place (IsUnmarked text location) (IsMarkedPlace text location) → IsCheckedPlaceIf text location place
+marked_for text location None whole holds = subst (λ (b : Bool). HasNoPlaceBy b text location) (sym whole) holds
 marked_for text location (Some x) whole holds = subst (λ (b : Bool). IsPlaceBy b text location x) (sym whole) holds
 
 same_tail : (b c : Bool) → b || c ≡ false → c ≡ false
@@ -77,7 +94,7 @@ each_placed text [] ls located holds = All-nil (IsPlacedFinding text)
 each_placed text (r ∷ rs) [] located holds = absurd holds
 each_placed text (r ∷ rs) (l ∷ ls) located holds =
     All-cons (IsPlacedFinding text) r rs
-    (subst (λ (x : FindingLocation). IfSome r.place (IsPlaceOf text x)) (sym (same_first r.finding.location (found.Check l) (locations rs) (checked ls) located)) holds.0)
+    (subst (λ (x : FindingLocation). MatchOption r.place (HasNoPlace text x) (IsPlaceOf text x)) (sym (same_first r.finding.location (found.Check l) (locations rs) (checked ls) located)) holds.0)
     (each_placed text rs ls (same_rest r.finding.location (found.Check l) (locations rs) (checked ls) located) holds.1)
 
 pub all_placed :

@@ -6,7 +6,7 @@ use Rattle.fb_why.proofs.lemmas.TextReadings.{finds-numbered}
 use Rattle.fb_why.specs.Faults.{IsTextRefusal}
 use Rattle.fb_why.specs.declared.find.TextRefusal.{TextRefusal}
 use Rattle.fb_why.specs.Findings.{IsFoundAt, IsSilentOfBytes, IsSilentOfDeployment, IsSilentOfStimuli, IsSilentOfText, FindsInBytes, FindsInDeployment, FindsInStimuli, FindsInText}
-use Rattle.fb_why.specs.Places.{IsPlaceOf, IsPlacedFinding}
+use Rattle.fb_why.specs.Places.{HasNoPlace, IsPlaceOf, IsPlacedFinding}
 use Rattle.fb_why.specs.declared.place.PlacedFinding.{PlacedFinding}
 use Rattle.fb_read_positions.specs.declared.places.Place.{Place}
 use Rattle.fb_why.specs.declared.location.FindingLocation.{FindingLocation}
@@ -30,7 +30,7 @@ pub text_placed :
 text_placed text place (Err e) w = tt
 text_placed text place (Ok None) w = absurd w
 text_placed text place (Ok (Some f)) w =
-    subst (λ (q : Option Place). IfSome q (IsPlaceOf text f.finding.location)) (sym w.1) (subst (λ (x : FindingLocation). IsPlaceOf text x place) (sym w.0) refl)
+    subst (λ (q : Option Place). MatchOption q (HasNoPlace text f.finding.location) (IsPlaceOf text f.finding.location)) (sym w.1) (subst (λ (x : FindingLocation). IsPlaceOf text x place) (sym w.0) refl)
 
 -- one with another number
 pub text_unfound : (number : ℕ) (text : List ℕ) (r : TextRefusal) → IsTextRefusal text r → (fault_number r.refusal.fault ≡ number → ⊥) → IsSilentOfText number text

@@ -1,4 +1,5 @@
 use Rattle.fb_types.proofs.Common.{Bor, List, None, ℕ, option_map}
+use Rattle.fb_why.specs.Findings.{IsSilentOfBytes}
 use Rattle.fb_why.specs.declared.cause.Cause.TheVariants as cause
 use Rattle.fb_why.proofs.lemmas.FindingsOfNumbers.{by_cause, nothing_placed, numbered, once_found, once_placed}
 use Rattle.fb_why.proofs.lemmas.PlacedFindings.{is_elsewhere}
@@ -26,8 +27,11 @@ returns-in_ok-bytes_finding-in-Bytes-clause-found c =
 
 pub returns-in_ok-bytes_finding-in-Bytes-clause-placed : goal.returns-in_ok-bytes_finding-in-Bytes-clause-placed
 returns-in_ok-bytes_finding-in-Bytes-clause-placed c =
-    once_placed c.args.declaration.now c.in_ok-bytes_finding-in-Bytes.field-0 c.one-in-Bytes.result (is_elsewhere c.args.declaration.now c.in_ok-bytes_finding-in-Bytes.field-0 c.in_ok-bytes_finding-in-Bytes.ensures.elsewhere)
-    c.one-in-Bytes.ensures.shown
+    let plan = option_map (λ (b : Bor (List ℕ)). b.now) c.args.deploy in
+    let rows = option_map (λ (b : Bor (List ℕ)). b.now) c.args.stimuli in
+    let made = c.in_ok-bytes_finding-in-Bytes in
+    once_placed c.args.declaration.now made.field-0 c.one-in-Bytes.result
+    (is_elsewhere c.args.number c.args.declaration.now plan rows (IsSilentOfBytes c.args.number plan rows) made.field-0 made.ensures.elsewhere made.ensures.found) c.one-in-Bytes.ensures.shown
 
 pub returns-in-Check-clause-found : goal.returns-in-Check-clause-found
 returns-in-Check-clause-found c =

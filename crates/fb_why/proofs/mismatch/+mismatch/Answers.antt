@@ -1,8 +1,8 @@
-use Rattle.std.proofs.Common.{◌≡◌, ◌∙◌, ℕ, List, ap, map, take}
+use Rattle.std.proofs.Common.{◌≡◌, ◌∙◌, ℕ, List, ap, map, sym, take}
 use Rattle.fb_types.specs.Blocks.{types_of}
 use Rattle.fb_types.specs.declared.text.Expr as read
 use Rattle.fb_why.specs.Tokens.{next, past, past_each}
-use Rattle.fb_why.proofs.lemmas.Mismatching.{deeper, itself_marked, of_call, of_group, of_left, of_right, of_unary, operand_marked}
+use Rattle.fb_why.proofs.lemmas.Mismatching.{argument_unfit, deeper, itself_marked, left_unfit, of_call, of_group, of_left, of_right, of_unary, operand_marked, operand_unfit, right_unfit}
 use Rattle.fb_why.proofs.mismatch.+mismatch.Goals as goal
 
 pub mismatch_of-returns-in-Group : goal.mismatch_of-returns-in-Group
@@ -21,8 +21,8 @@ mismatch_of-returns-in-Some t c =
 pub mismatch_of-returns-in-None : goal.mismatch_of-returns-in-None
 mismatch_of-returns-in-None t c =
     operand_marked (types_of c.args.basic.now) c.args.expr.now c.args.first c.get-operand.result.now c.next-from.result c.requires
-    (of_unary c.in-Unary.field-0 c.args.expr.now c.get-operand.result.now c.in-Unary.operand c.args.first c.next-from.result c.in-Unary.is c.get-operand.ensures c.next-from.ensures)
-    c.in-None.ensures.none
+    (operand_unfit (types_of c.args.basic.now) c.in-Unary.field-0 c.args.expr.now c.get-operand.result.now c.in-Unary.operand c.args.first c.next-from.result c.in-Unary.is c.get-operand.ensures c.next-from.ensures
+    c.requires c.in-None.ensures.none)
 
 pub mismatch_of-returns-in-Some-mismatch_in : goal.mismatch_of-returns-in-Some-mismatch_in
 mismatch_of-returns-in-Some-mismatch_in t c =
@@ -42,15 +42,17 @@ mismatch_of-returns-in-Some-mismatch_in-2 t c =
 pub mismatch_of-returns-in-Left : goal.mismatch_of-returns-in-Left
 mismatch_of-returns-in-Left t c =
     let b = c.in-Binary in
+    let w = c.in-Left.ensures in
     operand_marked (types_of c.args.basic.now) c.args.expr.now c.args.first c.get-left.result.now c.args.first c.requires
-    (of_left b.operator c.args.expr.now c.get-left.result.now b.left b.right c.args.first b.is c.get-left.ensures) c.in_default.ensures.none
+    (left_unfit (types_of c.args.basic.now) b.operator w.0 c.args.expr.now c.get-left.result.now b.left b.right c.args.first b.is c.get-left.ensures w.1 w.2 c.in_default.ensures.none)
 
 pub mismatch_of-returns-in-Right : goal.mismatch_of-returns-in-Right
 mismatch_of-returns-in-Right t c =
     let b = c.in-Binary in
+    let w = c.in-Right.ensures in
     operand_marked (types_of c.args.basic.now) c.args.expr.now c.args.first c.get-right.result.now c.next-second.result c.requires
-    (of_right b.operator c.args.expr.now c.get-left.result.now b.left c.get-right.result.now b.right c.args.first c.past.result c.next-second.result b.is c.get-left.ensures c.get-right.ensures
-    c.past.ensures c.next-second.ensures) c.in_default-mismatch_in.ensures.none
+    (right_unfit (types_of c.args.basic.now) b.operator w.0 c.args.expr.now c.get-left.result.now b.left c.get-right.result.now b.right c.args.first c.past.result c.next-second.result b.is c.get-left.ensures
+    c.get-right.ensures c.past.ensures c.next-second.ensures w.1 w.2 c.requires c.in_default-mismatch_in.ensures.none)
 
 pub mismatch_of-returns-in-Both : goal.mismatch_of-returns-in-Both
 mismatch_of-returns-in-Both t c =
@@ -84,7 +86,8 @@ mismatch_of_arguments-returns-then-not-fits t c =
     let counted : c.past_each-from.result ≡ past_each (map past (take i args)) (next (next c.args.first)) =
     c.past_each-from.ensures ∙ ap (λ (k : ℕ). past_each (map past (take i args)) k) (c.next-inside.ensures ∙ ap next c.next.ensures) in
     operand_marked (types_of c.args.basic.now) c.args.call.now c.args.first e c.past_each-from.result c.requires.none
-    (of_call c.requires.is.0 c.args.call.now e args i c.args.first c.past_each-from.result c.requires.is.1 c.loop-index-test.true c.index-arguments-index.is counted) c.in_default.ensures.none
+    (argument_unfit (types_of c.args.basic.now) c.args.function c.requires.is.0 c.args.call.now e args i c.args.first c.past_each-from.result c.requires.is.1 c.requires.is.2 c.loop-index-test.true
+    c.index-arguments-index.is counted (sym c.fits.ensures ∙ c.if-not-fits.true) c.in_default.ensures.none)
 
 pub mismatch_of_arguments-returns : goal.mismatch_of_arguments-returns
 mismatch_of_arguments-returns t c =
