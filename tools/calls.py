@@ -788,6 +788,7 @@ STAYS_IN_T = b"warned:1:56: L06: block type T: state B: no transition leaves it\
 STAYS_IN_U = b"warned:2:56: L06: block type U: state B: no transition leaves it\n"
 UNFED = b"warned:3:48: L02: application P: instance G : E_DELAY, data input DT: it has no source, no parameter and no stimulus\n"
 WARNINGS = STAYS_IN_T + STAYS_IN_U + UNFED
+NOTHING_IS = b"there is no type or instance "
 LINTED = (
     ("", 0, WARNINGS),
     ("--allow L06", 0, UNFED),
@@ -811,8 +812,15 @@ LINTED = (
     ("--deny all --allow L02 --allow L06", 0, b""),
     ("--deny L06 --allow L06:T", 1, STAYS_IN_U + UNFED),
     ("--deny L06:T --allow L06:T", 0, STAYS_IN_U + UNFED),
+    # Names that no type and no instance has: a line each, and a fault of --deny. Of equally near names the first one is named.
+    ("--allow L06:E_DELAI", 0, WARNINGS + b"--allow: " + NOTHING_IS + b"E_DELAI (the nearest name is E_DELAY)\n"),
+    ("--allow L06:x --allow L02:d_g", 0, WARNINGS + b"--allow: " + NOTHING_IS + b"X (the nearest name is T)\n--allow: " + NOTHING_IS + b"D_G (the nearest name is D)\n"),
+    ("--deny L06:e_restar", 1, WARNINGS + b"--deny: " + NOTHING_IS + b"E_RESTAR (the nearest name is E_RESTART)\n"),
+    ("--deny all:X1 --allow all", 1, b"--deny: " + NOTHING_IS + b"X1 (the nearest name is T)\n"),
+    ("--deny L06:P --allow L07:P", 1, WARNINGS + b"--allow: " + NOTHING_IS + b"P (the nearest name is T)\n--deny: " + NOTHING_IS + b"P (the nearest name is T)\n"),
+    ("--deny L06:E_RESTART --allow L02:S --allow L06:D", 0, WARNINGS),
 )
-NO_WARNINGS = ("L6", "L00", "L99", "M06", "L06:", "L06T", "L061", "al", "every", "L0x", "Lx6")
+NO_WARNINGS = ("L6", "L00", "L99", "M06", "L06:", "L06T", "L061", "al", "every", "L0x", "Lx6", "L06:1X", "L06:A.B", "L06:exit")
 CALLS += [
     *(of(f"check warned --lint {words}", status, out=b"accepted\n", err=lines) for words, status, lines in LINTED),
     *(of(f"check warned --lint {option} {name}", 5, err=f"error: no warning is called {name}\n".encode()) for name in NO_WARNINGS for option in ("--allow", "--deny")),

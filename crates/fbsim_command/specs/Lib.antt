@@ -22,6 +22,7 @@ pub mod Drawing
 pub mod InsideNotes
 pub mod Inspecting
 pub mod Selecting
+pub mod SelectedNames
 pub mod WarningLines
 pub mod Stops
 pub mod LateRows

@@ -1,5 +1,5 @@
 -- Which of several names is nearest to another one (this project's own).
-use Rattle.std.specs.Prelude.{◌≡◌, ◌<◌, ◌≤◌, ℕ, [], Option, Some, None, length, map, nat_eq, option_map, slice_get, unwrap_or}
+use Rattle.std.specs.Prelude.{◌≡◌, ◌<◌, ◌≤◌, ℕ, List, [], Option, Some, None, length, map, nat_eq, option_map, slice_get, unwrap_or}
 use Rattle.clap.specs.Words.{Text}
 use Rattle.strsim.specs.Edits.{levenshtein_row}
 use Rattle.fb_types.specs.Flat.{type_name}
@@ -48,3 +48,14 @@ type_distance lib text k = distance (type_at lib k) text
 -- the first of the nearest block types, if there are some
 abbrev pub IsNearestType : Library → Text → (near : Option Name) → Type 0
 IsNearestType lib text near = (k : Option ℕ) × IsLeastOf (type_distance lib text) (length lib.blocks) k × (near ≡ option_map (type_at lib) k)
+
+-- one of some names, and how far it is from a text
+abbrev pub name_at : List Name → ℕ → Name
+name_at names k = unwrap_or (slice_get names k) []
+
+abbrev pub name_distance : List Name → Text → ℕ → ℕ
+name_distance names text k = distance (name_at names k) text
+
+-- the first of the nearest of some names, if there are some
+abbrev pub IsNearestName : List Name → Text → (near : Option Name) → Type 0
+IsNearestName names text near = (k : Option ℕ) × IsLeastOf (name_distance names text) (length names) k × (near ≡ option_map (name_at names) k)

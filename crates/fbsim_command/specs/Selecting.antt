@@ -7,11 +7,11 @@ use Rattle.clap.specs.Words.{Text}
 use Rattle.fb_types.specs.Names.{Name}
 use Rattle.fb_types.specs.declared.deploy.Stimulus.{Stimulus}
 use Rattle.fb_types.specs.declared.library.Library.{Library}
+use Rattle.fb_inputs.specs.Words.{name}
 use Rattle.fb_lint.specs.Numbers.{number_of as warning_number}
 use Rattle.fb_lint.specs.Subjects.{is_about}
 use Rattle.fb_lint.specs.declared.warning.Warning.{Warning}
 use Rattle.fbsim_line.specs.declared.levels.Levels.{Levels}
-use Rattle.fbsim_command.specs.Inspecting.{upper}
 use Rattle.fbsim_command.specs.declared.failure.Failure.{Failure}
 use Rattle.fbsim_command.specs.declared.failure.Failure.TheVariants.{Refused, RefusedTrace, File, Write, Memory, Line, BadOption}
 use Rattle.fbsim_command.specs.declared.selectors.Selector.{Selector}
@@ -46,11 +46,15 @@ which_of first second third =
     if is_all first second third then Some All
     else (if to_ascii_lowercase first == 108 then numbered (number_of second third) else None)
 
+abbrev pub named : Which → Option Name → Option Selector
+named which (Some n) = Some (record { which = which; about = Some n })
+named which None = None
+
 -- after the number comes nothing, or a colon and a name
 abbrev pub with_about : Which → Text → Option Selector
 with_about which [] = Some (record { which = which; about = None })
 with_about which (mark ∷ []) = None
-with_about which (mark ∷ c ∷ name) = if mark == 58 then Some (record { which = which; about = Some (upper (c ∷ name)) }) else None
+with_about which (mark ∷ c ∷ rest) = if mark == 58 then named which (name (c ∷ rest)) else None
 
 abbrev pub selected_by : Option Which → Text → Option Selector
 selected_by (Some which) rest = with_about which rest

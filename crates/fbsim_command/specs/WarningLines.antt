@@ -27,6 +27,7 @@ use Rattle.fbsim_command.specs.Joining.{IsLineOf, counts, mark_at, name_at}
 use Rattle.fbsim_command.specs.Shown.{shown_name}
 use Rattle.fbsim_command.specs.OwnLines.{IsInNone}
 use Rattle.fbsim_command.specs.Selecting.{is_selected}
+use Rattle.fbsim_command.specs.SelectedNames.{SaysNames}
 use Rattle.fbsim_command.specs.declared.selectors.Sorting.{Sorting}
 use Rattle.fbsim_command.specs.Outcomes.{End}
 use Rattle.fbsim_line.specs.declared.line.Task.{Task}
@@ -178,8 +179,20 @@ pub record AreSorted (n : Naming) (given : Given) (s : Sorting) (library : Libra
   pub lines : AreLines n given library kept reports
   pub is_denied : denied ≡ are_denied s library stimuli kept
 
--- The inputs are accepted, and these are the lines of the warnings about them that are not left out, and whether one is denied.
+-- These are the lines of such warnings, and after them those for names that the call allows or denies and that nothing has; and
+-- whether a warning or such a name is denied.
+pub record AreReported (n : Naming) (given : Given) (s : Sorting) (library : Library) (stimuli : List Stimulus) (ws : List Warning) (reports : Text) (denied : Bool) : Type 0 where
+  pub lines : Text
+  pub has_denied : Bool
+  pub sorted : AreSorted n given s library stimuli ws lines has_denied
+  pub names : Text
+  pub denies_unknown : Bool
+  pub says : SaysNames library s names denies_unknown
+  pub are : reports ≡ lines ++ names
+  pub is_denied : denied ≡ (has_denied || denies_unknown)
+
+-- The inputs are accepted, and these are the lines that are reported of them, and whether something is denied.
 pub record AreWarnings (n : Naming) (given : Given) (s : Sorting) (reports : Text) (denied : Bool) : Type 0 where
   pub inputs : Inputs
   pub declared : Declares given inputs
-  pub sorted : AreSorted n given s inputs.library inputs.stimuli (warnings inputs.library inputs.plan inputs.stimuli) reports denied
+  pub reported : AreReported n given s inputs.library inputs.stimuli (warnings inputs.library inputs.plan inputs.stimuli) reports denied

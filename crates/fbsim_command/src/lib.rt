@@ -7,11 +7,12 @@
 //! Read in this order: `sources`, where files come from; `files`, those of the machine; `program`, the call; `texts`,
 //! what is read, with `join`, a declaration in several files, and `own_lines`, how its refusals name a file and a line,
 //! which agree by `laws`; `opening`, what is declared; `lint`, with `call_names`, `selectors`, `row_places` and
-//! `warning_lines`, the lines of warnings; `late_rows`, rows that a run does not come to; `located_stop`, where a run
-//! stops; `wave`, with `state_dump` and `line_notes`; `draw`; `inspect` and `coverage`, with `inside_notes`; `near` and
-//! `unknown_name`, the line for an unknown path or type; `session`, commands and their answers; `expect`, rules and
-//! traces, with `known` and `possible`, whether what is declared has an event for a pattern, and `unknown_pattern`, why
-//! it has none; `output`; `failure`, `shown`, `notes`, `input_notes`, `rules_notes` and `statuses`, how it ends.
+//! `warning_lines`, the lines of warnings, and `selected_names`, those for names that nothing has; `late_rows`, rows that
+//! a run does not come to; `located_stop`, where a run stops; `wave`, with `state_dump` and `line_notes`; `draw`;
+//! `inspect` and `coverage`, with `inside_notes`; `near` and `unknown_name`, the line for an unknown path or type;
+//! `session`, commands and their answers; `expect`, rules and traces, with `known` and `possible`, whether what is
+//! declared has an event for a pattern, and `unknown_pattern`, why it has none; `output`; `failure`, `shown`, `notes`,
+//! `input_notes`, `rules_notes` and `statuses`, how it ends.
 #![tactic(auto)]
 
 pub mod call_names;
@@ -39,6 +40,7 @@ mod possible;
 pub mod program;
 mod row_places;
 mod rules_notes;
+mod selected_names;
 pub mod selectors;
 mod session;
 mod shown;

@@ -5,12 +5,13 @@ ghost use Rattle.fb_sim.specs.Reports.{Hears};
 ghost use Rattle.fb_lint.specs.Warnings.{warnings};
 ghost use Rattle.fbsim_command.specs.Command.{Checks, Warns, checked_by};
 ghost use Rattle.fbsim_command.specs.Outcomes.{IsUndeclared};
-ghost use Rattle.fbsim_command.specs.WarningLines.{AreSorted, AreWarnings, naming_of};
+ghost use Rattle.fbsim_command.specs.WarningLines.{AreReported, AreWarnings, naming_of};
 
 use crate::call_names::Naming;
 use crate::failure::Failure;
 use crate::opening::open_inputs;
 use crate::output::write_text;
+use crate::selected_names::push_unknown;
 use crate::selectors::Sorting;
 use crate::statuses::Done;
 use crate::warning_lines::{Reported, all_lines};
@@ -21,7 +22,8 @@ use fb_trace::write_front;
 use std::alloc::{AllocError, Global};
 use std::io::Write;
 
-/// The lines of the warnings about a system that are not left out, with their places in the texts that declare it.
+/// The lines of the warnings about a system that are not left out, with their places in the texts that declare it, and
+/// then those for names that the call allows or denies and that nothing has. A name that is denied is one denied.
 fn lines_in(
     alloc: Global,
     naming: &Naming<'_, '_, '_>,
@@ -29,10 +31,18 @@ fn lines_in(
     sorting: &Sorting,
     system: &System,
 ) -> Result<Reported, AllocError>
-    ensures { IfOk result (λ r. AreSorted (naming_of naming.now) inputs.now sorting.now system.now.library system.now.stimuli (warnings system.now.library system.now.plan system.now.stimuli) r.lines.items r.is_denied) }
+    ensures { IfOk result (λ r. AreReported (naming_of naming.now) inputs.now sorting.now system.now.library system.now.stimuli (warnings system.now.library system.now.plan system.now.stimuli) r.lines.items r.is_denied) }
 {
     let found = warnings(alloc, system.library(), system.plan(), system.stimuli())?;
-    all_lines(alloc, naming, inputs, sorting, system, found.as_slice())
+    let Reported {
+        mut lines,
+        is_denied,
+    } = all_lines(alloc, naming, inputs, sorting, system, found.as_slice())?;
+    let is_unknown = push_unknown(alloc, &mut lines, system.library(), sorting)?;
+    Ok(Reported {
+        lines,
+        is_denied: is_denied || is_unknown,
+    })
 }
 
 /// The lines of the warnings about inputs that are not left out.

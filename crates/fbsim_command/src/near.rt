@@ -1,12 +1,12 @@
 //! Which of several names is nearest to another one.
 
-ghost use Rattle.std.specs.Prelude.{◌≡◌, ◌<◌, ◌+◌, ℕ, IfOk, IfSome, length, option_map};
+ghost use Rattle.std.specs.Prelude.{◌≡◌, ◌<◌, ◌+◌, ℕ, IfOk, IfSome, length, map, option_map};
 ghost use Rattle.fb_types.specs.OfSystem.{IsInstance, instance_count};
 ghost use Rattle.fbsim_command.specs.Nearest as spec;
-ghost use Rattle.fbsim_command.specs.Nearest.{IsBest, IsLeastOf, IsNearestPath, IsNearestType, path_distance, type_distance};
+ghost use Rattle.fbsim_command.specs.Nearest.{IsBest, IsLeastOf, IsNearestName, IsNearestPath, IsNearestType, name_distance, path_distance, type_distance};
 
 use fb_system::System;
-use fb_types::Library;
+use fb_types::{Library, Name};
 use std::alloc::{AllocError, Global};
 use strsim::generic_levenshtein;
 
@@ -95,6 +95,36 @@ pub(crate) fn nearest_type_name<'a>(
 {
     match nearest_type(alloc, library, text)? {
         Some(index) => Ok(Some(library.blocks.as_slice()[index].type_name().as_bytes())),
+        None => Ok(None),
+    }
+}
+
+/// The index of the first of some names that is nearest to a text, if there are names.
+fn nearest_index(alloc: Global, names: &[&Name], text: &[u8]) -> Result<Option<usize>, AllocError>
+    ensures within { IfOk result (λ o. IfSome o (λ k. k < length names.now)) }
+    ensures nearest { IfOk result (IsLeastOf (name_distance (map (λ n. n.now) names.now) text.now) (length names.now)) }
+{
+    let mut best = None;
+    for index in 0..names.len() {
+        let far = distance(alloc, names[index].as_bytes(), text)?;
+        best = nearer(best, Candidate { index, far });
+    }
+    match best {
+        Some(candidate) => Ok(Some(candidate.index)),
+        None => Ok(None),
+    }
+}
+
+/// The first of some names that is nearest to a text, if there are names.
+pub(crate) fn nearest_name<'a>(
+    alloc: Global,
+    names: &[&'a Name],
+    text: &[u8],
+) -> Result<Option<&'a [u8]>, AllocError>
+    ensures { IfOk result (λ near. IsNearestName (map (λ n. n.now) names.now) text.now (option_map (λ n. n.now) near)) }
+{
+    match nearest_index(alloc, names, text)? {
+        Some(index) => Ok(Some(names[index].as_bytes())),
         None => Ok(None),
     }
 }

@@ -5,7 +5,7 @@ ghost use Rattle.fbsim_command.specs.Selecting as spec;
 ghost use Rattle.fbsim_command.specs.Selecting.{AreSelectors, IsSorting, IsUnsorted};
 
 use crate::failure::Failure;
-use crate::inspect::path_of;
+use fb_inputs::name;
 use fb_lint::{LAST_NUMBER, Warning, is_about};
 use fb_types::{Library, Name, Stimulus};
 use fbsim_line::Levels;
@@ -102,8 +102,13 @@ fn selector_of(alloc: Global, text: &str) -> Result<Option<Selector>, AllocError
     if bytes[3] != b':' || bytes.len() == 4 {
         return Ok(None);
     }
-    let about = Some(path_of(alloc, &bytes[4..])?);
-    Ok(Some(Selector { which, about }))
+    match name(alloc, &bytes[4..])? {
+        Some(about) => Ok(Some(Selector {
+            which,
+            about: Some(about),
+        })),
+        None => Ok(None),
+    }
 }
 
 /// The failure for a text that names no warning.

@@ -33,14 +33,14 @@ fn shown_byte(byte: u8) -> char
 }
 
 /// The bytes of a name, as they are shown.
-fn shown_bytes(alloc: Global, name: &[u8]) -> Result<String, AllocError>
+pub(crate) fn shown_bytes(alloc: Global, name: &[u8]) -> Result<String, AllocError>
     ensures { IfOk result (λ text. string_bytes text ≡ spec.shown_bytes name.now) }
 {
     name.iter().map(|byte| shown_byte(*byte)).collect(alloc)
 }
 
 /// What is said of the nearest name, if there is one.
-fn nearest_words(alloc: Global, near: Option<&[u8]>) -> Result<String, AllocError>
+pub(crate) fn nearest_words(alloc: Global, near: Option<&[u8]>) -> Result<String, AllocError>
     ensures { IfOk result (λ words. string_bytes words ≡ spec.nearest_words (option_map (λ n. n.now) near.entry)) }
 {
     let Some(name) = near else {

@@ -3,3 +3,4 @@ pub mod NameTokens
 pub mod SystemNames
 pub mod ReadNames
 pub mod Nearest
+pub mod KnownNames
