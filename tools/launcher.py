@@ -33,6 +33,11 @@ if sys.argv[1:]:
     shutil.copy(f"{os.path.dirname(__file__)}/../crates/fbsim/out/fbsim", sys.argv[1])
 sys.exit(not sys.argv[1:])
 """
+# Stands in for tools/package.py: it refuses the folder of this name.
+PACKAGES = """import sys
+print("packages", *sys.argv[1:], file=sys.stderr)
+sys.exit(sys.argv[-1] == "none")
+"""
 NOT_PROVED = "simulate: this program is not proved: `./simulate` without --unproved proves it and builds it\n"
 
 
@@ -99,13 +104,17 @@ class Launcher:
             os.makedirs(os.path.dirname(to), exist_ok=True)
             (shutil.copytree if os.path.isdir(f"{TOP}/{it}") else shutil.copy2)(f"{TOP}/{it}", to)
         for it in ("build", "unproved"):
-            with open(f"{self.tree}/tools/{it}.py", "w") as file:
-                file.write(STANDS_IN)
+            self.write(f"tools/{it}.py", STANDS_IN)
+        self.write("tools/package.py", PACKAGES)
         self.out = f"{self.tree}/crates/fbsim/out"
         self.built, self.unproved = f"{self.out}/fbsim", f"{self.out}/fbsim.unproved"
         os.makedirs(self.out)
         shutil.copy(program, self.built)
         os.chmod(self.built, 0o755)
+
+    def write(self, name, text):
+        with open(f"{self.tree}/{name}", "w", encoding="utf-8") as it:
+            it.write(text)
 
     def is_changed(self, *programs):
         """Has a source change after these programs were built."""
@@ -144,8 +153,10 @@ def answer_unbuilt(it):
     version = f"fbsim {unbuilt.version()}\n"
     it.call(["--version"], 0, version + "this program is proved; --unproved runs one that is not\n")
     it.call(["--unproved", "-V"], 0, version + "this program is not proved\n")
-    for words in (["check", "-"], ["install", f"{it.folder}/to"], ["package", f"{it.folder}/to"]):
+    for words in (["check", "-"], ["install", f"{it.folder}/to"]):
         it.call(words, 126, err="a build\n")
+    it.call(["package", "to"], 126, err="packages --check to\na build\n")
+    it.call(["package", "none"], 1, err="packages --check none\n")
 
 
 def keep_unproved(it):
@@ -170,6 +181,7 @@ def install(it):
     it.call(["install"], 5, err=usage)
     it.call(["--unproved", "install", to, to], 5, err=usage)
     it.call(["--unproved", "package", to], 5, err="usage: ./simulate package DIR, which packages the proved program alone\n")
+    it.call(["package", "to"], 0, err="packages --check to\npackages to\n")
     version = f"fbsim {unbuilt.version()}\n"
     for words, more, says in ((["--unproved", "install", to], {"lib/fbsim/fbsim"}, version + "this program is not proved\n"), (["install", to], set(), version)):
         for _ in range(2):

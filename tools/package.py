@@ -1,11 +1,12 @@
 #!/usr/bin/env python3
-"""tools/package.py [--no-gate-line] PROGRAM DIR: makes the packages of a proved program, for `./simulate package`.
+"""tools/package.py [--check] [--no-gate-line] DIR: makes the packages of the proved program, for `./simulate package`.
 
 DIR gets fbsim-VERSION-x86_64-linux.tar.gz and fbsim_VERSION_amd64.deb. Both have the program without its symbol table, the man page,
 completions, editor files, examples, the pages for users, the licences, and PROVED: the commit, the last line of ./gate, and the sums of
 the kit. From one commit they have the same bytes each time: all times are that of the commit, or SOURCE_DATE_EPOCH.
 
-This refuses a tree that differs from its commit, or on which ./gate has not passed here. With --no-gate-line PROVED says so instead."""
+This refuses a tree that differs from its commit, or on which ./gate has not passed here. With --no-gate-line PROVED says so instead. With
+--check it only refuses, and makes nothing: ./simulate asks this before it proves and builds the program."""
 
 import email.utils
 import functools
@@ -24,6 +25,8 @@ import notice
 import unbuilt
 from kit import TOP, rtlib
 
+# The proved program, as ./simulate and ./gate build it. PROVED can be true of no other one.
+PROGRAM = f"{TOP}/crates/fbsim/out/fbsim"
 # What ./gate leaves when it passes: the tree of files on which it ran, and its last line.
 RECORD = f"{TOP}/crates/fbsim/out/gate.json"
 MAINTAINER = "Cambiroa maintainers <maintainers@users.noreply.cambiroa.example>"
@@ -284,10 +287,10 @@ def make(program, folder, line):
 
 
 def main(words):
-    """Makes the packages and returns the status."""
-    needs_line = "--no-gate-line" not in words
-    words = [it for it in words if it != "--no-gate-line"]
-    if len(words) != 2 or any(it.startswith("-") for it in words):
+    """Makes the packages, or says why not, and returns the status."""
+    needs_line, only_checks = "--no-gate-line" not in words, "--check" in words
+    words = [it for it in words if it not in ("--no-gate-line", "--check")]
+    if len(words) != 1 or any(it.startswith("-") for it in words):
         print("usage: ./simulate package [--no-gate-line] DIR", file=sys.stderr)
         return 5
     if not shutil.which("dpkg-deb"):
@@ -298,7 +301,9 @@ def main(words):
         why = "files differ from the commit: commit them first" if tree() is None else "./gate has not passed here on this commit: run it first"
         print(f"package: {why}; --no-gate-line makes packages that say so", file=sys.stderr)
         return 1
-    for path in make(*words, line):
+    if only_checks:
+        return 0
+    for path in make(PROGRAM, *words, line):
         print(f"{sum_of(bytes_of(path))}  {path}")
     return 0
 

@@ -23,7 +23,6 @@ import unbuilt
 from kit import TOP
 from system_packages import lacks
 
-PROGRAM = f"{TOP}/crates/fbsim/out/fbsim"
 EMPTY = {"PATH": "/usr/bin:/bin"}
 LINE = "9 passed, 0 failed"
 
@@ -131,9 +130,9 @@ def faults_of_gate_line(folder):
     try:
         package.tree = lambda: "ab12"
         with contextlib.redirect_stderr(io.StringIO()) as said:
-            status = package.main(["nothing", f"{folder}/none"])
-        if status != 1 or "run it first" not in said.getvalue() or package.gate_line() is not None:
-            yield f"without a gate: status {status}, {said.getvalue()}"
+            statuses = package.main(["--check", f"{folder}/none"]), package.main(["/bin/true", f"{folder}/none"])
+        if statuses != (1, 5) or "run it first" not in said.getvalue() or package.gate_line() is not None:
+            yield f"without a gate, and with a program: statuses {statuses}, {said.getvalue()}"
         package.record_gate(LINE, "cd34")
         package.record_gate(LINE, None)
         if os.path.exists(package.RECORD):
@@ -149,7 +148,7 @@ def faults_of_gate_line(folder):
         package.RECORD, package.tree = kept, here
 
 
-def main(program=PROGRAM):
+def main(program=package.PROGRAM):
     """Returns the status: 0 if there are no faults."""
     if lacks("lintian", "lintian"):
         return 1
