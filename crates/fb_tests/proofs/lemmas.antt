@@ -1,4 +1,5 @@
 pub mod Coming
+pub mod Counted
 pub mod Handed
 pub mod RefusedMemory
 pub mod Unheard

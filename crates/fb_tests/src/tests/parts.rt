@@ -14,6 +14,7 @@ mod expressions;
 mod inputs;
 mod latencies;
 mod limits;
+mod links;
 mod messages;
 mod narrow;
 mod numbers;
