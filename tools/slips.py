@@ -22,6 +22,11 @@ EXAMPLES = f"{TOP}/examples"
 TUTORIAL = "docs/FIRST_APPLICATION.md"
 # The options of `run` that `check` does not take, with the word after each.
 RUN_ALONE = ("--horizon", "--steps", "--workers", "--trace")
+# The words of the examples without a call of their own: what an application in XML is converted to, and the same one in text.
+CONVERTED = {
+    "xml/parcels/imported": "application.iec --types types.iec --deploy deploy.toml",
+    "xml/parcels/text": "parcels.iec --deploy deploy.toml",
+}
 UNSENT = ": it is used, and it is WITH no event output"
 ALONE = ": no event connection and no stimulus leads to it"
 OPEN = ": no connection and no stimulus leads to it"
@@ -73,6 +78,13 @@ SLIPS = [
     Slip("bottling/shift", "../bottling.iec", "REASON := 2;", "REASON := -2;", [
         ("    |REASON := -2;", f"L17: block type RECIPE: algorithm DECLINE: statement 3{NARROW}"),
     ]),
+    # L17: a FOR begins with it
+    Slip("crossing", "crossing.iec", "ASPECT := 3;", "FOR ASPECT := 300 TO 301 DO END_FOR;", [
+        ("  |FOR ASPECT := 300", f"L17: block type SEQUENCE: algorithm EMPTY: statement 1{NARROW}"),
+    ]),
+    Slip("xml/parcels/text", "parcels.iec", "TOTAL := TOTAL + BY_1;", "FOR TOTAL := -(1) TO BY_1 DO END_FOR;", [
+        ("  |FOR TOTAL := -(1)", f"L17: block type COUNTER: algorithm ADD: statement 1{NARROW}"),
+    ]),
     # L18: a divisor is 0
     Slip("tank", "tank.iec", "RAW * 2000 / 4095;", "RAW * 2000 / 0;", [
         ("  |MM := RAW * 2000 / 0;", f"L18: block type LEVEL_PROBE: algorithm SCALE: statement 1{ZERO}"),
@@ -86,6 +98,13 @@ SLIPS = [
         ("  |DECODE : CHOOSE", f"L19: block type DECODER: state DECODE{ROUND}"),
     ]),
     Slip("bottling/shift", "../bottling.iec", "BARE TO GONE := 1;", "BARE TO BARE := 1;", [
+        ("  |BARE : KEEP;", f"L19: block type LABELLING: state BARE{ROUND}"),
+    ]),
+    # L19: a guard that is always true
+    Slip("xml/parcels/text", "parcels.iec", "FED TO IDLE := 1;", "FED TO FED := [TRUE];", [
+        ("  |FED : FEED", f"L19: block type FEEDER: state FED{ROUND}"),
+    ]),
+    Slip("bottling/shift", "../bottling.iec", "BARE TO GONE := 1;", "BARE TO BARE := [(TRUE)];", [
         ("  |BARE : KEEP;", f"L19: block type LABELLING: state BARE{ROUND}"),
     ]),
     # L20: the wrong event of E_RESTART
@@ -126,7 +145,7 @@ def content(path):
 
 def words_of(folder):
     """Returns the words of `check --lint` for an example, and the files that they name."""
-    words = content(f"{EXAMPLES}/{folder}/args").split()
+    words = f"run {CONVERTED[folder]}".split() if folder in CONVERTED else content(f"{EXAMPLES}/{folder}/args").split()
     kept, names = ["check", "--lint"], []
     while words := words[1:]:
         if words[0] in RUN_ALONE:
@@ -221,7 +240,7 @@ def try_page(room):
 
 def try_all(program):
     """Tries all mistakes, and says whether each was reported as it must be."""
-    folders = sorted(it.path.removeprefix(f"{EXAMPLES}/").removesuffix("/args") for it in args_files())
+    folders = sorted([*CONVERTED, *(it.path.removeprefix(f"{EXAMPLES}/").removesuffix("/args") for it in args_files())])
     with Room(program) as room:
         found = side_by_side(lambda it: try_slip(room, *it), list(enumerate(SLIPS)))
         found += side_by_side(lambda it: try_example(room, it), folders)
