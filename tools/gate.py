@@ -8,8 +8,8 @@ First it installs the system packages of tools/system_packages.txt that are miss
   exists (tools/documents.py); NOTICE names each library of the program with its licence (tools/notice.py); the traces of the examples
   and the stored sessions are those of a second simulator (tools/interpreter.py, tools/second_session.py), and they keep the rules of their page (tools/bottling.py); the syntax files of
   editors/ colour declarations right (tools/editors.py)
-- tools: those that compare figures of pages and try stored cases and wrong implementations distinguish right from wrong
-  (tools/figures_test.py, tools/cases_test.py, tools/texts_test.py, tools/must_fail_test.py)
+- tools: those that compare figures of pages, install packages, and try stored cases and wrong implementations distinguish right from wrong
+  (tools/figures_test.py, tools/system_packages_test.py, tools/cases_test.py, tools/texts_test.py, tools/must_fail_test.py)
 - proofs, from scratch: every crate and its tests are proved, and every wrong implementation in crates/*/must-fail is refused
 - tests and programs
 - calls of the program: each status (tools/calls.py), the commands that pages of docs/ show (tools/pages.py), the suite of
@@ -76,6 +76,7 @@ import slips
 import state_waves
 import stops
 import system_packages
+import system_packages_test
 import texts_test
 import traces
 import waves
@@ -362,7 +363,7 @@ def main(words):
         print("0 passed, 1 failed")
         return 1
     failed = explained.main([]) or documents.main() or notice.main() or bottling.main() or interpreter.main([]) or second_session.main() or editors.main()
-    if subprocess.run(["examples/check"]).returncode or failed or cases_test.main() or texts_test.main() or figures_test.main():
+    if subprocess.run(["examples/check"]).returncode or failed or cases_test.main() or texts_test.main() or figures_test.main() or system_packages_test.main():
         print("0 passed, 1 failed")
         return 1
     with tempfile.TemporaryDirectory(prefix="gate-") as room:
