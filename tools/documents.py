@@ -16,6 +16,7 @@
 - Each link of a page leads to a file and a heading that there are, and so does each section that a page names as in: README.md, "Install".
 - README.md has at most 2,000 words, each entry of docs/DECISIONS.md at most 80, each row of docs/maintain/PROOFS.md at most 100.
 - The version of CHANGELOG.md is that of the program, of the Python package and of the files for VS Code.
+- The licence of LICENSE is named where users look for it.
 - The figures of README.md and CONTRIBUTING.md are those of their sources, or have a date (tools/figures.py).
 
 It prints what is wrong and then ends with status 1. ./gate runs it."""
@@ -291,13 +292,20 @@ def version_faults():
     return [f"{page}: lacks {line.format(unbuilt.version())}, the version of CHANGELOG.md" for page, line in lines.items() if line.format(unbuilt.version()) not in text_of(page)]
 
 
+def licence_faults():
+    """Returns the files that do not name the licence."""
+    names = {"README.md": "licence is Apache-2.0 ([LICENSE](LICENSE)", "CONTRIBUTING.md": "LICENSE, Apache-2.0", "share/man/man1/fbsim.1": "Apache License, Version 2.0"}
+    names |= {"editors/vscode/package.json": '"license": "Apache-2.0"', "python/pyproject.toml": 'license = { text = "Apache-2.0" }', "tools/package.py": "License: Apache-2.0"}
+    return [f"{page}: lacks {name}, the licence" for page, name in names.items() if name not in " ".join(text_of(page).split())]
+
+
 def main():
     """Checks the documents and returns the status."""
     pages = ["README.md", "CONTRIBUTING.md", "CHANGELOG.md", "SECURITY.md", *[f"{folder}/{it}" for folder in ("docs", "docs/maintain", "docs/notes") for it in sorted(os.listdir(f"{TOP}/{folder}")) if it.endswith(".md")], "bench/README.md", "examples/README.md", "editors/README.md", *sorted(os.path.relpath(it, TOP) for it in glob.glob(f"{TOP}/examples/*/README.md"))]
     proved = [it for it in crates() if it != "fbsim" and not it.endswith("_tests")]
     faults = has_all("docs/maintain/ARCHITECTURE.md", crates()) + has_all("docs/maintain/PROOFS.md", proved, may_repeat=True)
     faults += module_faults() + proof_faults() + definition_faults()
-    faults += comment_faults() + block_faults() + example_faults() + length_faults() + tool_faults() + kit_faults() + version_faults() + figures.faults() + synopsis_faults()
+    faults += comment_faults() + block_faults() + example_faults() + length_faults() + tool_faults() + kit_faults() + version_faults() + licence_faults() + figures.faults() + synopsis_faults()
     places = [it for kind in ("src/**/*.rt", "specs/**/*.antt", "proofs/**/*.antt") for it in glob.glob(f"{TOP}/crates/*/{kind}", recursive=True)]
     known = {word for it in places for word in re.findall(r"[A-Z]\w+", text_of(os.path.relpath(it, TOP)))}
     known |= {os.path.basename(it).removesuffix(".antt") for it in places}
