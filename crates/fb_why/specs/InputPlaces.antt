@@ -4,7 +4,7 @@ use Rattle.fb_types.specs.declared.deploy.Plan.{Plan}
 use Rattle.fb_types.specs.declared.deploy.ResourceEntry.{ResourceEntry}
 use Rattle.fb_read.specs.declared.token.Span.{Span}
 use Rattle.fb_inputs.specs.Deployments.{deploy_of}
-use Rattle.fb_inputs.specs.NearSpans.{IsNamedKeyAt, IsNearInStimuli}
+use Rattle.fb_inputs.specs.NearSpans.{IsNearInStimuli}
 use Rattle.fb_inputs.specs.declared.deploy_location.DeployKey.{DeployKey}
 use Rattle.fb_inputs.specs.declared.deploy_location.DeployKey.TheVariants as key
 use Rattle.fb_inputs.specs.declared.deploy_location.DeployLocation.TheVariants as in_document
@@ -17,8 +17,8 @@ use Rattle.fb_inputs.specs.declared.position.DeployPosition.{DeployPosition}
 use Rattle.fb_inputs.specs.declared.position.DeployPosition.TheVariants as in_deploy
 use Rattle.fb_inputs.specs.declared.position.StimuliPosition.{StimuliPosition}
 use Rattle.fb_inputs.specs.declared.position.StimuliPosition.TheVariants as in_stimuli
-use Rattle.fb_why.specs.WrittenKeys.{IsWritten}
-use Rattle.fb_why.specs.InputStretches.{IsDeployOutside, IsDeployPlace, IsOutside, IsStimuliOutside, IsStimuliPlace}
+use Rattle.fb_why.specs.Entries.{IsEntryOutside, IsEntryPlace, IsKeyOrHeading}
+use Rattle.fb_why.specs.InputStretches.{IsOutside, IsStimuliOutside, IsStimuliPlace}
 use Rattle.fb_check_names.specs.declared.location.Side.{Side}
 use Rattle.fb_check_names.specs.declared.location.Side.TheVariants as side
 use Rattle.fb_check_names.specs.declared.location.UnknownName.{UnknownName}
@@ -46,12 +46,7 @@ Text = List ℕ
 
 -- ---- Keys that a table may not have
 
--- The bytes are those of the key. In another form than its name alone they are those that TOML reads as the key, or those of
--- a heading that has it.
-abbrev pub IsKeyOrHeading : Text → TableLocation → (key : Text) → Span → Type 0
-IsKeyOrHeading text t key span = IsNamedKeyAt text t key span ⊎ IsWritten text t key span
-
--- The same for some key. That it is the first one which the table may not have is only tested.
+-- The bytes are those of a key of the table. That it is the first one which the table may not have is only tested.
 abbrev pub IsFurtherAt : Text → TableLocation → Span → Type 0
 IsFurtherAt text t span = (key : Text) × IsKeyOrHeading text t key span
 
@@ -167,7 +162,7 @@ HasNoInputPosition deploy (found.Stimuli location) = ⊥
 -- The place is that of the position in the deployment that is given.
 abbrev pub IsPlaceInDeploy : (deploy : Option Text) → DeployPosition → InputPlace → Type 0
 IsPlaceInDeploy deploy position place =
-    (bytes : Text) × (deploy ≡ Some bytes) × (place.file ≡ file.Deployment) × IsDeployPlace bytes position place.at
+    (bytes : Text) × (deploy ≡ Some bytes) × (place.file ≡ file.Deployment) × IsEntryPlace bytes position place.at
 
 -- The place is that of the bytes in the deployment that is given.
 abbrev pub IsPlaceOfBytes : (deploy : Option Text) → Span → InputPlace → Type 0
@@ -186,7 +181,7 @@ IsPlaceIn deploy stimuli (input.Stimuli position) place = IsPlaceInRows stimuli 
 
 -- A position has no place: the input is not given, or its bytes are not in the text.
 abbrev pub HasNoPlaceIn : (deploy stimuli : Option Text) → InputPosition → Type 0
-HasNoPlaceIn deploy stimuli (input.Deployment position) = (deploy ≡ None) ⊎ ((bytes : Text) × (deploy ≡ Some bytes) × IsDeployOutside bytes position)
+HasNoPlaceIn deploy stimuli (input.Deployment position) = (deploy ≡ None) ⊎ ((bytes : Text) × (deploy ≡ Some bytes) × IsEntryOutside bytes position)
 HasNoPlaceIn deploy stimuli (input.Further span) = (deploy ≡ None) ⊎ ((bytes : Text) × (deploy ≡ Some bytes) × IsOutside bytes span)
 HasNoPlaceIn deploy stimuli (input.Stimuli position) = (stimuli ≡ None) ⊎ ((bytes : Text) × (stimuli ≡ Some bytes) × IsStimuliOutside bytes position)
 

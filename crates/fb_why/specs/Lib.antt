@@ -8,6 +8,7 @@ pub mod Mismatches
 pub mod Marks
 pub mod Places
 pub mod WrittenKeys
+pub mod Entries
 pub mod InputPlaces
 pub mod Findings
 pub mod Roots

@@ -1,5 +1,5 @@
 -- Keys of a deployment that are not written as their name alone (this project's own; TOML 1.1, "Keys").
-use Rattle.std.specs.Prelude.{◌≡◌, ◌⊎◌, ◌≤◌, ◌+◌, ℕ, List, [], ◌∷◌, codes, drop, length, slice_get, slice_index, take, Option, Some, None}
+use Rattle.std.specs.Prelude.{◌≡◌, ◌⊎◌, ◌<◌, ◌≤◌, ◌+◌, ℕ, List, [], ◌∷◌, codes, drop, length, slice_get, slice_index, take, Option, Some, None}
 use Rattle.toml_parser.specs.Reading.{key_view}
 use Rattle.toml_parser.specs.Strings as toml
 use Rattle.fb_read.specs.declared.token.Span.{Span}
@@ -82,6 +82,26 @@ abbrev pub IsOf : TableLocation → (name : Text) → Opening → Span → Type 
 IsOf t name (opening.Heading heading) span = (span ≡ heading.span) × IsInHeading t name (key_view heading.key)
 IsOf t name (opening.Key key) span = (span ≡ key.span) × (first_part (key_view key.key) ≡ name)
 IsOf t name opening.Other span = ⊥
+
+-- it is the key of the array that the table is in
+abbrev pub IsArrayKey : TableLocation → toml.Key → Type 0
+IsArrayKey t key = array_of t ≡ Some (first_part key)
+
+-- What a line begins with is the heading of an element of that array.
+abbrev pub IsElementOf : TableLocation → Opening → Span → Type 0
+IsElementOf t (opening.Heading heading) span = (span ≡ heading.span) × IsArrayKey t (key_view heading.key)
+IsElementOf t (opening.Key key) span = ⊥
+IsElementOf t opening.Other span = ⊥
+
+-- The bytes are those of such a heading.
+abbrev pub IsElementHeading : Text → TableLocation → Span → Type 0
+IsElementHeading text t span = (key : toml.Key) × IsHeadingRead text key span × IsArrayKey t key
+
+-- a byte of the text that is not before the offset
+pub record IsByteFrom (text : Text) (from : ℕ) (span : Span) : Type 0 where
+  pub after : from ≤ span.start
+  pub within : span.start < length text
+  pub one : span.end ≡ span.start + 1
 
 -- TOML reads the key of the table in these bytes, and an equals sign is after them; or these are those of a heading that has
 -- the key.

@@ -1,7 +1,8 @@
 //! Keys that a table of a deployment may not have, and where they are.
 
 ghost use Rattle.std.specs.Prelude.{IfSome};
-ghost use Rattle.fb_why.specs.InputPlaces.{IsFurtherAt, IsKeyOrHeading};
+ghost use Rattle.fb_why.specs.Entries.{IsKeyOrHeading};
+ghost use Rattle.fb_why.specs.InputPlaces.{IsFurtherAt};
 
 use crate::inline::inline_span;
 use crate::written::written_span;
@@ -61,7 +62,12 @@ pub(crate) fn item_at<'a>(keys: &'a Table, key: &str, index: usize) -> Option<&'
 
 /// A key of a table, or the heading of a table that is its value. Where the key is not written as its name alone, what
 /// TOML's reader takes for it.
-fn key_or_heading(alloc: Global, bytes: &[u8], table: TableLocation, key: &str) -> Option<Span>
+pub(crate) fn key_or_heading(
+    alloc: Global,
+    bytes: &[u8],
+    table: TableLocation,
+    key: &str,
+) -> Option<Span>
     ensures { IfSome result (IsKeyOrHeading bytes.now table key.now) }
 {
     if let Some(span) = named_key_span(bytes, table, key.as_bytes()) {

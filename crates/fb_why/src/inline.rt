@@ -1,7 +1,7 @@
-//! Keys of the inline tables of a deployment, which are elements of an array.
+//! Inline tables of a deployment, which are elements of an array, their keys, and the elements of arrays.
 
 ghost use Rattle.std.specs.Prelude.{IfSome};
-ghost use Rattle.fb_why.specs.WrittenKeys.{IsKeyNamed, IsWritten};
+ghost use Rattle.fb_why.specs.WrittenKeys.{IsByteFrom, IsKeyNamed, IsWritten};
 
 use crate::written::{array_of, named_key_at, written_span};
 use fb_inputs::TableLocation;
@@ -58,23 +58,71 @@ fn next_item(alloc: Global, item: &str) -> Option<&str> {
     Some(skip_blank(past_byte(end, b',')?, true))
 }
 
-/// The elements of the array that is the value of a key of the document.
-fn elements_of<'a>(alloc: Global, text: &'a [u8], array: &str) -> Option<&'a str> {
-    let key = written_span(alloc, text, TableLocation::Top, array)?;
+/// The elements of the array after a key, which is at these bytes.
+fn elements_after(text: &[u8], key: Span) -> Option<&str> {
     let Ok(after) = from_utf8(text.get(key.end..)?) else {
         return None;
     };
-    let value = skip_ws(past_byte(after, b'=')?);
+    let value = skip_ws(past_byte(skip_ws(after), b'=')?);
     Some(skip_blank(past_byte(value, b'[')?, true))
 }
 
-/// The keys of the inline table that is the element of an array at an index.
-fn keys_of(alloc: Global, elements: &str, index: usize) -> Option<&str> {
+/// The elements of the array that is the value of a key of the document.
+fn elements_of<'a>(alloc: Global, text: &'a [u8], array: &str) -> Option<&'a str> {
+    elements_after(text, written_span(alloc, text, TableLocation::Top, array)?)
+}
+
+/// The element of an array at an index, which begins a text with the elements. `None` if there are fewer.
+fn element_at(alloc: Global, elements: &str, index: usize) -> Option<&str> {
     let mut element = elements;
     for _passed in 0..index {
         element = next_item(alloc, element)?;
     }
+    if first(element) == b']' {
+        None
+    } else {
+        Some(element)
+    }
+}
+
+/// The keys of the inline table that is the element of an array at an index.
+fn keys_of(alloc: Global, elements: &str, index: usize) -> Option<&str> {
+    let element = element_at(alloc, elements, index)?;
     Some(skip_blank(past_byte(element, b'{')?, true))
+}
+
+/// The first byte of an end of a text, if it is not before an offset.
+fn byte_from(text: &[u8], from: usize, end: &str) -> Option<Span>
+    ensures { IfSome result (IsByteFrom text.now from) }
+{
+    let start = text.len().checked_sub(end.len())?;
+    if from <= start && start < text.len() {
+        let end = start + 1;
+        Some(Span { start, end })
+    } else {
+        None
+    }
+}
+
+/// The byte that begins an element of the array after a key, which is at these bytes.
+pub(crate) fn element_span(alloc: Global, text: &[u8], key: Span, index: usize) -> Option<Span>
+    ensures { IfSome result (IsByteFrom text.now key.end) }
+{
+    let elements = elements_after(text, key)?;
+    byte_from(text, key.end, element_at(alloc, elements, index)?)
+}
+
+/// The byte that begins an inline table, which is an element of the array that the table is in.
+pub(crate) fn table_span(
+    alloc: Global,
+    text: &[u8],
+    table: TableLocation,
+    index: usize,
+) -> Option<Span>
+    ensures { IfSome result (IsByteFrom text.now 0) }
+{
+    let elements = elements_of(alloc, text, array_of(table)?)?;
+    byte_from(text, 0, element_at(alloc, elements, index)?)
 }
 
 /// A key among keys of an inline table, which are an end of the text.

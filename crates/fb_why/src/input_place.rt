@@ -6,6 +6,7 @@ ghost use Rattle.fb_why.specs.InputPlaces as spec;
 ghost use Rattle.fb_why.specs.InputPlaces.{HasCheckedNone, HasNoInputPosition, HasNotMappedNone, IsCheckedPosition, IsFurtherIn, IsFurtherOf, IsInputPosition, IsListedIn, IsNearIn, IsNotListed, IsNotMappedPosition, IsPlaceFor, IsPlaceOf, IsShownAt};
 ghost use Rattle.fb_why.specs.InputStretches.{IsDeployOutside, IsDeployPlace};
 
+use crate::entries::entry_place;
 use crate::further::further_span;
 use crate::location::FindingLocation;
 use crate::place::PlacedFinding;
@@ -281,6 +282,7 @@ fn stimuli_rows(
 
 /// The place of a position, if there is one. Of one in the stimuli it is that of `span`, the bytes nearest to it.
 fn place_of(
+    alloc: Global,
     deploy: Option<&[u8]>,
     stimuli: Option<&[u8]>,
     position: Option<InputPosition>,
@@ -291,7 +293,7 @@ fn place_of(
 {
     match position? {
         InputPosition::Deployment(position) => {
-            let at = place_in_deployment(deploy?, position)?;
+            let at = entry_place(alloc, deploy?, position)?;
             Some(InputPlace {
                 file: InputFile::Deployment,
                 at,
@@ -327,7 +329,7 @@ fn places_of(
 {
     let mut places = Vec::new(alloc);
     for (index, position) in positions.iter().enumerate() {
-        places.push(place_of(deploy, stimuli, *position, spans[index]))?;
+        places.push(place_of(alloc, deploy, stimuli, *position, spans[index]))?;
     }
     Ok(places)
 }

@@ -10,16 +10,18 @@
 //! is refused. The wording of the texts is not part of any contract.
 //!
 //! Read in this order: `explanation` and `table`; `cause` and `location`, what each number is about, and where. Then
-//! the bytes: `find`, the refusal of a text and its location; `further`, keys that a table may not have, and `written`
-//! and `inline`, how TOML writes them. Then a location as text: `messages`, with `contents`. Then `refused`, `roots`
-//! and `declared`, locations in bytes and in what they declare; `tokens`, `expression` and `mismatch`, the operand of
-//! an expression that does not fit, and `marks`, its place; `place` and `input_place`, where a location is in its text;
-//! `listing` and `finding`, which reads the bytes again. All of this runs only after a refusal.
+//! the bytes: `find`, the refusal of a text and its location; `further`, keys that a table may not have, `written` and
+//! `inline`, how TOML writes keys and tables, and `entries`, where they are. Then a location as text: `messages`, with
+//! `contents`. Then `refused`, `roots` and `declared`, locations in bytes and in what they declare; `tokens`,
+//! `expression` and `mismatch`, the operand of an expression that does not fit, and `marks`, its place; `place` and
+//! `input_place`, where a location is in its text; `listing` and `finding`, which reads the bytes again. All of this
+//! runs only after a refusal.
 #![tactic(auto)]
 
 pub mod cause;
 mod contents;
 mod declared;
+mod entries;
 pub mod explanation;
 mod expression;
 pub mod find;

@@ -4,7 +4,7 @@
 ghost use Rattle.std.specs.Prelude.{◌≡◌, ◌≤◌, IfSome, IsTrue, length, option_map, slice_index};
 ghost use Rattle.toml_parser.specs.Reading.{key_view};
 ghost use Rattle.fb_why.specs.WrittenKeys as spec;
-ghost use Rattle.fb_why.specs.WrittenKeys.{IsFront, IsGivenAt, IsHeadingRead, IsInHeading, IsKeyNamed, IsOf, IsOpening, IsReadAt, IsWritten};
+ghost use Rattle.fb_why.specs.WrittenKeys.{IsArrayKey, IsElementHeading, IsElementOf, IsFront, IsGivenAt, IsHeadingRead, IsInHeading, IsKeyNamed, IsOf, IsOpening, IsReadAt, IsWritten};
 
 use fb_inputs::TableLocation;
 use fb_read::token::Span;
@@ -213,10 +213,32 @@ fn heads(table: TableLocation, name: &str, key: &Key) -> bool
 }
 
 /// Whether a heading begins an element of the array that a table is in.
-fn begins_element(table: TableLocation, key: &Key) -> bool {
+fn begins_element(table: TableLocation, key: &Key) -> bool
+    ensures { IsTrue result → IsArrayKey table (key_view key.now) }
+{
     match array_of(table) {
         None => false,
-        Some(array) => key.path.is_empty() && key.last.as_str() == array,
+        Some(array) => key.path.is_empty() && first_part(key) == array,
+    }
+}
+
+/// The bytes of what a line begins with, if this is the heading of an element of the array that a table is in.
+fn element_heading(table: TableLocation, opening: Opening) -> Option<Span>
+    ensures { IfSome result (IsElementOf table opening) }
+{
+    match opening {
+        Opening::Heading(
+            Heading {
+                key,
+                span,
+                is_element,
+            },
+        ) => if is_element && begins_element(table, &key) {
+            Some(span)
+        } else {
+            None
+        },
+        Opening::Key(_) | Opening::Other => None,
     }
 }
 
@@ -294,6 +316,32 @@ pub(crate) fn written_span(
             let opening = opening_at(alloc, text, at);
             if let Some(span) = walk.pass_line(table, name, opening) {
                 return Some(span);
+            }
+        }
+        begins = text[at] == b'\n';
+    }
+    None
+}
+
+/// The heading of a table that is the element at an index of an array of tables, as TOML's reader reads it.
+pub(crate) fn heading_span(
+    alloc: Global,
+    text: &[u8],
+    table: TableLocation,
+    index: usize,
+) -> Option<Span>
+    ensures { IfSome result (IsElementHeading text.now table) }
+{
+    let mut earlier: usize = 0;
+    let mut begins = true;
+    for at in 0..text.len() {
+        if begins {
+            let opening = opening_at(alloc, text, at);
+            if let Some(span) = element_heading(table, opening) {
+                if earlier == index {
+                    return Some(span);
+                }
+                earlier = earlier.saturating_add(1);
             }
         }
         begins = text[at] == b'\n';
