@@ -5,7 +5,8 @@ They are made twice, the second time with other rights of new files, another tim
 archive is unpacked into an empty folder, and each example runs there by the packaged program alone, with nothing in the environment but
 PATH: the trace is the stored one, and each link of its pages leads to a file of it. The package for Debian has the same program; `lintian`
 finds no error in it. PROVED has the sum of the program, and the last line of a gate on the same files alone. The program needs the C
-library alone, and README.md says which versions of it and of Linux. ./gate runs this each time it has run the program."""
+library alone, and README.md says which versions of it and of Linux. As SECURITY.md says, it calls nothing there that opens a connection,
+starts a program or changes a folder. ./gate runs this each time it has run the program."""
 
 import contextlib
 import glob
@@ -25,6 +26,8 @@ from system_packages import lacks
 
 EMPTY = {"PATH": "/usr/bin:/bin"}
 LINE = "9 passed, 0 failed"
+# Functions of the C library for connections, for other programs, and for what is in folders.
+NOT_CALLED = re.compile(r"socket|socketpair|connect|bind|listen|accept4?|send\w*|recv\w*|getaddrinfo|exec\w+|v?fork|clone|posix_spawnp?|system|popen|dlopen|creat|mkfifo|mkdir(at)?|rmdir|unlink(at)?|rename\w*|(sym)?link(at)?|f?truncate|f?chmod|f?chown")
 
 
 def faults_of_bytes(program, folder):
@@ -48,7 +51,10 @@ def faults_of_bytes(program, folder):
 
 
 def faults_of_needs(program):
-    """Yields what the program needs beside the C library, and the versions that README.md does not name."""
+    """Yields what the program needs beside the C library, the versions that README.md does not name, and what it is not to call."""
+    called = {line.split()[-1].split("@")[0] for line in package.by_llvm("llvm-nm", "-D", "--undefined-only", program).splitlines()}
+    if not {"read", "write"} <= called or any(NOT_CALLED.fullmatch(it) for it in called):
+        yield f"the program calls {sorted(called)}"
     said = package.by_llvm("llvm-readelf", "-d", "-n", program)
     needed, kernel = re.findall(r"Shared library: \[(.+?)\]", said), re.search(r"OS: Linux, ABI: (\d+\.\d+)\.0", said)[1]
     if needed != ["libc.so.6"]:
