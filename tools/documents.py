@@ -14,7 +14,7 @@
 - So does every name like `module::item` in the comments of sources.
 - The synopsis of docs/FORMATS.md has the commands, options and arguments of docs/HELP.md, and names the commands with --why.
 - Each link of a page leads to a file and a heading that there are, and so does each section that a page names as in: README.md, "Install".
-- README.md has at most 2,000 words, each entry of docs/DECISIONS.md at most 80, each row of docs/maintain/PROOFS.md at most 100.
+- README.md has at most 2,000 words, docs/FROM_4DIAC.md 1,200, each entry of docs/DECISIONS.md at most 80, each row of docs/maintain/PROOFS.md at most 100.
 - The version of CHANGELOG.md is that of the program, of the Python package and of the files for VS Code.
 - The licence of LICENSE is named where users look for it.
 - The figures of README.md and CONTRIBUTING.md are those of their sources, or have a date (tools/figures.py).
@@ -34,7 +34,7 @@ from kit import TOP
 
 ROW = re.compile(r"\| `(fb\w+(?:::\w+)?)` \|.*\|")
 TEXTS = re.compile(r"`([^`\n]+)`")
-MOST_WORDS = 2000
+MOST_WORDS = {"README.md": 2000, "docs/FROM_4DIAC.md": 1200}
 MOST_WORDS_OF_AN_ENTRY = 80
 MOST_WORDS_OF_A_ROW = 100
 # A file or a folder of the repository, as a page names it.
@@ -276,10 +276,10 @@ def bold_texts(page):
 
 
 def length_faults():
-    """Returns the faults of README.md, docs/DECISIONS.md and docs/maintain/PROOFS.md if they have more words than they may."""
+    """Returns the faults of pages, of entries of docs/DECISIONS.md and of rows of docs/maintain/PROOFS.md with more words than they may have."""
     page, entries = "docs/DECISIONS.md", re.split(r"\n(?=- \*\*|## )", text_of("docs/DECISIONS.md"))
-    words = len(text_of("README.md").split())
-    faults = [f"README.md: {words} words are more than {MOST_WORDS}"] if words > MOST_WORDS else []
+    counts = {it: len(text_of(it).split()) for it in MOST_WORDS}
+    faults = [f"{it}: {words} words are more than {MOST_WORDS[it]}" for it, words in counts.items() if words > MOST_WORDS[it]]
     long = [it for it in entries if it.startswith("- **") and len(it.split()) > MOST_WORDS_OF_AN_ENTRY]
     faults += [f"{page}: {len(it.split())} words are more than {MOST_WORDS_OF_AN_ENTRY}: {it.splitlines()[0]}" for it in long]
     wide = [it for it in text_of("docs/maintain/PROOFS.md").splitlines() if it.startswith("|") and len(it.split()) > MOST_WORDS_OF_A_ROW]
