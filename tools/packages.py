@@ -27,7 +27,10 @@ from system_packages import lacks
 EMPTY = {"PATH": "/usr/bin:/bin"}
 LINE = "9 passed, 0 failed"
 # Functions of the C library for connections, for other programs, and for what is in folders.
-NOT_CALLED = re.compile(r"socket|socketpair|connect|bind|listen|accept4?|send\w*|recv\w*|getaddrinfo|exec\w+|v?fork|clone|posix_spawnp?|system|popen|dlopen|creat|mkfifo|mkdir(at)?|rmdir|unlink(at)?|rename\w*|(sym)?link(at)?|f?truncate|f?chmod|f?chown")
+NOT_CALLED = re.compile(
+    r"socket(pair)?|connect|bind|listen|accept4?|send\w*|recv\w*|getaddrinfo|exec\w+|v?fork|clone|posix_spawnp?|system|popen|dlopen|"
+    r"creat|mkfifo|mkdir(at)?|rmdir|unlink(at)?|rename\w*|(sym)?link(at)?|f?truncate|f?chmod|f?chown"
+)
 
 
 def faults_of_bytes(program, folder):

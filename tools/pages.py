@@ -93,7 +93,6 @@ class Reader:
             printed = printed.replace(name, FOLDER + name)
         return printed.splitlines()
 
-
     def follows(self, lines):
         """Runs a block whose commands print nothing, from the folder where the last such block ended, and returns what they print."""
         folder, commands = self.room.folder, "\n".join(lines)
