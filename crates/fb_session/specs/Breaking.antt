@@ -1,5 +1,5 @@
 -- Setting and removing breaks (this project's profile).
-use Rattle.std.specs.Prelude.{◌≡◌, ◌⊎◌, ◌+◌, ◌^◌, ◌≤◌, ◌++◌, ◌∷◌, ℕ, Bool, true, false, List, [], length, remove, slice_get, Some, Result, Ok, Err}
+use Rattle.std.specs.Prelude.{◌≡◌, ◌⊎◌, ◌+◌, ◌^◌, ◌<◌, ◌≤◌, ◌++◌, ◌∷◌, ℕ, Bool, true, false, List, [], length, remove, slice_get, Some, Result, Ok, Err}
 use Rattle.std.specs.Str.{IsUtf8}
 use Rattle.fb_types.specs.Machines.{Each}
 use Rattle.fb_expect.specs.Written.{pattern_of}
@@ -19,7 +19,8 @@ OnlyBreaks old new = new ≡ record old { breaks = new.breaks; set = new.set }
 abbrev pub IsPattern : (text : List ℕ) → Pattern → Type 0
 IsPattern text pattern = IsUtf8 text × (pattern_of text ≡ Some pattern)
 
--- One break more is set, with the next number; or there are as before, and why.
+-- One break more is set, with the next number; or there are as before, and why. Memory runs out only where there is room for a break
+-- and a number for it.
 abbrev pub SetsBreak : (text : List ℕ) → (old new : Talk) → Result ℕ BreakFault → Type 0
 SetsBreak text old new (Ok number) =
     (number ≡ old.set + 1) × (new.set ≡ number)
@@ -27,7 +28,8 @@ SetsBreak text old new (Ok number) =
 SetsBreak text old new (Err fault.NotGoing) = (old.stage ≡ stage.Running → ⊥) × (new ≡ old)
 SetsBreak text old new (Err fault.Pattern) = ((pattern : Pattern) → IsPattern text pattern → ⊥) × (new ≡ old)
 SetsBreak text old new (Err fault.Many) = ((MOST_BREAKS ≤ length old.breaks) ⊎ (2 ^ 64 ≤ old.set + 1)) × (new ≡ old)
-SetsBreak text old new (Err fault.Memory) = new ≡ old
+SetsBreak text old new (Err fault.Memory) =
+    (old.stage ≡ stage.Running) × (length old.breaks < MOST_BREAKS) × (old.set + 1 < 2 ^ 64) × (new ≡ old)
 
 -- The break with this number is there no more, and the others are as before; or none has the number.
 abbrev pub ClearsBreak : (number : ℕ) → (old new : Talk) → (is_found : Bool) → Type 0

@@ -52,11 +52,11 @@ pub record HasGiven (s : Stimulus) (old new : Talk) : Type 0 where
   pub talk : new ≡ record old { rows = old.rows + 1; machine = new.machine }
   pub stands : (p : Past) → StandsBy old p → StandsBy new (record p { given = p.given ++ s ∷ [] })
 
--- what comes of putting a row that fits and is not late
+-- What comes of putting a row that fits and is not late. Memory runs out only where there is a number for the row.
 abbrev pub Puts : Stimulus → (text : Text) → (old new : Talk) → Result GivenAnswer GiveFault → Type 0
 Puts s text old new (Ok answer) = (answer.row ≡ old.rows) × (answer.text.items ≡ text) × HasGiven s old new
 Puts s text old new (Err Full) = (2 ^ 64 ≤ old.rows + 1) × (new ≡ old)
-Puts s text old new (Err Memory) = new ≡ old
+Puts s text old new (Err Memory) = (old.rows + 1 < 2 ^ 64) × (new ≡ old)
 Puts s text old new (Err NotGoing) = ⊥
 Puts s text old new (Err (Unread fault)) = ⊥
 Puts s text old new (Err (Unfit t fault)) = ⊥
@@ -74,4 +74,4 @@ Gives tick event values old new (Err (Unfit s fault)) = IsRead tick event values
 Gives tick event values old new (Err (Late t)) =
     (s : Stimulus) × IsRead tick event values s × IsGood old.inputs.library s × (s.tick ≡ t) × (t < old.reached) × (new ≡ old)
 Gives tick event values old new (Err Full) = (2 ^ 64 ≤ old.rows + 1) × (new ≡ old)
-Gives tick event values old new (Err Memory) = new ≡ old
+Gives tick event values old new (Err Memory) = (old.stage ≡ stage.Running) × (new ≡ old)

@@ -81,12 +81,12 @@ impl Session<'_, '_> {
         if self.breaks.set.len() >= MOST_BREAKS {
             return Err(BreakFault::Many);
         }
-        let Some(pattern) = self.pattern_in(text)? else {
-            return Err(BreakFault::Pattern);
-        };
         // 2^64 breaks are more than anyone sets one by one
         let Some(number) = self.breaks.count.checked_add(1) else {
             return Err(BreakFault::Many);
+        };
+        let Some(pattern) = self.pattern_in(text)? else {
+            return Err(BreakFault::Pattern);
         };
         add(&mut self.breaks.set, Break { number, pattern })?;
         self.breaks.count = number;

@@ -1,5 +1,5 @@
 -- Changes of the breaks alone, and the lines that breaks are for.
-use Rattle.fb_types.proofs.Common.{◌≡◌, ◌⊎◌, ◌+◌, ◌∙◌, ℕ, Bool, true, false, nat_eq, List, [], ◌∷◌, Option, Some, None, Contains, Each, IfSome, IsErrAnd, Result, Ok, Err, inl, inr, refl, sym, subst, option_map, position, slice_get, both_ways, Decides-eqb}
+use Rattle.fb_types.proofs.Common.{◌≡◌, ◌⊎◌, ◌+◌, ◌<◌, ◌^◌, ◌∙◌, ℕ, Bool, true, false, nat_eq, List, [], ◌∷◌, length, Option, Some, None, Contains, Each, IfSome, IsErrAnd, Result, Ok, Err, inl, inr, refl, sym, subst, option_map, position, slice_get, both_ways, Decides-eqb}
 use Rattle.fb_types.proofs.lemmas.lists.Positions.{position-first, position-later}
 use Rattle.fb_check.proofs.lemmas.networks.SearchLoops.{position_at}
 use Rattle.fb_types.specs.declared.run.Line.{Line}
@@ -9,6 +9,8 @@ use Rattle.fb_session.specs.Breaking.{OnlyBreaks, SetsBreak}
 use Rattle.fb_session.specs.Pasts.{Talk}
 use Rattle.fb_session.specs.declared.breaks.Break.{Break}
 use Rattle.fb_session.specs.declared.breaks.BreakFault.{BreakFault}
+use Rattle.fb_session.specs.declared.breaks.TheConstants.{MOST_BREAKS}
+use Rattle.fb_session.specs.declared.stage.Stage.TheVariants as stage
 use Rattle.fb_session.specs.declared.breaks.BreakFault.TheVariants as fault
 
 -- the session is one that has other breaks than the middle one, which is the old one
@@ -64,10 +66,15 @@ value_is : {A : Type 0} (P : Type 0) (o : Option A) (v : A) → SomeIff o P v �
 value_is P None v h = tt
 value_is P (Some x) v h = h.1
 
+pub next_counts : (P : Type 0) (o : Option ℕ) (v x : ℕ) → SomeIff o P v → o ≡ Some x → P
+next_counts P None v x h e = absurd (cc)
+next_counts P (Some y) v x h e = h.0
+
 pub next_is : {A : Type 0} (P : Type 0) (o : Option A) (v x : A) → SomeIff o P v → o ≡ Some x → x ≡ v
 next_is {A} P o v x h e = subst (λ (z : Option A). IfSome z (λ y. y ≡ v)) e (value_is P o v h)
 
--- without memory nothing changes
-pub unset_for_memory : (text : List ℕ) (old new : Talk) (r : Result ℕ BreakFault) → IsErrAnd r (λ e. e ≡ fault.Memory) → new ≡ old → SetsBreak text old new r
-unset_for_memory text old new (Ok n) bad is = absurd bad
-unset_for_memory text old new (Err e) memory is = subst (λ (f : BreakFault). SetsBreak text old new (Err f)) (sym memory) is
+-- without memory nothing changes, and there is room for a break and a number for it
+pub unset_for_memory : (text : List ℕ) (old new : Talk) (r : Result ℕ BreakFault) → IsErrAnd r (λ e. e ≡ fault.Memory) → old.stage ≡ stage.Running → length old.breaks < MOST_BREAKS
+    → old.set + 1 < 2 ^ 64 → new ≡ old → SetsBreak text old new r
+unset_for_memory text old new (Ok n) bad running few counted is = absurd bad
+unset_for_memory text old new (Err e) memory running few counted is = subst (λ (f : BreakFault). SetsBreak text old new (Err f)) (sym memory) (running, few, counted, is)

@@ -1,5 +1,5 @@
 -- A row more, while the session goes on.
-use Rattle.fb_types.proofs.Common.{◌≡◌, ℕ, ◌+◌, ◌≤◌, List, [], ◌∷◌, ◌++◌, length, map, refl, sym, ap, ◌∙◌, subst, arith, append_assoc, length-append, get_or, inl, inr, Result, Ok, Err, length-map, map-append, All-push, IsGood, AreAccepted, Inputs, system_of, stimuli_of, Precedes, stimulus_key, Each, Port, path_at, Chain, Taken, last, opening, stimulus_of, Agenda, State, Stimulated}
+use Rattle.fb_types.proofs.Common.{◌≡◌, ℕ, ◌+◌, ◌^◌, ◌<◌, ◌≤◌, List, [], ◌∷◌, ◌++◌, length, map, refl, sym, ap, ◌∙◌, subst, arith, append_assoc, length-append, get_or, inl, inr, Result, Ok, Err, length-map, map-append, All-push, IsErrAnd, IsGood, AreAccepted, Inputs, system_of, stimuli_of, Precedes, stimulus_key, Each, Port, path_at, Chain, Taken, last, opening, stimulus_of, Agenda, State, Stimulated}
 use Rattle.fb_types.specs.declared.deploy.Stimulus.{Stimulus}
 use Rattle.fb_types.specs.declared.key.Key.{Key}
 use Rattle.fb_types.specs.declared.run.Event.TheVariants.{Given}
@@ -113,6 +113,11 @@ known_names i accepted = record { plan = i.plan; once = λ twice. accepted 20 (i
 
 -- ---- What is answered
 
+-- without memory nothing changes, and there is a number for the row
+pub unput_for_memory : (s : Stimulus) (text : Text) (old new : Talk) (r : Result GivenAnswer GiveFault) → IsErrAnd r (λ e. e ≡ fault.Memory) → old.rows + 1 < 2 ^ 64 → new ≡ old → Puts s text old new r
+unput_for_memory s text old new (Ok a) bad few is = absurd bad
+unput_for_memory s text old new (Err e) memory few is = subst (λ (f : GiveFault). Puts s text old new (Err f)) (sym memory) (few, is)
+
 module _ (tick event values : Text) (old : Talk) where
   -- it was put, or it was not
   pub put_gives : (new : Talk) (s : Stimulus) (text : Text) (r : Result GivenAnswer GiveFault) → IsRead tick event values s → IsGood old.inputs.library s → old.reached ≤ s.tick
@@ -123,4 +128,4 @@ module _ (tick event values : Text) (old : Talk) where
   put_gives new s text (Err (fault.Unfit t f)) read good later running is h = absurd h
   put_gives new s text (Err (fault.Late t)) read good later running is h = absurd h
   put_gives new s text (Err fault.Full) read good later running is h = h
-  put_gives new s text (Err fault.Memory) read good later running is h = h
+  put_gives new s text (Err fault.Memory) read good later running is h = (running, h.1)

@@ -367,7 +367,7 @@ stays_given tick event values t u (Err (ungiven.Unread f)) x same = stays_still 
 stays_given tick event values t u (Err (ungiven.Unfit s f)) x same = stays_still t u x.2 same
 stays_given tick event values t u (Err (ungiven.Late k)) x same = stays_still t u x.5 same
 stays_given tick event values t u (Err ungiven.Full) x same = stays_still t u x.1 same
-stays_given tick event values t u (Err ungiven.Memory) x same = stays_still t u x same
+stays_given tick event values t u (Err ungiven.Memory) x same = stays_still t u x.1 same
 
 -- a stage that is one without a failure
 pub lives : (s z : Stage) → s ≡ z → IsAlive z → IsAlive s
