@@ -8,7 +8,8 @@ use Rattle.fb_sim.specs.Serial.{Declares}
 use Rattle.fb_wave.specs.CurrentLines.{IsRefusedLine}
 use Rattle.fb_wave.specs.declared.current_line.CurrentLine.{CurrentLine}
 use Rattle.fb_wave.specs.declared.error.WaveError.TheVariants as wave
-use Rattle.fb_inspect.specs.refused.LineFaults.{Applies}
+use Rattle.fb_inspect.specs.refused.LineFaults.{Applies, CanGoOn}
+use Rattle.fb_inspect.specs.refused.Messages.{fault_text}
 use Rattle.fb_inspect.specs.declared.refused.line_fault.LineFault.{LineFault}
 use Rattle.fbsim_command.specs.Outcomes.{End, Held}
 use Rattle.fbsim_command.specs.declared.failure.Failure.TheVariants.{Refused}
@@ -18,8 +19,12 @@ use Rattle.fbsim_command.specs.declared.failure.RefusalLine.TheVariants.{Trace}
 pub record SaysFault (sys : System) (x : CurrentLine) (line : ℕ) (note : Text) : Type 0 where
   pub fault : LineFault
   pub applies : Applies sys x fault
-  pub words : Text
-  pub is : note ≡ codes "trace: line " ++ (decimal line ++ (codes ": " ++ words))
+  pub is : note ≡ codes "trace: line " ++ (decimal line ++ (codes ": " ++ fault_text sys x.tick fault))
+
+-- there is such a note exactly if something is wrong with the line
+abbrev pub SaysLine : System → CurrentLine → (line : ℕ) → Option Text → Type 0
+SaysLine sys x line None = CanGoOn sys x
+SaysLine sys x line (Some note) = SaysFault sys x line note
 
 -- The inputs are accepted, their system has no trace with this line where the trace has it, and the note says why.
 abbrev pub IsLineNote : Given → (trace : Held) → (line : ℕ) → (note : Text) → Type 0

@@ -44,3 +44,6 @@ IsUnknownAt i = known.IsUnknownAt (system_of i)
 
 abbrev pub SaysFault : Inputs → CurrentLine → (line : ℕ) → (note : Text) → Type 0
 SaysFault i = line_notes.SaysFault (system_of i)
+
+abbrev pub SaysLine : Inputs → CurrentLine → (line : ℕ) → Option Text → Type 0
+SaysLine i = line_notes.SaysLine (system_of i)

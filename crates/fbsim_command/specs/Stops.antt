@@ -1,11 +1,11 @@
 -- Where a run stops, and how that is reported (this project's own).
-use Rattle.std.specs.Prelude.{◌≡◌, ◌⊎◌, ℕ, List, [], ◌++◌, IsTrue, Option, Some, None, Ok, codes}
+use Rattle.std.specs.Prelude.{◌≡◌, ◌⊎◌, ◌^◌, ◌≤◌, ℕ, List, [], ◌++◌, IsTrue, Option, Some, None, Ok, codes}
 use Rattle.fb_types.specs.Headline.{Inputs}
 use Rattle.fb_read.specs.Blank.{Text}
 use Rattle.fb_read_positions.specs.declared.position.Position.{Position}
 use Rattle.fb_sim.specs.Given.{Given}
 use Rattle.fb_sim.specs.Serial.{Declares}
-use Rattle.fb_stop.specs.Found.{IsStop}
+use Rattle.fb_stop.specs.Found.{IsStop, NeverStops}
 use Rattle.fb_stop.specs.Places.{HasNoPosition, IsStopPosition}
 use Rattle.fb_stop.specs.Shown.{IsStopShown, IsUnshown, operation_at}
 use Rattle.fb_stop.specs.declared.found.FoundStop.{FoundStop}
@@ -60,6 +60,16 @@ IsNoteOfRun types own lines given i horizon steps note = (stop : FoundStop) × I
 -- the note to a stop of a run of what is given
 abbrev pub IsStopNote : (types : List (List ℕ)) → (own : List ℕ) → (lines : List FileLines) → Given → (horizon steps : ℕ) → (note : List ℕ) → Type 0
 IsStopNote types own lines given horizon steps note = (i : Inputs) × Declares given i × IsNoteOfRun types own lines given i horizon steps note
+
+-- there is such a note exactly if the simulation stops
+abbrev pub NotesRun : (types : List (List ℕ)) → (own : List ℕ) → (lines : List FileLines) → Given → Inputs → (horizon steps : ℕ) → (note : Option (List ℕ)) → Type 0
+NotesRun types own lines given i horizon steps None = NeverStops i horizon steps
+NotesRun types own lines given i horizon steps (Some note) = IsNoteOfRun types own lines given i horizon steps note
+
+-- the same of a run of what is given, whose numbers are in their ranges
+abbrev pub NotesStop : (types : List (List ℕ)) → (own : List ℕ) → (lines : List FileLines) → Given → (horizon steps : ℕ) → (note : Option (List ℕ)) → Type 0
+NotesStop types own lines given horizon steps None = horizon ≤ 10 ^ 12 → steps ≤ 10 ^ 7 → (i : Inputs) × Declares given i × NeverStops i horizon steps
+NotesStop types own lines given horizon steps (Some note) = IsStopNote types own lines given horizon steps note
 
 -- the horizon and the steps of a run
 abbrev pub IsRunOf : Action → (horizon steps : ℕ) → Type 0

@@ -1,10 +1,10 @@
 //! What is reported after the refusal of a line of a trace: what is wrong with it.
 
-ghost use Rattle.std.specs.Prelude.{◌≡◌, ◌⊎◌, ◌++◌, ℕ, Err, IfSome, IsTrue, codes, decimal, map, option_map, string_bytes};
+ghost use Rattle.std.specs.Prelude.{◌≡◌, ◌⊎◌, ℕ, Err, IfOk, IfSome, IsTrue, map, option_map, string_bytes};
 ghost use Rattle.fb_wave.specs.declared.error.WaveError.TheVariants as failed;
 ghost use Rattle.fbsim_command.specs.Notes.{NotesOf};
 ghost use Rattle.fbsim_command.specs.Texts.{given_of, lines_of};
-ghost use Rattle.fbsim_command.specs.OfSystem.{SaysFault};
+ghost use Rattle.fbsim_command.specs.OfSystem.{SaysFault, SaysLine};
 
 use crate::failure::Failure;
 use crate::program::note_to;
@@ -14,15 +14,23 @@ use fb_inspect::{fault_of, line_message};
 use fb_system::System;
 use fb_wave::{CurrentLine, WaveError};
 use fbsim_line::Task;
-use std::alloc::Global;
+use std::alloc::{AllocError, Global};
 
-/// The note to the line of this number. Without memory for it there is none.
-fn note_with(alloc: Global, line: u64, words: &str) -> Option<String>
-    ensures { IfSome result (λ note. string_bytes note ≡ codes "trace: line " ++ (decimal line ++ (codes ": " ++ words.now))) }
+/// The note to the line of this number: what is wrong with it, if something is.
+fn line_note(
+    alloc: Global,
+    system: &System,
+    line: u64,
+    current: &CurrentLine,
+) -> Result<Option<String>, AllocError>
+    ensures { IfOk result (λ note. SaysLine system.now current.now line (option_map string_bytes note)) }
 {
-    match format!(in alloc; "trace: line {line}: {words}") {
-        Ok(note) => Some(note),
-        Err(_) => None,
+    match fault_of(system, current) {
+        Some(fault) => {
+            let words = line_message(alloc, system, current, fault)?;
+            Ok(Some(format!(in alloc; "trace: line {line}: {words}")?))
+        }
+        None => Ok(None),
     }
 }
 
@@ -44,11 +52,10 @@ pub(crate) fn note_of_trace_line(
     let Err(WaveError::Refused(line)) = written else {
         return None;
     };
-    let fault = fault_of(system, current)?;
-    let Ok(words) = line_message(alloc, system, current, fault) else {
-        return None;
-    };
-    note_with(alloc, *line, words.as_str())
+    match line_note(alloc, system, *line, current) {
+        Ok(note) => note,
+        Err(_) => None,
+    }
 }
 
 /// The note to the end of a call for waveforms: that of a line, if there is one, or that of a check.

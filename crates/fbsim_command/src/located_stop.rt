@@ -1,18 +1,19 @@
 //! Where a run stops, which is reported after the run if that is asked for.
 
-ghost use Rattle.std.specs.Prelude.{◌≡◌, ◌^◌, ◌≤◌, ◌++◌, ℕ, codes, List, Option, map, IfNone, IfOk, IfSome, string_bytes};
+ghost use Rattle.std.specs.Prelude.{◌≡◌, ◌^◌, ◌≤◌, ◌++◌, ℕ, codes, List, Option, map, IfNone, IfOk, IfSome, option_map, string_bytes};
 ghost use Rattle.fb_sim.specs.Reports.{Hears};
 ghost use Rattle.fb_stop.specs.Shown.{IsStopShown};
-ghost use Rattle.fbsim_command.specs.Stops.{AsksWhere, IsNoteAtStop, IsNoteOfRun, IsPositionPlace, IsStopNote, IsStopPlace, IsUnshownStop, ReportsStop};
+ghost use Rattle.fbsim_command.specs.Stops.{AsksWhere, IsNoteAtStop, IsPositionPlace, IsStopPlace, IsUnshownStop, NotesRun, NotesStop, ReportsStop};
 ghost use Rattle.fbsim_command.specs.Texts.{given_of, lines_of};
 
 use crate::failure::Failure;
 use crate::lint::report_lines;
+use crate::opening::open_inputs;
 use crate::own_lines::note_at;
 use crate::statuses::Done;
 use crate::texts::Texts;
 use fb_read_positions::{Place, excerpt, place_at, place_between};
-use fb_sim::{discard, open};
+use fb_sim::discard;
 use fb_stop::{FoundStop, Shown, find_stop, position_of, shown_of, spent_words, words_of};
 use fb_system::System;
 use fb_types::{LATEST_TICK, MOST_STEPS};
@@ -81,15 +82,15 @@ fn note_with(
     texts: &Texts,
     at: Option<Place>,
     matter: String,
-) -> Option<String>
-    ensures { IfSome result (λ note. IsNoteAtStop (map (λ t. t.now) types.now) own.now (lines_of texts.now) at (string_bytes matter) (string_bytes note)) }
+) -> Result<String, AllocError>
+    ensures { IfOk result (λ note. IsNoteAtStop (map (λ t. t.now) types.now) own.now (lines_of texts.now) at (string_bytes matter) (string_bytes note)) }
 {
     match at {
         Some(at) => {
             let lines = texts.lines.as_slice();
             note_at(alloc, types, own, lines, at, matter.as_str())
         }
-        None => Some(matter),
+        None => Ok(matter),
     }
 }
 
@@ -106,21 +107,23 @@ fn note_in(
 ) -> Result<Option<String>, AllocError>
     requires early { horizon ≤ 10 ^ 12 }
     requires few { steps ≤ 10 ^ 7 }
-    ensures { IfOk result (λ o. IfSome o (λ note. IsNoteOfRun (map (λ t. t.now) types.now) own.now (lines_of texts.now) (given_of texts.now) system.now horizon steps (string_bytes note))) }
+    ensures { IfOk result (λ o. NotesRun (map (λ t. t.now) types.now) own.now (lines_of texts.now) (given_of texts.now) system.now horizon steps (option_map string_bytes o)) }
 {
-    let Some(stop) = find_stop(alloc, system, horizon, steps)? else {
-        return Ok(None);
-    };
-    let declaration = texts.declaration.as_slice();
-    let shown = shown_of(alloc, declaration, system, &stop)?;
-    let at = place_of(alloc, declaration, system, &stop, shown)?;
-    let words = words_of(alloc, system, &stop, declaration, shown)?;
-    let spent = spent_words(alloc, system, horizon, steps, &stop)?;
-    let matter = matter_of(alloc, declaration, at, words.as_str(), spent.as_str())?;
-    Ok(note_with(alloc, types, own, texts, at, matter))
+    match find_stop(alloc, system, horizon, steps)? {
+        Some(stop) => {
+            let declaration = texts.declaration.as_slice();
+            let shown = shown_of(alloc, declaration, system, &stop)?;
+            let at = place_of(alloc, declaration, system, &stop, shown)?;
+            let words = words_of(alloc, system, &stop, declaration, shown)?;
+            let spent = spent_words(alloc, system, horizon, steps, &stop)?;
+            let matter = matter_of(alloc, declaration, at, words.as_str(), spent.as_str())?;
+            Ok(Some(note_with(alloc, types, own, texts, at, matter)?))
+        }
+        None => Ok(None),
+    }
 }
 
-/// The note of the stop of a run. Without memory for it there is none.
+/// The note of the stop of a run, if it stops below the horizon.
 fn note_of_stop(
     alloc: Global,
     types: &[&str],
@@ -128,22 +131,17 @@ fn note_of_stop(
     texts: &Texts,
     horizon: u64,
     steps: u64,
-) -> Option<String>
-    ensures { IfSome result (λ note. IsStopNote (map (λ t. t.now) types.now) own.now (lines_of texts.now) (given_of texts.now) horizon steps (string_bytes note)) }
+) -> Result<Option<String>, Failure>
+    ensures { IfOk result (λ o. NotesStop (map (λ t. t.now) types.now) own.now (lines_of texts.now) (given_of texts.now) horizon steps (option_map string_bytes o)) }
 {
     if horizon > LATEST_TICK || steps > MOST_STEPS {
-        return None;
+        return Ok(None);
     }
-    let Ok(system) = open(alloc, &texts.inputs()) else {
-        return None;
-    };
+    let system = open_inputs(alloc, &texts.inputs())?;
     let note = note_in(alloc, types, own, texts, &system, horizon, steps);
     // Dropped by one call: the end of its scope would prove the drop part by part.
     discard(system);
-    match note {
-        Ok(note) => note,
-        Err(_) => None,
-    }
+    Ok(note?)
 }
 
 /// The horizon and the steps of a run that stopped, if it is asked where.
@@ -191,7 +189,7 @@ pub(crate) fn report_stop_after<E: Write>(
     let Some((horizon, steps)) = asked(task, end) else {
         return true;
     };
-    let Some(note) = note_of_stop(alloc, types, task.declaration, texts, horizon, steps) else {
+    let Ok(Some(note)) = note_of_stop(alloc, types, task.declaration, texts, horizon, steps) else {
         return true;
     };
     match line_of(alloc, &note) {

@@ -180,7 +180,7 @@ fn note_at_place(
     match matter_at(alloc, refused.number, words, declaration, at) {
         Ok(matter) => {
             let matter = matter.as_str();
-            note_at(alloc, refused.types, refused.own, lines, at, matter)
+            note_at(alloc, refused.types, refused.own, lines, at, matter).ok()
         }
         Err(_) => None,
     }

@@ -118,14 +118,14 @@ pub(crate) fn note_at(
     lines: &[FileLines],
     at: Place,
     matter: &str,
-) -> Option<String>
-    ensures { IfSome result (λ note. IsPlaced (map (λ t. t.now) types.now) own.now lines.now at.line at.column (string_bytes note)) }
+) -> Result<String, AllocError>
+    ensures { IfOk result (λ note. IsPlaced (map (λ t. t.now) types.now) own.now lines.now at.line at.column (string_bytes note)) }
 {
     match line_in_file(lines, at.line) {
         Some(there) => {
             let name = file_name(types, own, there.file);
-            placed(alloc, name, there.line, there.column(at.column), matter)
+            placed_text(alloc, name, there.line, there.column(at.column), matter)
         }
-        None => placed(alloc, own, at.line, at.column as u128, matter),
+        None => placed_text(alloc, own, at.line, at.column as u128, matter),
     }
 }

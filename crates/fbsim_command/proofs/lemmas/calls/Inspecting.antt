@@ -1,7 +1,7 @@
 -- How a call that inspects a trace ends.
-use Rattle.fbsim_command.proofs.lemmas.Common.{◌≡◌, ◌≤◌, ◌⊎◌, ℕ, Bool, List, Option, Some, None, Result, Ok, Err, codes, option_map, ◌++◌, inl, inr, refl, sym, ap, subst, ◌∙◌, IfErr, IfSome, IsTrue, OnErr, Inputs, system_of, IsErrAnd, OfRefusal, Given, Declares, failure_of_source, Notes, NotesOf, End, Held, IsWrongIn, EndsIn, Reading, AreRead, IsUnread, Opening, Failure, Refused, File, Write, Memory, Task, SourceFault, Part, RefusedTrace, Line, BadOption}
+use Rattle.fbsim_command.proofs.lemmas.Common.{◌≡◌, ◌≤◌, ◌⊎◌, ℕ, Bool, List, Option, Some, None, Result, Ok, Err, codes, option_map, inl, inr, refl, sym, ap, subst, ◌∙◌, IfErr, IfSome, IsTrue, OnErr, Inputs, system_of, IsErrAnd, OfRefusal, Given, Declares, failure_of_source, Notes, NotesOf, End, Held, IsWrongIn, EndsIn, Reading, AreRead, IsUnread, Opening, Failure, Refused, File, Write, Memory, Task, SourceFault, Part, RefusedTrace, Line, BadOption}
 use Rattle.fbsim_command.specs.Outcomes.{IsUndeclared}
-use Rattle.fb_types.proofs.Common.{IfNone, decimal}
+use Rattle.fb_types.proofs.Common.{IfNone, IfOk}
 use Rattle.fb_types.specs.Names.{Name}
 use Rattle.fb_types.specs.Systems.{System}
 use Rattle.fb_inspect.specs.Refusals.{IsPathFault, IsWrongAt}
@@ -11,11 +11,14 @@ use Rattle.fb_wave.specs.Named.{HasNames}
 use Rattle.fb_wave.specs.declared.truncation.Cut.{Cut}
 use Rattle.fb_wave.specs.declared.truncation.Cut.TheVariants as cut
 use Rattle.fb_inspect.specs.Inspections.{ShowsRead}
+use Rattle.fb_inspect.specs.OfSystem.{Applies, CanGoOn, fault_text, finding_text}
+use Rattle.fb_inspect.specs.declared.refused.finding.RefusedLine.{RefusedLine}
+use Rattle.fb_inspect.specs.declared.refused.line_fault.LineFault.{LineFault}
 use Rattle.fb_inspect.specs.declared.error.InspectError.{InspectError}
 use Rattle.fb_inspect.specs.declared.error.InspectError.TheVariants as inspection
 use Rattle.clap.specs.Words.{Text}
 use Rattle.fbsim_command.specs.Failures.{IsInspectionFailure}
-use Rattle.fbsim_command.specs.InsideNotes.{IsOpenNote, NotesInside, SaysLine}
+use Rattle.fbsim_command.specs.InsideNotes.{IsOpenNote, IsWordsOf, NotesInside, SaysInside, SaysLine}
 use Rattle.fbsim_command.specs.Inspecting.{Inspects, NotesPaths, ShowsInsides, cut_of, files_of, selection_of}
 use Rattle.fbsim_command.specs.Notes.{IsFileNote, NotesRest}
 use Rattle.fbsim_line.specs.declared.inspect_line.Inspect.{Inspect}
@@ -107,12 +110,25 @@ no_refusal (Err e) W is = subst (OfRefusal W) (sym is) tt
 
 -- ---- What was read
 
+-- what is wrong with a line of the system
+pub words_wrong :
+    {S E : Type 0} (bytes : S → Text) (i : Inputs) (r : RefusedLine) (fault : LineFault) (words : Result S E) → Applies i r.current fault → IfOk words (λ w. bytes w ≡ fault_text i r.current.tick fault)
+    → IfOk words (λ w. IsWordsOf i r (bytes w))
+words_wrong bytes i r fault (Ok w) applies is = record { fault = Some fault; applies = applies; is = is }
+words_wrong bytes i r fault (Err e) applies is = tt
+
+-- what was found in another one
+pub words_found :
+    {S E : Type 0} (bytes : S → Text) (i : Inputs) (r : RefusedLine) (words : Result S E) → CanGoOn i r.current → IfOk words (λ w. bytes w ≡ finding_text i r.finding) → IfOk words (λ w. IsWordsOf i r (bytes w))
+words_found bytes i r (Ok w) right is = record { fault = None; applies = right; is = is }
+words_found bytes i r (Err e) right is = tt
+
 -- the note has the number of the line
 pub says_line :
-    {S : Type 0} (bytes : S → Text) (why : Bool) (front : Text) (line : ℕ) (words : Text) (note : Option S) → IsTrue why
-    → IfSome note (λ n. bytes n ≡ front ++ (codes ": line " ++ (decimal line ++ (codes ": " ++ words)))) → IfSome note (λ n. IsTrue why × SaysLine front line (bytes n))
-says_line bytes why front line words None asked is = tt
-says_line bytes why front line words (Some n) asked is = (asked, record { words = words; is = is })
+    {S : Type 0} (bytes : S → Text) (why : Bool) (i : Inputs) (r : RefusedLine) (front : Text) (line : ℕ) (note : Option S) → IsTrue why → SaysInside i r front line (option_map bytes note)
+    → IfSome note (λ n. IsTrue why × SaysLine front line (bytes n))
+says_line bytes why i r front line None asked said = tt
+says_line bytes why i r front line (Some n) asked said = (asked, record { words = said.0; is = said.3 })
 
 -- what is said of a refused line
 pub line_noted_inside :

@@ -1,8 +1,8 @@
 -- Refusals and notes that name a file of a declaration and the line in it.
-use Rattle.fbsim_command.proofs.lemmas.Common.{◌≡◌, ◌+◌, ◌<◌, ℕ, zero, suc, Bor, List, [], ◌∷◌, length, get_or, map, arith, Option, Some, None, String, Err, refl, sym, ap, ◌∙◌, subst, inl, inr, string_bytes, IfSome, End, Failure, Refused, RefusedTrace, File, Write, Memory, Line, BadOption}
+use Rattle.fbsim_command.proofs.lemmas.Common.{◌≡◌, ◌+◌, ◌<◌, ℕ, zero, suc, Bor, List, [], ◌∷◌, length, get_or, map, arith, Option, Some, None, Result, Ok, Err, refl, sym, ap, ◌∙◌, subst, inl, inr, string_bytes, IfOk, End, Failure, Refused, RefusedTrace, File, Write, Memory, Line, BadOption}
 use Rattle.clap.specs.Words.{Text}
 use Rattle.fbsim_command.specs.Joining.{IsLineOf, counts, mark_at, name_at}
-use Rattle.fbsim_command.specs.OwnLines.{EndsBy, IsInNone, IsPlaced, IsPlacedText, IsSyntaxIn, IsSyntaxText, placed_text, syntax_in}
+use Rattle.fbsim_command.specs.OwnLines.{EndsBy, IsInNone, IsPlaced, IsSyntaxIn, IsSyntaxText, placed_text, syntax_in}
 use Rattle.fbsim_command.specs.declared.join.FileLines.{FileLines}
 
 module _ (types : List Text) (own : Text) (lines : List FileLines) where
@@ -22,17 +22,17 @@ module _ (types : List Text) (own : Text) (lines : List FileLines) where
   ends-as o inner is = subst (λ (k : Option ℕ). EndsBy types own lines k inner inner) (sym is) refl
 
   pub placed-in :
-      {A : Type 0} (whole column there file line : ℕ) (name : Text) (note : Option (String A)) → IsLineOf (counts lines) whole file line → name ≡ name_at types own file
-      → there ≡ column + mark_at lines file line → IfSome note (λ n. IsPlacedText name line there (string_bytes n)) → IfSome note (λ n. IsPlaced types own lines whole column (string_bytes n))
-  placed-in whole column there file line name None at same moved is = tt
-  placed-in whole column there file line name (Some note) at same moved is =
-      inl (file, line, at, (is.0, is.1 ∙ ap (λ (n : Text). placed_text n line there is.0) same ∙ ap (λ (k : ℕ). placed_text (name_at types own file) line k is.0) moved))
+      {S E : Type 0} (bytes : S → Text) (whole column there file line : ℕ) (name matter : Text) (note : Result S E) → IsLineOf (counts lines) whole file line → name ≡ name_at types own file
+      → there ≡ column + mark_at lines file line → IfOk note (λ n. bytes n ≡ placed_text name line there matter) → IfOk note (λ n. IsPlaced types own lines whole column (bytes n))
+  placed-in bytes whole column there file line name matter (Err e) at same moved is = tt
+  placed-in bytes whole column there file line name matter (Ok note) at same moved is =
+      inl (file, line, at, (matter, is ∙ ap (λ (n : Text). placed_text n line there matter) same ∙ ap (λ (k : ℕ). placed_text (name_at types own file) line k matter) moved))
 
   pub placed-alone :
-      {A : Type 0} (whole column : ℕ) (note : Option (String A)) → IsInNone lines whole → IfSome note (λ n. IsPlacedText own whole column (string_bytes n))
-      → IfSome note (λ n. IsPlaced types own lines whole column (string_bytes n))
-  placed-alone whole column None none is = tt
-  placed-alone whole column (Some note) none is = inr (none, is)
+      {S E : Type 0} (bytes : S → Text) (whole column : ℕ) (matter : Text) (note : Result S E) → IsInNone lines whole → IfOk note (λ n. bytes n ≡ placed_text own whole column matter)
+      → IfOk note (λ n. IsPlaced types own lines whole column (bytes n))
+  placed-alone bytes whole column matter (Err e) none is = tt
+  placed-alone bytes whole column matter (Ok note) none is = inr (none, (matter, is))
 
 -- the name of one of the files of block types
 pub named_here : (ts : List (Bor Text)) (own : Text) (file : ℕ) (d : Bor Text) → file < length ts → (get_or ts file d).now ≡ name_at (map (λ t. t.now) ts) own file

@@ -1,5 +1,6 @@
 -- What is reported of a run that stopped.
-use Rattle.fbsim_command.proofs.lemmas.Common.{◌≡◌, ◌++◌, ◌∙◌, ◌∷◌, ℕ, Bool, true, List, [], Option, String, refl, sym, ap, subst, append_assoc, append-nil, Ok, Err, inl, inr, IfOk, IfSome, None, Result, Some, string_bytes, Inputs, Library, Given, Hears, Place, Held}
+use Rattle.fbsim_command.proofs.lemmas.Common.{◌≡◌, ◌++◌, ◌∙◌, ◌∷◌, ℕ, Bool, true, List, [], Option, refl, sym, ap, subst, append_assoc, append-nil, Ok, Err, inl, inr, IfOk, IfSome, None, Result, Some, Inputs, Library, Given, Declares, Hears, Place, Held}
+use Rattle.std.specs.Result.{result_ok}
 use Rattle.fb_types.proofs.Common.{◌+◌, ◌≤◌, Appends-trans, IsTrue, arith, drop, false≢true, is_some, length}
 use Rattle.fb_read.specs.Blank.{Text}
 use Rattle.fb_read.specs.Located.{AreLocated}
@@ -8,14 +9,13 @@ use Rattle.fb_read.specs.Tokens.{after_mark}
 use Rattle.fb_read.specs.declared.token.Located.{Located}
 use Rattle.fb_read.proofs.lemmas.tokens.PrefixLaws.{next-after}
 use Rattle.fb_read_positions.specs.declared.position.Position.{Position}
-use Rattle.fb_stop.specs.Found.{IsStop}
 use Rattle.fb_stop.specs.Places.{IsStopPosition}
 use Rattle.fb_stop.specs.Shown.{IsStopShown}
 use Rattle.fb_stop.specs.declared.found.FoundStop.{FoundStop}
 use Rattle.fb_stop.specs.declared.shown.Shown.{Shown}
 use Rattle.fb_read_positions.specs.Places.{IsPlaceAt, IsPlaceFor, IsPlace, IsStretch, IsWithin}
 use Rattle.fb_read_positions.specs.Spans.{IsNowhere}
-use Rattle.fbsim_command.specs.Stops.{IsNoteAtStop, IsNoteOfRun, IsNoteOfStop, IsPositionPlace, IsStopPlace, IsUnshownStop}
+use Rattle.fbsim_command.specs.Stops.{IsPositionPlace, IsStopPlace, IsUnshownStop, NotesRun, NotesStop}
 use Rattle.fbsim_command.specs.declared.join.FileLines.{FileLines}
 
 -- one report after another, of which all was taken
@@ -76,19 +76,17 @@ pub operated : (text : Text) (i : Inputs) (stop : FoundStop) (x : Shown) (o : Op
 operated text i stop x None is some located there = absurd (false≢true (some (operator-within text i stop x is)))
 operated text i stop x (Some at) is some located there = inl (record { shown = x; is = is; there = there; located = located })
 
--- the note with a place, if there is one, as that of a stop
-pub noted_at :
-    {A : Type 0} (types : List (List ℕ)) (own : List ℕ) (lines : List FileLines) (given : Given) (i : Inputs) (stop : FoundStop) (at : Option Place) (words : List ℕ) (o : Option (String A))
-    → IfSome o (λ note. IsNoteAtStop types own lines at words (string_bytes note)) → IsStopPlace given.declaration i stop at → IfSome o (λ note. IsNoteOfStop types own lines given i stop (string_bytes note))
-noted_at types own lines given i stop at words None noted place = tt
-noted_at types own lines given i stop at words (Some note) noted place = (at, words, place, noted)
+-- what there is of a result
+pub if_ok : {S E : Type 0} (r : Result S E) (o : Option S) (P : S → Type 0) → o ≡ result_ok r → IfOk r P → IfSome o P
+if_ok (Ok x) o P same p = subst (λ q. IfSome q P) (sym same) p
+if_ok (Err e) o P same p = subst (λ q. IfSome q P) (sym same) tt
 
--- the note of a stop, as that of the run that stops there
-pub noted_run :
-    {A : Type 0} (types : List (List ℕ)) (own : List ℕ) (lines : List FileLines) (given : Given) (i : Inputs) (horizon steps : ℕ) (stop : FoundStop) (o : Option (String A)) → IsStop i horizon steps stop
-    → IfSome o (λ note. IsNoteOfStop types own lines given i stop (string_bytes note)) → IfSome o (λ note. IsNoteOfRun types own lines given i horizon steps (string_bytes note))
-noted_run types own lines given i horizon steps stop None is h = tt
-noted_run types own lines given i horizon steps stop (Some note) is h = (stop, is, h)
+-- what is said of a run of a system, as what is said of what declares it
+pub run-stop :
+    (types : List (List ℕ)) (own : List ℕ) (lines : List FileLines) (given : Given) (i : Inputs) (horizon steps : ℕ) (note : Option (List ℕ)) → Declares given i
+    → NotesRun types own lines given i horizon steps note → NotesStop types own lines given horizon steps note
+run-stop types own lines given i horizon steps None declares never = λ early few. (i, declares, never)
+run-stop types own lines given i horizon steps (Some note) declares run = (i, declares, run)
 
 -- nothing more is reported
 pub nothing_more : (is_heard now : Bool) (err : Held) → is_heard ≡ now → (old : Held) (first : List ℕ) → Hears is_heard old err first → Hears now old err (first ++ [])

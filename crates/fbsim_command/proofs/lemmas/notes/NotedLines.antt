@@ -1,15 +1,13 @@
 -- The note to the line at which a trace is refused.
-use Rattle.fbsim_command.proofs.lemmas.Common.{◌≡◌, ◌⊎◌, ℕ, Bool, Option, Some, None, Result, Ok, Err, option_map, codes, ◌++◌, inl, inr, sym, ap, subst, ◌∙◌, IfErr, IfSome, IsTrue, Inputs, system_of, Given, Declares, End, Held, Failure}
-use Rattle.fb_types.proofs.Common.{decimal, System}
+use Rattle.fbsim_command.proofs.lemmas.Common.{◌≡◌, ◌⊎◌, ℕ, Bool, Option, Some, None, Result, Ok, Err, option_map, inl, inr, sym, ap, subst, ◌∙◌, IfErr, IfSome, IsTrue, Inputs, system_of, Given, Declares, End, Held, Failure}
+use Rattle.fb_types.proofs.Common.{System}
 use Rattle.clap.specs.Words.{Text}
 use Rattle.fb_wave.specs.CurrentLines.{IsRefusedLine}
 use Rattle.fb_wave.specs.declared.current_line.CurrentLine.{CurrentLine}
 use Rattle.fb_wave.specs.declared.error.WaveError.{WaveError}
 use Rattle.fb_wave.specs.declared.error.WaveError.TheVariants as wave
-use Rattle.fb_inspect.specs.refused.LineFaults.{Applies}
-use Rattle.fb_inspect.specs.declared.refused.line_fault.LineFault.{LineFault}
 use Rattle.fbsim_command.specs.Failures.{IsWaveFailure}
-use Rattle.fbsim_command.specs.LineNotes.{NotesLine, SaysFault}
+use Rattle.fbsim_command.specs.LineNotes.{NotesLine, SaysFault, SaysLine}
 
 -- a note of a check, of a line, or of a trace that can't be read to its end
 pub noted_so :
@@ -18,12 +16,10 @@ noted_so P Q R note line first of_line last (inl noted) = inl noted
 noted_so P Q R note line first of_line (inl same) (inr is) = inr (inl (subst Q (sym (is ∙ same)) of_line))
 noted_so P Q R note line first of_line (inr rest) (inr is) = inr (inr (subst R (sym is) rest))
 
--- the note that says what is wrong with a line
-pub says :
-    {S : Type 0} (bytes : S → Text) (sys : System) (x : CurrentLine) (line : ℕ) (fault : LineFault) (words : Text) (note : Option S) → Applies sys x fault
-    → IfSome note (λ n. bytes n ≡ codes "trace: line " ++ (decimal line ++ (codes ": " ++ words))) → IfSome note (λ n. SaysFault sys x line (bytes n))
-says bytes sys x line fault words None applies is = tt
-says bytes sys x line fault words (Some n) applies is = record { fault = fault; applies = applies; words = words; is = is }
+-- the note that says what is wrong with a line, if there is one
+pub says : {S : Type 0} (bytes : S → Text) (sys : System) (x : CurrentLine) (line : ℕ) (note : Option S) → SaysLine sys x line (option_map bytes note) → IfSome note (λ n. SaysFault sys x line (bytes n))
+says bytes sys x line None said = tt
+says bytes sys x line (Some n) said = said
 
 -- the note to a line, as that of the trace that is refused there
 pub refused_line :

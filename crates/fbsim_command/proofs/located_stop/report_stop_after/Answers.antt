@@ -18,8 +18,8 @@ returns-in-Ok g c = (
     horizon = c.in-Some.horizon;
     steps = c.in-Some.steps;
     asks = c.in-Some.ensures;
-    note = string_bytes c.in-Some-note_of_stop.note;
-    is = c.in-Some-note_of_stop.ensures;
+    note = string_bytes c.in-Ok-Some.note;
+    is = (rw c.in-Ok-Some.field-0-is at c.in-Ok-Some.ensures);
     line = c.as_bytes.ensures.value ∙ c.in-Ok.ensures;
   }),
   λ (old : Held) (first : List ℕ) h.
