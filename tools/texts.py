@@ -42,7 +42,7 @@ from served import Served
 
 PROGRAM = "fbsim"
 # The most cases that are run for one change before the text counts as shown by none.
-MOST_TRIED = 150
+MOST_TRIED = 500
 # The instruction that stops a program at a place (int3).
 BREAK = 0xCC
 # Outputs over this many bytes are traces, whose texts shorter ones have too.
@@ -53,6 +53,8 @@ MOST_STEPS = 1_000_000
 TELLING = 4
 # The sections in which texts stand.
 HOLDING = (".rodata", ".data.rel.ro")
+# Where functions of more modules than this refer to, empty texts begin too.
+MOST_MODULES = 5
 # The least bytes of a text that is looked for among the numbers of instructions, and the most that one of these has.
 LEAST, WORD = 4, 8
 # The least bytes of a text that is looked for in comparisons with a number of two bytes, and the beginning of such an instruction.
@@ -311,6 +313,15 @@ def is_sure(fit):
     return (in_module or (is_whole and (in_crate or size >= TELLING))) and (size >= TELLING or is_near or is_whole)
 
 
+def crowded_addresses(elf, references):
+    """Returns the addresses to which functions of many modules refer: the linker puts empty texts where another one begins."""
+    modules = defaultdict(set)
+    for target, where, _, form in references:
+        if form == "<i":
+            modules[target].add("::".join(elf.symbol(where).split("::")[:2]))
+    return {target for target, them in modules.items() if len(them) > MOST_MODULES}
+
+
 def length_at(elf, address):
     """Returns the number after a pointer in constants, which is the length of what it points to, if that is a text."""
     offset = elf.offset(address)
@@ -333,7 +344,7 @@ def uses_of(data, literals):
     known = {"texts": by_text, "sizes": sorted({len(it) for it in by_text}, reverse=True)}
     found = list(elf.references())
     found += tables(elf, found, known)
-    starts = {it[0] for it in found}
+    starts, crowded = {it[0] for it in found}, crowded_addresses(elf, found)
     passing = passes(elf, found)
     uses, pointers = [], {where for _, where, _, form in found if form == "<q"}
     for target, where, place, form in found:
@@ -345,7 +356,8 @@ def uses_of(data, literals):
         if texts:
             symbol = elf.symbol(where) if form == "<i" else ""
             best = max((it for text in texts for it in by_text[text]), key=lambda it: likeness(elf, starts, it, target, symbol, place))
-            if len(best.text) != size and not is_sure(likeness(elf, starts, best, target, symbol, place)):
+            fit = likeness(elf, starts, best, target, symbol, place)
+            if len(best.text) != size and not (is_sure(fit) and (fit[2] or target not in crowded)):
                 continue
             number = struct.unpack_from(form, data, place)[0] + shifted(elf, target, len(best.text))
             # (a reference may be read by no code any more, which then has the bytes themselves)
@@ -714,13 +726,15 @@ def report(literals, uses, lacks, unshown, survived):
 def without_copies(unreached, survived, uses):
     """Returns both, without those of texts for which a case fails at another place of the same function, and of the second without single
     bytes. A compiler makes copies of code for cases that can't be, and constants that no code reads any more. It also lets an instruction
-    refer to a text that the next ones replace: such a place is reached, and another one of the same function of the program shows the text."""
+    refer to a text that the next ones replace: such a place is reached, and another one of the same function of the program shows the text. In
+    the functions of other crates the same bytes may be another text, which a case shows there."""
     lacking = {id(it) for it in (*unreached, *survived)}
     shown = [it for it in uses if id(it) not in lacking]
     noticed, twins = {name_of(it.literal) for it in shown}, {(it.symbol, name_of(it.literal)) for it in shown}
 
     def is_copy(use):
-        return name_of(use.literal) in noticed and (not use.is_sure or (use.symbol, name_of(use.literal)) in twins)
+        name, is_own = name_of(use.literal), use.symbol.startswith(f"{use.literal.path.split('/')[1]}::")
+        return name in noticed and (not use.is_sure or not is_own or (use.symbol, name) in twins)
 
     longer = [it for it in survived if len(it.literal.text) >= SHORTEST]
     return [it for it in unreached if name_of(it.literal) not in noticed], [it for it in longer if not is_copy(it)]

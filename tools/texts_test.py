@@ -160,8 +160,9 @@ def faults_of_copies():
     one, two, byte = (texts.Literal("crates/fb_stub/src/words.rt", 1, "print", it) for it in (b"one", b"two", b"3"))
     shown, copy, constant = (texts.Use("", one, [], passed, is_sure) for passed, is_sure in ((1, True), (2, True), (0, False)))
     alone, replaced, single = (texts.Use("", it, [], 3, True) for it in (two, one, byte))
-    survivor = texts.Use("other", one, [], 4, True)
-    came = texts.without_copies([copy, alone], [constant, replaced, survivor, single], [shown, copy, constant, alone, replaced, survivor, single])
+    survivor, foreign = (texts.Use(it, one, [], 4, True) for it in ("fb_stub::other", "fb_other::print"))
+    lacking = [constant, replaced, survivor, foreign, single]
+    came = texts.without_copies([copy, alone], lacking, [shown, copy, alone, *lacking])
     return [] if came == ([alone], [survivor]) else [f"copies are left out otherwise: {came}"]
 
 
