@@ -43,7 +43,7 @@ TRIED = {**KINDS, **{it: it for it in (*WORDS, *KEYWORDS, *SIGNS)}}
 # What is probably meant, which may follow the list.
 HINT = re.compile(
     r" \((an earlier line ends|a word of|ELSE IF begins|comments do not nest|the word before|equal is|AND is|there is no sign|a condition is"
-    r"|:= assigns|TO leads|a keyword).*\)$"
+    r"|:= assigns|TO leads|a keyword|a number has no sign).*\)$"
 )
 
 
@@ -75,12 +75,14 @@ def places(room):
 def fault_of(room, case):
     """Returns what is wrong with the list of tokens after a text, by one token that is put there, or None."""
     text, words, name, token = case
+    # (a condition is listed as 1, which is the only whole number there)
+    is_listed = name in words or token in words
     # (on the same line: a semicolon that is missing at the end of a line is shown there, and not at the token)
     line = why(room, f"{text} {token}")
     if not line.startswith(f"-:1:{len(text) + 2}: E03: found "):
         is_name = name in WORDS and "name" in words
-        return None if name in words or is_name else f"{text[-60:]!r}: {token} may follow, and is not listed: {sorted(words)}"
-    if name in words:
+        return None if is_listed or is_name else f"{text[-60:]!r}: {token} may follow, and is not listed: {sorted(words)}"
+    if is_listed:
         return f"{text[-60:]!r}: {token} is listed, and may not follow: {line}"
     return None if listed(line, token) == words else f"{text[-60:]!r}: before {token} another list: {line}; at the end {sorted(words)}"
 

@@ -6,6 +6,7 @@ types (mypy) and its length, its tests (pytest), of which none may be left out, 
 install on. A package of the system that is missing is a failure that names it. ./gate runs this when it has run the program."""
 
 import os
+import re
 import shutil
 import subprocess
 import sys
@@ -14,7 +15,7 @@ import xml.etree.ElementTree
 
 import pages
 from kit import TOP, rt
-from system_packages import lacks
+from system_packages import lacks, required
 
 # The system's own Python, which sees the system's packages.
 PYTHON = "/usr/bin/python3"
@@ -95,6 +96,11 @@ class Copy:
     def does(self, command):
         """Returns the lines that a command of the page prints."""
         return self.run(["sh", "-c", f"exec 2>&1\n{command}\n"], self.page)[1].splitlines()
+
+    def follows(self, lines):
+        """Returns a line for each system package that a command of the page installs and ./gate does not."""
+        named = re.findall(r"\bpython3-\w+", "\n".join(lines))
+        return [f"tools/system_packages.txt lacks {it}" for it in named if it not in required()]
 
     def follow(self):
         """Returns whether each command of the page prints what the page has."""
