@@ -20,8 +20,40 @@ fn past_byte(rest: &str, byte: u8) -> Option<&str> {
     }
 }
 
+/// What follows blanks, ends of lines and comments. Mostly there is a space or nothing of that, and then TOML's reader is
+/// not asked.
+fn past_space(rest: &str) -> &str {
+    let next = match past_byte(rest, b' ') {
+        Some(after) => after,
+        None => rest,
+    };
+    match first(next) {
+        b' ' | b'\t' | b'\r' | b'\n' | b'#' => skip_blank(next, true),
+        _ => next,
+    }
+}
+
+/// What follows the next string, if it is a basic one of one line without an escape. TOML's reader would copy it.
+fn past_plain(rest: &str) -> Option<&str> {
+    let bytes = rest.as_bytes();
+    if first(rest) != b'"' {
+        return None;
+    }
+    for at in 1..bytes.len() {
+        match bytes[at] {
+            b'"' => return if at == 1 { None } else { rest.get(at + 1..) },
+            b'\\' | b'\n' => return None,
+            _ => {}
+        }
+    }
+    None
+}
+
 /// What follows the next byte or the next string.
 fn past_piece(alloc: Global, rest: &str) -> Option<&str> {
+    if let Some(after) = past_plain(rest) {
+        return Some(after);
+    }
     if starts_string(rest) {
         return match quoted(alloc, rest) {
             Ok((text, after)) => {
@@ -40,7 +72,7 @@ fn past_item(alloc: Global, item: &str) -> Option<&str> {
     let mut rest = item;
     let mut depth: usize = 0;
     for _turn in 0..item.len() {
-        rest = skip_blank(rest, true);
+        rest = past_space(rest);
         match first(rest) {
             b',' | b']' | b'}' if depth == 0 => return Some(rest),
             b'[' | b'{' => depth = depth.saturating_add(1),
@@ -55,7 +87,7 @@ fn past_item(alloc: Global, item: &str) -> Option<&str> {
 /// The item after one that begins here, of the same array or inline table.
 fn next_item(alloc: Global, item: &str) -> Option<&str> {
     let end = past_item(alloc, item)?;
-    Some(skip_blank(past_byte(end, b',')?, true))
+    Some(past_space(past_byte(end, b',')?))
 }
 
 /// The elements of the array after a key, which is at these bytes.
