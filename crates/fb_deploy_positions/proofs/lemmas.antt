@@ -1,0 +1,6 @@
+pub mod Lines
+pub mod Nearest
+pub mod Plain
+pub mod Searches
+pub mod Tokens
+pub mod Turns

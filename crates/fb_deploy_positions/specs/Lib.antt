@@ -1,0 +1,5 @@
+pub mod Values
+pub mod Statements
+pub mod Entries
+pub mod Results
+pub mod Views
