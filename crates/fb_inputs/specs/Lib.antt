@@ -2,9 +2,6 @@ pub mod Counts
 pub mod Positions
 pub mod Searches
 pub mod Records
-pub mod Lines
-pub mod Arrays
-pub mod Passing
 pub mod NearSpans
 pub mod Refusals
 pub mod StimuliLocations

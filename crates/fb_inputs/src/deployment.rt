@@ -53,7 +53,11 @@ fn judge(alloc: Global, draft: PlanDraft) -> Result<Deploy, DeployFault>
 }
 
 /// The document in TOML.
-fn document(alloc: Global, bytes: &[u8]) -> Result<Table, DeployFault>
+///
+/// # Errors
+///
+/// Where it is none, or `Memory`.
+pub fn document(alloc: Global, bytes: &[u8]) -> Result<Table, DeployFault>
     ensures found { IfOk result (λ t. spec.document bytes.now ≡ Some (table_view t)) }
     ensures refused { IfErr result (IsNoDocument bytes.now) }
 {

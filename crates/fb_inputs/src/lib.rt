@@ -5,28 +5,23 @@
 //! and `locate_stimuli` return where they are refused, and what is wrong there; `deployment_location` and
 //! `stimuli_location` return that alone, or `None` exactly if they are accepted.
 //!
-//! The bytes that are found for a position are in the text. Those of a field begin the field with its index, in the
-//! record with its index, and the reader of CSV reads there what they say. Those of a table or a key are its heading or
-//! its name, the first thing on its line. That of an element of an array begins it. `nearest_in_deployment` returns
-//! those of the nearest position around that is found, and `nearest_spans` the same for several positions of stimuli,
-//! by one reading of the text. No second reader of TOML is here: a document in another form than by headings of tables,
-//! or with keys in quotes, has no bytes.
+//! The bytes that are found for a position of stimuli are in the text. Those of a field begin the field with its index,
+//! in the record with its index, and the reader of CSV reads there what they say. `nearest_spans` returns those of the
+//! nearest position around that is found, for several positions by one reading of the text. `fb_deploy_positions` finds
+//! the positions of a deployment.
 //!
 //! Read in this order: `deployment`, `deploy_location`, `document` and `table`; `stimuli`, `location` and `row`;
 //! `text`, `number` and `error`; `laws`. Then what runs only after a refusal, and for warnings:
-//! `position`; `scan`; `csv_records`, `row_positions` and `near_stimuli`; `lines`, `arrays` and `near_deployment`.
+//! `position`; `scan`; `csv_records`, `row_positions` and `near_stimuli`.
 #![tactic(auto)]
 
-mod arrays;
 mod csv_records;
 pub mod deploy_location;
 pub mod deployment;
 mod document;
 pub mod error;
 pub mod laws;
-mod lines;
 pub mod location;
-pub mod near_deployment;
 pub mod near_stimuli;
 mod number;
 pub mod position;
@@ -41,9 +36,6 @@ pub use deploy_location::{DeployFault, DeployKey, DeployLocation, TableFault, Ta
 pub use deployment::{deployment_location, locate_deploy, read_deploy};
 pub use error::InputError;
 pub use location::{RowError, RowFault, StimuliFault, StimuliLocation};
-pub use near_deployment::{
-    heading_span, named_key_span, nearest_in_deployment, span_in_deployment,
-};
 pub use near_stimuli::nearest_spans;
 pub use number::natural;
 pub use position::{DeployPosition, StimuliPosition, deploy_position, stimuli_position};

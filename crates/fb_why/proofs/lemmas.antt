@@ -9,3 +9,4 @@ pub mod UnfitOperands
 pub mod Mismatching
 pub mod TokenOrder
 pub mod Marking
+pub mod FurtherKeys

@@ -1,5 +1,5 @@
 -- Where a location is in the deployment or in the stimuli (this project's own).
-use Rattle.std.specs.Prelude.{◌≡◌, ◌⊎◌, ℕ, ◌+◌, ◌-◌, nat_lt, if◌then◌else◌, List, [], ◌∷◌, length, Option, Some, None, Ok, MatchOption}
+use Rattle.std.specs.Prelude.{◌≡◌, ◌⊎◌, ℕ, ◌+◌, ◌-◌, nat_lt, Bool, true, false, if◌then◌else◌, List, [], ◌∷◌, length, Option, Some, None, Ok, MatchOption}
 use Rattle.fb_types.specs.declared.deploy.Plan.{Plan}
 use Rattle.fb_types.specs.declared.deploy.ResourceEntry.{ResourceEntry}
 use Rattle.fb_read.specs.declared.token.Span.{Span}
@@ -7,18 +7,19 @@ use Rattle.fb_inputs.specs.Deployments.{deploy_of}
 use Rattle.fb_inputs.specs.NearSpans.{IsNearInStimuli}
 use Rattle.fb_inputs.specs.declared.deploy_location.DeployKey.{DeployKey}
 use Rattle.fb_inputs.specs.declared.deploy_location.DeployKey.TheVariants as key
+use Rattle.fb_inputs.specs.declared.deploy_location.DeployLocation.{DeployLocation}
 use Rattle.fb_inputs.specs.declared.deploy_location.DeployLocation.TheVariants as in_document
 use Rattle.fb_inputs.specs.declared.deploy_location.TableFault.TheVariants as why
 use Rattle.fb_inputs.specs.declared.deploy_location.TableLocation.{TableLocation}
 use Rattle.fb_inputs.specs.declared.deploy_location.TableLocation.TheVariants as table
 use Rattle.fb_read_positions.specs.Places.{IsPlace, IsStretch}
 use Rattle.fb_inputs.specs.Positions.{deploy_position, stimuli_position}
-use Rattle.fb_inputs.specs.declared.position.DeployPosition.{DeployPosition}
 use Rattle.fb_inputs.specs.declared.position.DeployPosition.TheVariants as in_deploy
 use Rattle.fb_inputs.specs.declared.position.StimuliPosition.{StimuliPosition}
 use Rattle.fb_inputs.specs.declared.position.StimuliPosition.TheVariants as in_stimuli
-use Rattle.fb_why.specs.Entries.{IsEntryOutside, IsEntryPlace, IsKeyOrHeading}
-use Rattle.fb_why.specs.InputStretches.{IsOutside, IsStimuliOutside, IsStimuliPlace}
+use Rattle.fb_deploy_positions.specs.Entries.{IsNear}
+use Rattle.fb_why.specs.FurtherKeys.{further_span}
+use Rattle.fb_why.specs.InputStretches.{IsOutside, IsPlaceOfSome, IsSomeOutside}
 use Rattle.fb_check_names.specs.declared.location.Side.{Side}
 use Rattle.fb_check_names.specs.declared.location.Side.TheVariants as side
 use Rattle.fb_check_names.specs.declared.location.UnknownName.{UnknownName}
@@ -29,6 +30,7 @@ use Rattle.fb_check.specs.declared.location.Limit.TheVariants as limit
 use Rattle.fb_check.specs.declared.location.StimulusFault.{StimulusFault}
 use Rattle.fb_check.specs.declared.location.StimulusFault.TheVariants as fault
 use Rattle.fb_check.specs.declared.location.StimulusLocation.{StimulusLocation}
+use Rattle.fb_why.specs.declared.input_place.InputFile.{InputFile}
 use Rattle.fb_why.specs.declared.input_place.InputFile.TheVariants as file
 use Rattle.fb_why.specs.declared.input_place.InputPlace.{InputPlace}
 use Rattle.fb_why.specs.declared.place.PlacedFinding.{PlacedFinding}
@@ -44,17 +46,20 @@ use Rattle.fb_check_names.specs.declared.location.NotMappedAt.TheVariants as not
 abbrev pub Text : Type 0
 Text = List ℕ
 
--- ---- Keys that a table may not have
+-- ---- Bytes
 
--- The bytes are those of a key of the table. That it is the first one which the table may not have is only tested.
+-- The bytes are those of the first key of the table, by the reader of TOML, that the table may not have. If this key is not
+-- found, they are those of the table.
 abbrev pub IsFurtherAt : Text → TableLocation → Span → Type 0
-IsFurtherAt text t span = (key : Text) × IsKeyOrHeading text t key span
+IsFurtherAt text t span = MatchOption (further_span text t) (IsNear text (in_deploy.Table t) span) (λ key. span ≡ key)
+
+-- The bytes are at the position of the text, or at the nearest one around it that has any.
+abbrev pub IsInInput : Text → InputPosition → Span → Type 0
+IsInInput text (input.Deployment position) span = IsNear text position span
+IsInInput text (input.Further t) span = IsFurtherAt text t span
+IsInInput text (input.Stimuli position) span = IsNearInStimuli text position span
 
 -- ---- Positions
-
--- where a table begins
-abbrev pub begin_of : TableLocation → InputPosition
-begin_of t = input.Deployment (in_deploy.Table t)
 
 -- an instance that a resource lists
 abbrev pub listed : (resource instance : ℕ) → InputPosition
@@ -99,7 +104,7 @@ checked_position _ = None
 abbrev pub row_of : Option InputPosition → StimuliPosition
 row_of (Some (input.Stimuli position)) = position
 row_of (Some (input.Deployment position)) = in_stimuli.Start
-row_of (Some (input.Further span)) = in_stimuli.Start
+row_of (Some (input.Further t)) = in_stimuli.Start
 row_of None = in_stimuli.Start
 
 -- the position of the name at an index in the lists of resources, one after another, by the index of the first one
@@ -112,14 +117,6 @@ listed_at r (x ∷ xs) index =
 abbrev pub IsListedIn : (deploy : Option Text) → (index : ℕ) → InputPosition → Type 0
 IsListedIn deploy index position =
     (bytes : Text) × (plan : Plan) × (deploy ≡ Some bytes) × (deploy_of bytes ≡ Ok plan) × (listed_at 0 plan.resources index ≡ Some position)
-
--- The position is that of a key which the table in these bytes may not have.
-abbrev pub IsFurtherOf : (bytes : Text) → TableLocation → InputPosition → Type 0
-IsFurtherOf bytes t position = (span : Span) × IsFurtherAt bytes t span × (position ≡ input.Further span)
-
--- The same in the deployment.
-abbrev pub IsFurtherIn : (deploy : Option Text) → TableLocation → InputPosition → Type 0
-IsFurtherIn deploy t position = (bytes : Text) × (deploy ≡ Some bytes) × IsFurtherOf bytes t position
 
 -- the deployment has no name at the index in its lists
 abbrev pub IsNotListed : (deploy : Option Text) → (index : ℕ) → Type 0
@@ -142,12 +139,16 @@ abbrev pub HasCheckedNone : (deploy : Option Text) → Location → Type 0
 HasCheckedNone deploy (at.NotMapped p) = HasNotMappedNone deploy p
 HasCheckedNone deploy location = checked_position location ≡ None
 
--- The location is shown at the position. A further key is shown at its table if it is not found.
+-- where a deployment is refused; for a key that its table may not have it is that key
+abbrev pub refused_position : DeployLocation → InputPosition
+refused_position (in_document.Shape t why.Further) = input.Further t
+refused_position location = input.Deployment (deploy_position location)
+
+-- The location is shown at the position.
 abbrev pub IsInputPosition : (deploy : Option Text) → FindingLocation → InputPosition → Type 0
 IsInputPosition deploy (found.Text place) position = ⊥
 IsInputPosition deploy (found.Check location) position = IsCheckedPosition deploy location position
-IsInputPosition deploy (found.Deployment (in_document.Shape t why.Further)) position = IsFurtherIn deploy t position ⊎ (position ≡ begin_of t)
-IsInputPosition deploy (found.Deployment location) position = position ≡ input.Deployment (deploy_position location)
+IsInputPosition deploy (found.Deployment location) position = position ≡ refused_position location
 IsInputPosition deploy (found.Stimuli location) position = position ≡ input.Stimuli (stimuli_position location)
 
 -- The location is shown at no position in the deployment or in the stimuli.
@@ -159,31 +160,56 @@ HasNoInputPosition deploy (found.Stimuli location) = ⊥
 
 -- ---- Places
 
--- The place is that of the position in the deployment that is given.
-abbrev pub IsPlaceInDeploy : (deploy : Option Text) → DeployPosition → InputPlace → Type 0
-IsPlaceInDeploy deploy position place =
-    (bytes : Text) × (deploy ≡ Some bytes) × (place.file ≡ file.Deployment) × IsEntryPlace bytes position place.at
+-- the input that has the position
+abbrev pub file_of : InputPosition → InputFile
+file_of (input.Deployment position) = file.Deployment
+file_of (input.Further t) = file.Deployment
+file_of (input.Stimuli position) = file.Stimuli
 
--- The place is that of the bytes in the deployment that is given.
-abbrev pub IsPlaceOfBytes : (deploy : Option Text) → Span → InputPlace → Type 0
-IsPlaceOfBytes deploy span place =
-    (bytes : Text) × (deploy ≡ Some bytes) × (place.file ≡ file.Deployment) × IsStretch span.start span.end place.at × IsPlace bytes place.at
+-- its text, if it is given
+abbrev pub text_for : (deploy stimuli : Option Text) → InputFile → Option Text
+text_for deploy stimuli file.Deployment = deploy
+text_for deploy stimuli file.Stimuli = stimuli
 
--- The place is that of the position in the stimuli that are given.
-abbrev pub IsPlaceInRows : (stimuli : Option Text) → StimuliPosition → InputPlace → Type 0
-IsPlaceInRows stimuli position place =
-    (bytes : Text) × (stimuli ≡ Some bytes) × (place.file ≡ file.Stimuli) × IsStimuliPlace bytes position place.at
+-- The input is given, and the place is that of the position in it.
+pub record IsPlaceIn (deploy stimuli : Option Text) (position : InputPosition) (place : InputPlace) : Type 0 where
+  pub text : Text
+  pub is_given : text_for deploy stimuli (file_of position) ≡ Some text
+  pub is_in : place.file ≡ file_of position
+  pub is_there : IsPlaceOfSome (IsInInput text position) text place.at
 
-abbrev pub IsPlaceIn : (deploy stimuli : Option Text) → InputPosition → InputPlace → Type 0
-IsPlaceIn deploy stimuli (input.Deployment position) place = IsPlaceInDeploy deploy position place
-IsPlaceIn deploy stimuli (input.Further span) place = IsPlaceOfBytes deploy span place
-IsPlaceIn deploy stimuli (input.Stimuli position) place = IsPlaceInRows stimuli position place
+-- The input is given, and the bytes at the position are not in its text.
+pub record IsOutsideInput (deploy stimuli : Option Text) (position : InputPosition) : Type 0 where
+  pub text : Text
+  pub is_given : text_for deploy stimuli (file_of position) ≡ Some text
+  pub outside : IsSomeOutside (IsInInput text position) text
 
 -- A position has no place: the input is not given, or its bytes are not in the text.
 abbrev pub HasNoPlaceIn : (deploy stimuli : Option Text) → InputPosition → Type 0
-HasNoPlaceIn deploy stimuli (input.Deployment position) = (deploy ≡ None) ⊎ ((bytes : Text) × (deploy ≡ Some bytes) × IsEntryOutside bytes position)
-HasNoPlaceIn deploy stimuli (input.Further span) = (deploy ≡ None) ⊎ ((bytes : Text) × (deploy ≡ Some bytes) × IsOutside bytes span)
-HasNoPlaceIn deploy stimuli (input.Stimuli position) = (stimuli ≡ None) ⊎ ((bytes : Text) × (stimuli ≡ Some bytes) × IsStimuliOutside bytes position)
+HasNoPlaceIn deploy stimuli position = (text_for deploy stimuli (file_of position) ≡ None) ⊎ IsOutsideInput deploy stimuli position
+
+-- The place is that of these bytes of the input that is given.
+pub record AreBytesOf (in_file : InputFile) (given : Option Text) (span : Span) (place : InputPlace) : Type 0 where
+  pub text : Text
+  pub is_given : given ≡ Some text
+  pub is_in : place.file ≡ in_file
+  pub there : IsStretch span.start span.end place.at
+  pub located : IsPlace text place.at
+
+-- The input is not given, or these bytes are not in it.
+abbrev pub HasNoBytes : (given : Option Text) → Span → Type 0
+HasNoBytes given span = (given ≡ None) ⊎ ((text : Text) × (given ≡ Some text) × IsOutside text span)
+
+-- the position is in the deployment
+abbrev pub is_in_deployment : Option InputPosition → Bool
+is_in_deployment (Some (input.Deployment position)) = true
+is_in_deployment (Some (input.Further t)) = true
+is_in_deployment (Some (input.Stimuli position)) = false
+is_in_deployment None = false
+
+-- This text is the deployment, if the position is in one that is given.
+abbrev pub IsReadFor : (deploy : Option Text) → (text : Text) → Option InputPosition → Type 0
+IsReadFor deploy text position = is_in_deployment position ≡ true → (bytes : Text) → deploy ≡ Some bytes → text ≡ bytes
 
 -- The bytes are at the position, or near it, in the stimuli that are given.
 abbrev pub IsNearIn : (stimuli : Option Text) → StimuliPosition → Span → Type 0

@@ -7,8 +7,7 @@ pub mod Tokens
 pub mod Mismatches
 pub mod Marks
 pub mod Places
-pub mod WrittenKeys
-pub mod Entries
+pub mod FurtherKeys
 pub mod InputPlaces
 pub mod Findings
 pub mod Roots

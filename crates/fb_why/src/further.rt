@@ -1,18 +1,23 @@
 //! Keys that a table of a deployment may not have, and where they are.
 
-ghost use Rattle.std.specs.Prelude.{IfSome};
-ghost use Rattle.fb_why.specs.Entries.{IsKeyOrHeading};
+ghost use Rattle.std.specs.Prelude.{◌≡◌, IfOk, map, option_map};
+ghost use Rattle.toml.specs.Data.{get_item, get_member};
+ghost use Rattle.toml.specs.View.{array_view, table_view, view};
+ghost use Rattle.fb_why.specs.FurtherKeys as spec;
 ghost use Rattle.fb_why.specs.InputPlaces.{IsFurtherAt};
 
-use crate::inline::inline_span;
-use crate::written::written_span;
-use fb_inputs::{TableLocation, named_key_span};
+use fb_deploy_positions::Outline;
+use fb_inputs::deployment::document;
+use fb_inputs::{DeployFault, DeployPosition, TableLocation};
 use fb_read::token::Span;
-use std::alloc::Global;
+use std::alloc::{AllocError, Global};
+use toml::value::Array;
 use toml::{Table, Value};
 
 /// The keys that a table may have.
-pub(crate) fn known_keys(table: TableLocation) -> &'static [&'static str] {
+pub(crate) fn known_keys(table: TableLocation) -> &'static [&'static str]
+    ensures { map (λ k. k.now) result.now ≡ spec.known_keys table }
+{
     match table {
         TableLocation::Top => &["resource", "link"],
         TableLocation::Resource(_) => &["device", "name", "instances"],
@@ -21,17 +26,16 @@ pub(crate) fn known_keys(table: TableLocation) -> &'static [&'static str] {
 }
 
 /// Whether a word is one of these.
-fn is_among(word: &str, known: &[&str]) -> bool {
-    for other in known {
-        if *other == word {
-            return true;
-        }
-    }
-    false
+fn is_among(word: &str, known: &[&str]) -> bool
+    ensures { result ≡ spec.is_among (map (λ k. k.now) known.now) word.now }
+{
+    known.contains(&word)
 }
 
 /// The first key of a table that is none of these.
-pub(crate) fn further_key<'a>(keys: &'a Table, known: &[&str]) -> Option<&'a str> {
+pub(crate) fn further_key<'a>(keys: &'a Table, known: &[&str]) -> Option<&'a str>
+    ensures { option_map (λ k. k.now) result ≡ spec.first_further (map (λ k. k.now) known.now) (table_view keys.now) }
+{
     for (key, _) in keys {
         if !is_among(key.as_str(), known) {
             return Some(key.as_str());
@@ -40,8 +44,32 @@ pub(crate) fn further_key<'a>(keys: &'a Table, known: &[&str]) -> Option<&'a str
     None
 }
 
+/// The value at a key of a table.
+fn value_at<'a>(keys: &'a Table, key: &str) -> Option<&'a Value>
+    ensures { option_map (λ v. view v.now) result ≡ get_member key.now (table_view keys.now) }
+{
+    keys.get(key)
+}
+
+/// The element with this index of an array.
+fn element_at(items: &Array, index: usize) -> Option<&Value>
+    ensures { option_map (λ v. view v.now) result ≡ get_item index (array_view items.now) }
+{
+    items.get(index)
+}
+
+/// The table at an index of the array of tables at a key.
+pub(crate) fn item_at<'a>(keys: &'a Table, key: &str, index: usize) -> Option<&'a Table>
+    ensures { option_map (λ t. table_view t.now) result ≡ spec.item_in (table_view keys.now) key.now index }
+{
+    let items = value_at(keys, key)?.as_array()?;
+    element_at(items, index)?.as_table()
+}
+
 /// The table at a location.
-pub(crate) fn table_at(keys: &Table, table: TableLocation) -> Option<&Table> {
+pub(crate) fn table_at(keys: &Table, table: TableLocation) -> Option<&Table>
+    ensures { option_map (λ t. table_view t.now) result ≡ spec.table_in (table_view keys.now) table }
+{
     match table {
         TableLocation::Top => Some(keys),
         TableLocation::Resource(resource) => item_at(keys, "resource", resource),
@@ -49,52 +77,59 @@ pub(crate) fn table_at(keys: &Table, table: TableLocation) -> Option<&Table> {
     }
 }
 
-/// The table at an index of the array of tables at a key.
-pub(crate) fn item_at<'a>(keys: &'a Table, key: &str, index: usize) -> Option<&'a Table> {
-    let Some(Value::Array(items)) = keys.get(key) else {
-        return None;
-    };
-    match items.get(index) {
-        Some(Value::Table(found)) => Some(found),
-        _ => None,
+/// The first key of a table in a document that the table may not have.
+fn further_in(keys: &Table, table: TableLocation) -> Option<&str>
+    ensures { option_map (λ k. k.now) result ≡ spec.further_in (table_view keys.now) table }
+{
+    let here = table_at(keys, table)?;
+    further_key(here, known_keys(table))
+}
+
+/// The bytes of the first key of a table in a document that the table may not have.
+fn span_in(
+    alloc: Global,
+    outline: &Outline<'_>,
+    keys: &Table,
+    table: TableLocation,
+) -> Result<Option<Span>, AllocError>
+    ensures { IfOk result (λ o. o ≡ spec.span_in outline.now.text.now (table_view keys.now) table) }
+{
+    match further_in(keys, table) {
+        Some(name) => outline.key_span(alloc, table, name),
+        None => Ok(None),
     }
 }
 
-/// A key of a table, or the heading of a table that is its value. Where the key is not written as its name alone, what
-/// TOML's reader takes for it.
-pub(crate) fn key_or_heading(
+/// The bytes of the first key of a table of a deployment that the table may not have.
+fn further_span(
     alloc: Global,
+    outline: &Outline<'_>,
     bytes: &[u8],
     table: TableLocation,
-    key: &str,
-) -> Option<Span>
-    ensures { IfSome result (IsKeyOrHeading bytes.now table key.now) }
+) -> Result<Option<Span>, AllocError>
+    requires { outline.now.text.now ≡ bytes.now }
+    ensures { IfOk result (λ o. o ≡ spec.further_span bytes.now table) }
 {
-    if let Some(span) = named_key_span(bytes, table, key.as_bytes()) {
-        return Some(span);
-    }
-    match written_span(alloc, bytes, table, key) {
-        Some(span) => Some(span),
-        None => inline_span(alloc, bytes, table, key),
+    match document(alloc, bytes) {
+        Ok(keys) => span_in(alloc, outline, &keys, table),
+        Err(DeployFault::Memory) => Err(AllocError),
+        Err(DeployFault::At(_)) => Ok(None),
     }
 }
 
-/// The first key of a table that it may not have, if a scan of the bytes finds it.
-fn span_in(alloc: Global, bytes: &[u8], table: TableLocation, document: &Table) -> Option<Span>
-    ensures { IfSome result (IsFurtherAt bytes.now table) }
+/// The bytes of the first key of a table of a deployment that the table may not have, or else those that begin the
+/// table.
+pub(crate) fn further_bytes(
+    alloc: Global,
+    outline: &Outline<'_>,
+    bytes: &[u8],
+    table: TableLocation,
+) -> Result<Span, AllocError>
+    requires { outline.now.text.now ≡ bytes.now }
+    ensures { IfOk result (IsFurtherAt bytes.now table) }
 {
-    let here = table_at(document, table)?;
-    let key = further_key(here, known_keys(table))?;
-    key_or_heading(alloc, bytes, table, key)
-}
-
-/// The first key of a table of a deployment that the table may not have, if a scan of the bytes finds it. `None` if memory
-/// runs out too.
-pub(crate) fn further_span(alloc: Global, bytes: &[u8], table: TableLocation) -> Option<Span>
-    ensures { IfSome result (IsFurtherAt bytes.now table) }
-{
-    match toml::table_from_slice(alloc, bytes) {
-        Ok(document) => span_in(alloc, bytes, table, &document),
-        Err(_) => None,
+    match further_span(alloc, outline, bytes, table)? {
+        Some(span) => Ok(span),
+        None => outline.nearest(alloc, DeployPosition::Table(table)),
     }
 }

@@ -1,21 +1,21 @@
 //! Where a location is in the deployment or in the stimuli.
 
-ghost use Rattle.std.specs.Prelude.{◌≡◌, ◌⊎◌, IfOk, MatchOption, map, option_map};
-ghost use Rattle.std.specs.List.{AllZip};
+ghost use Rattle.std.specs.Prelude.{◌≡◌, IfOk, MatchOption, map, option_map};
+ghost use Rattle.std.specs.List.{All, AllZip};
+ghost use Rattle.fb_deploy_positions.specs.Entries.{IsNear};
 ghost use Rattle.fb_why.specs.InputPlaces as spec;
-ghost use Rattle.fb_why.specs.InputPlaces.{HasCheckedNone, HasNoInputPosition, HasNotMappedNone, IsCheckedPosition, IsFurtherIn, IsFurtherOf, IsInputPosition, IsListedIn, IsNearIn, IsNotListed, IsNotMappedPosition, IsPlaceFor, IsPlaceOf, IsShownAt};
+ghost use Rattle.fb_why.specs.InputPlaces.{AreBytesOf, HasCheckedNone, HasNoBytes, HasNoInputPosition, HasNotMappedNone, IsCheckedPosition, IsInputPosition, IsListedIn, IsNearIn, IsNotListed, IsNotMappedPosition, IsPlaceFor, IsPlaceOf, IsReadFor, IsShownAt};
 ghost use Rattle.fb_why.specs.InputStretches.{IsDeployOutside, IsDeployPlace};
 
-use crate::entries::entry_place;
-use crate::further::further_span;
+use crate::further::further_bytes;
 use crate::location::FindingLocation;
 use crate::place::PlacedFinding;
 use fb_check::{Limit, Location, StimulusFault, StimulusLocation};
 use fb_check_names::{GivenTwice, NotMappedAt, Side, UnknownName};
+use fb_deploy_positions::Outline;
 use fb_inputs::{
     DeployKey, DeployLocation, DeployPosition, InputError, StimuliPosition, TableFault,
-    TableLocation, deploy_position, nearest_in_deployment, nearest_spans, read_deploy,
-    stimuli_position,
+    TableLocation, deploy_position, nearest_spans, read_deploy, stimuli_position,
 };
 use fb_read::token::Span;
 use fb_read_positions::{Place, place_between};
@@ -43,16 +43,32 @@ pub struct InputPlace {
 pub enum InputPosition {
     Deployment(DeployPosition),
     Stimuli(StimuliPosition),
-    /// The bytes of a key that its table of the deployment may not have.
-    Further(Span),
+    /// The first key of a table of the deployment that the table may not have.
+    Further(TableLocation),
+}
+
+/// The bytes nearest to a position of a deployment.
+fn nearest_bytes(alloc: Global, bytes: &[u8], position: DeployPosition) -> Result<Span, AllocError>
+    ensures { IfOk result (IsNear bytes.now position) }
+{
+    let outline = Outline::read(alloc, bytes)?;
+    outline.nearest(alloc, position)
 }
 
 /// The place of a position of a deployment: where its key or its table is, or else the beginning of the text.
-pub fn place_in_deployment(bytes: &[u8], position: DeployPosition) -> Option<Place>
-    ensures { MatchOption result (IsDeployOutside bytes.now position) (IsDeployPlace bytes.now position) }
+///
+/// # Errors
+///
+/// When memory runs out.
+pub fn place_in_deployment(
+    alloc: Global,
+    bytes: &[u8],
+    position: DeployPosition,
+) -> Result<Option<Place>, AllocError>
+    ensures { IfOk result (λ o. MatchOption o (IsDeployOutside bytes.now position) (IsDeployPlace bytes.now position)) }
 {
-    let span = nearest_in_deployment(bytes, position);
-    place_between(bytes, span.start, span.end)
+    let span = nearest_bytes(alloc, bytes, position)?;
+    Ok(place_between(bytes, span.start, span.end))
 }
 
 /// An instance that a resource lists.
@@ -162,23 +178,16 @@ fn listed_in(
     }
 }
 
-/// The position of the first key that a table in these bytes may not have, or else that of the table.
-fn further_in(alloc: Global, bytes: &[u8], table: TableLocation) -> InputPosition
-    ensures { IsFurtherOf bytes.now table result ⊎ (result ≡ spec.begin_of table) }
+/// The position of a refusal of a deployment.
+fn refused_position(location: DeployLocation) -> InputPosition
+    ensures { result ≡ spec.refused_position location }
 {
-    match further_span(alloc, bytes, table) {
-        Some(span) => InputPosition::Further(span),
-        None => InputPosition::Deployment(DeployPosition::Table(table)),
-    }
-}
-
-/// The position of the first key that a table of a deployment may not have, or else that of the table.
-fn further_position(alloc: Global, deploy: Option<&[u8]>, table: TableLocation) -> InputPosition
-    ensures { IsFurtherIn (option_map (λ b. b.now) deploy.entry) table result ⊎ (result ≡ spec.begin_of table) }
-{
-    match deploy {
-        Some(bytes) => further_in(alloc, bytes, table),
-        None => InputPosition::Deployment(DeployPosition::Table(table)),
+    match location {
+        DeployLocation::Shape {
+            table,
+            fault: TableFault::Further,
+        } => InputPosition::Further(table),
+        _ => InputPosition::Deployment(deploy_position(location)),
     }
 }
 
@@ -220,16 +229,7 @@ fn input_position(
 {
     match location {
         FindingLocation::Check(location) => checked_in(alloc, deploy, location),
-        FindingLocation::Deployment(
-            DeployLocation::Shape {
-                table,
-                fault: TableFault::Further,
-            },
-        ) => Ok(Some(further_position(alloc, deploy, table))),
-        FindingLocation::Deployment(location) => {
-            let position = deploy_position(location);
-            Ok(Some(InputPosition::Deployment(position)))
-        }
+        FindingLocation::Deployment(location) => Ok(Some(refused_position(location))),
         FindingLocation::Stimuli(location) => {
             let position = stimuli_position(location);
             Ok(Some(InputPosition::Stimuli(position)))
@@ -280,62 +280,89 @@ fn stimuli_rows(
     Ok(rows)
 }
 
+/// Whether a position is in the deployment.
+fn is_in_deployment(position: Option<InputPosition>) -> bool
+    ensures { result ≡ spec.is_in_deployment position }
+{
+    match position {
+        Some(InputPosition::Deployment(_) | InputPosition::Further(_)) => true,
+        Some(InputPosition::Stimuli(_)) | None => false,
+    }
+}
+
+/// The deployment, if one is given and some of the positions are in it, or else no bytes.
+fn deployment_for<'a>(deploy: Option<&'a [u8]>, positions: &[Option<InputPosition>]) -> &'a [u8]
+    ensures { All (IsReadFor (option_map (λ b. b.now) deploy.entry) result.now) positions.now }
+{
+    for position in positions {
+        if is_in_deployment(*position) {
+            return deploy.unwrap_or(&[]);
+        }
+    }
+    &[]
+}
+
+/// The place of bytes of an input, if the input is given and they are in it.
+fn place_in(file: InputFile, given: Option<&[u8]>, span: Span) -> Option<InputPlace>
+    ensures { let text = option_map (λ b. b.now) given.entry in MatchOption result (HasNoBytes text span) (AreBytesOf file text span) }
+{
+    let at = place_between(given?, span.start, span.end)?;
+    Some(InputPlace { file, at })
+}
+
 /// The place of a position, if there is one. Of one in the stimuli it is that of `span`, the bytes nearest to it.
 fn place_of(
     alloc: Global,
+    outline: &Outline<'_>,
     deploy: Option<&[u8]>,
     stimuli: Option<&[u8]>,
     position: Option<InputPosition>,
     span: Span,
-) -> Option<InputPlace>
-    requires { IsNearIn (option_map (λ b. b.now) stimuli) (spec.row_of position) span }
-    ensures { IsPlaceFor (option_map (λ b. b.now) deploy.entry) (option_map (λ b. b.now) stimuli.entry) position result }
+) -> Result<Option<InputPlace>, AllocError>
+    requires near { IsNearIn (option_map (λ b. b.now) stimuli) (spec.row_of position) span }
+    requires read { IsReadFor (option_map (λ b. b.now) deploy) outline.now.text.now position }
+    ensures { IfOk result (IsPlaceFor (option_map (λ b. b.now) deploy.entry) (option_map (λ b. b.now) stimuli.entry) position) }
 {
-    match position? {
-        InputPosition::Deployment(position) => {
-            let at = entry_place(alloc, deploy?, position)?;
-            Some(InputPlace {
-                file: InputFile::Deployment,
-                at,
-            })
+    match position {
+        Some(InputPosition::Deployment(position)) => {
+            let span = outline.nearest(alloc, position)?;
+            Ok(place_in(InputFile::Deployment, deploy, span))
         }
-        InputPosition::Further(span) => {
-            let at = place_between(deploy?, span.start, span.end)?;
-            Some(InputPlace {
-                file: InputFile::Deployment,
-                at,
-            })
+        Some(InputPosition::Further(table)) => {
+            let Some(bytes) = deploy else {
+                return Ok(None);
+            };
+            let span = further_bytes(alloc, outline, bytes, table)?;
+            Ok(place_in(InputFile::Deployment, deploy, span))
         }
-        InputPosition::Stimuli(_) => {
-            let at = place_between(stimuli?, span.start, span.end)?;
-            Some(InputPlace {
-                file: InputFile::Stimuli,
-                at,
-            })
-        }
+        Some(InputPosition::Stimuli(_)) => Ok(place_in(InputFile::Stimuli, stimuli, span)),
+        None => Ok(None),
     }
 }
 
 /// The places of positions, each at the index of its position. `spans` has the bytes nearest to those in the stimuli.
 fn places_of(
     alloc: Global,
+    outline: &Outline<'_>,
     deploy: Option<&[u8]>,
     stimuli: Option<&[u8]>,
     positions: &[Option<InputPosition>],
     spans: &[Span],
 ) -> Result<Vec<Option<InputPlace>>, AllocError>
-    requires { AllZip (IsNearIn (option_map (λ b. b.now) stimuli)) (map spec.row_of positions.now) spans.now }
+    requires near { AllZip (IsNearIn (option_map (λ b. b.now) stimuli)) (map spec.row_of positions.now) spans.now }
+    requires read { All (IsReadFor (option_map (λ b. b.now) deploy) outline.now.text.now) positions.now }
     ensures { IfOk result (λ places. AllZip (IsPlaceFor (option_map (λ b. b.now) deploy.entry) (option_map (λ b. b.now) stimuli.entry)) positions.now places.items) }
 {
     let mut places = Vec::new(alloc);
     for (index, position) in positions.iter().enumerate() {
-        places.push(place_of(alloc, deploy, stimuli, *position, spans[index]))?;
+        let place = place_of(alloc, outline, deploy, stimuli, *position, spans[index])?;
+        places.push(place)?;
     }
     Ok(places)
 }
 
 /// Where findings are in the deployment or in the stimuli, each at the index of its finding. `None` means that it is in
-/// the declaration. The stimuli are read once for all of them.
+/// the declaration. The deployment's statements are read once for all of them, and so are the stimuli.
 ///
 /// # Errors
 ///
@@ -351,8 +378,10 @@ pub fn places_in_inputs(
     let positions = input_positions(alloc, deploy, found)?;
     let rows = stimuli_rows(alloc, positions.as_slice())?;
     let spans = nearest_spans(alloc, stimuli.unwrap_or(&[]), rows.as_slice())?;
+    let outline = Outline::read(alloc, deployment_for(deploy, positions.as_slice()))?;
     places_of(
         alloc,
+        &outline,
         deploy,
         stimuli,
         positions.as_slice(),

@@ -10,24 +10,21 @@
 //! is refused. The wording of the texts is not part of any contract.
 //!
 //! Read in this order: `explanation` and `table`; `cause` and `location`, what each number is about, and where. Then
-//! the bytes: `find`, the refusal of a text and its location; `further`, keys that a table may not have, `written` and
-//! `inline`, how TOML writes keys and tables, and `entries`, where they are. Then a location as text: `messages`, with
-//! `contents`. Then `refused`, `roots` and `declared`, locations in bytes and in what they declare; `tokens`,
-//! `expression` and `mismatch`, the operand of an expression that does not fit, and `marks`, its place; `place` and
-//! `input_place`, where a location is in its text; `listing` and `finding`, which reads the bytes again. All of this
-//! runs only after a refusal.
+//! the bytes: `find`, the refusal of a text and its location; `further`, keys that a table may not have, and where they
+//! are. Then a location as text: `messages`, with `contents`. Then `refused`, `roots` and `declared`, locations in bytes
+//! and in what they declare; `tokens`, `expression` and `mismatch`, the operand of an expression that does not fit, and
+//! `marks`, its place; `place` and `input_place`, where a location is in its text; `listing` and `finding`, which reads
+//! the bytes again. All of this runs only after a refusal.
 #![tactic(auto)]
 
 pub mod cause;
 mod contents;
 mod declared;
-mod entries;
 pub mod explanation;
 mod expression;
 pub mod find;
 pub mod finding;
 mod further;
-mod inline;
 pub mod input_place;
 pub mod listing;
 pub mod location;
@@ -39,7 +36,6 @@ mod refused;
 mod roots;
 pub mod table;
 mod tokens;
-mod written;
 
 pub use cause::Cause;
 pub use explanation::explain;

@@ -5,8 +5,6 @@ pub use Rattle.fb_inputs.specs.DeployLocations.{element_at, location_of, shape_i
 pub use Rattle.fb_inputs.specs.Deployments.{entries_of_link, entry, has_latency, latency_of_link, start_of_link}
 unfoldable pub use Rattle.fb_inputs.specs.Deployments.{among_links, first_failing, out_of_order}
 pub use Rattle.fb_inputs.specs.Documents.{count_of, of_table}
-pub use Rattle.fb_inputs.specs.Lines.{is_blank}
-unfoldable pub use Rattle.fb_inputs.specs.Lines.{is_first}
 pub use Rattle.fb_inputs.specs.Lists.{all_after, placed}
 unfoldable pub use Rattle.fb_inputs.specs.Lists.{each_at, each_in}
 pub use Rattle.fb_inputs.specs.Readers.{IsAt, rows_from}

@@ -7,7 +7,9 @@ use Rattle.fb_inputs.specs.Counts.{Text, IsNth}
 use Rattle.fb_inputs.specs.NearSpans.{IsField, IsFieldAt, IsWordAt, IsWordIn, bytes_of}
 use Rattle.fb_inputs.specs.Records.{BeginsField, HasLength, IsInRecord, IsReadAt, begins_record, ends_field, ends_record, is_comma, is_line_end, is_outside, said}
 use Rattle.fb_inputs.proofs.lemmas.positions.Counting.{few_below, not_before, one_nth}
-use Rattle.fb_inputs.proofs.lemmas.positions.Keys.{same_span}
+
+pub same_span : (a b : Span) → a.start ≡ b.start → a.end ≡ b.end → a ≡ b
+same_span a b start end = λ i. record { start = start i; end = end i }
 
 -- ---- Fields of a record
 

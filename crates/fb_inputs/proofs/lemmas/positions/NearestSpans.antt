@@ -3,11 +3,10 @@ use Rattle.fb_types.proofs.Common.{◌≡◌, ℕ, ◌+◌, ◌<◌, List, [], �
 use Rattle.std.proofs.lemmas.Slice.Zip.{all_zipped_more}
 use Rattle.fb_read.specs.declared.token.Span.{Span}
 use Rattle.fb_inputs.specs.Counts.{Text}
-use Rattle.fb_inputs.specs.NearSpans.{IsInDeployment, IsInStimuli, IsNearInStimuli, IsStart}
-use Rattle.fb_inputs.specs.Positions.{around_deploy, around_stimuli, stepped}
-use Rattle.fb_inputs.specs.declared.position.DeployPosition.{DeployPosition}
+use Rattle.fb_inputs.specs.NearSpans.{IsInStimuli, IsNearInStimuli, IsStart}
+use Rattle.fb_inputs.specs.Positions.{around_stimuli, stepped}
 use Rattle.fb_inputs.specs.declared.position.StimuliPosition.{StimuliPosition}
-use Rattle.fb_inputs.proofs.lemmas.positions.StepsAround.{steps_to_beginning, steps_to_start}
+use Rattle.fb_inputs.proofs.lemmas.positions.StepsAround.{steps_to_beginning}
 
 -- one span more
 pub one_near :
@@ -20,10 +19,6 @@ one_near text positions i spans more span d within added before here =
     (all_zipped_more R (take i positions) spans (get_or positions i d) span before here))
 
 -- ---- The beginning of a text, which is around all
-
-pub begins_deployment : (text : Text) (position : DeployPosition) (steps : ℕ) (span : Span) → steps ≡ 5 → IsStart text span → IsInDeployment text (stepped around_deploy steps position) span
-begins_deployment text position steps span five start =
-    subst (λ (n : ℕ). IsInDeployment text (stepped around_deploy n position) span) (sym five) (subst (λ (p : DeployPosition). IsInDeployment text p span) (steps_to_start position) start)
 
 pub begins_stimuli : (text : Text) (position : StimuliPosition) (steps : ℕ) (span : Span) → steps ≡ 3 → IsStart text span → IsInStimuli text (stepped around_stimuli steps position) span
 begins_stimuli text position steps span three start =
