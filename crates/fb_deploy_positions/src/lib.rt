@@ -15,6 +15,7 @@
 
 mod entry;
 mod keys;
+pub mod laws;
 mod outline;
 mod reading;
 mod search;
