@@ -1,7 +1,6 @@
 -- What follows a value, and where the parts of arrays and inline tables begin (TOML 1.1, as the reader of the kit has it).
 use Rattle.std.specs.Prelude.{ℕ, zero, suc, ◌==◌, if◌then◌else◌, List, [], ◌∷◌, length, drop, Option, Some, None, option_map, option_and_then, unwrap_or}
-use Rattle.toml_parser.specs.Lexical.{comma, left_bracket, right_bracket, left_brace, right_brace, first, skip_blank}
-use Rattle.toml_parser.specs.Strings.{recursion_limit}
+use Rattle.toml_parser.specs.Lexical.{left_bracket, right_bracket, left_brace, right_brace, first, skip_blank}
 use Rattle.toml.specs.Parse.{after_element, atom, key_equals}
 
 abbrev pub Text : Type 0

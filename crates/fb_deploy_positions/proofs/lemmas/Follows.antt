@@ -2,8 +2,7 @@
 use Rattle.std.proofs.Common.{◌≡◌, ℕ, zero, suc, Bool, true, false, cond, ◌==◌, length, drop, Option, Some, None, option_map, option_and_then, refl, sym, subst}
 use Rattle.std.specs.Prelude.{⊤}
 use Rattle.toml_parser.specs.Lexical.{Read, first, skip_blank}
-use Rattle.toml_parser.specs.Strings.{Key}
-use Rattle.toml.specs.Data.{Data, Items, Members, array, no_items, push_item, table}
+use Rattle.toml.specs.Data.{Data, Items, array, no_items, push_item, table}
 use Rattle.toml.specs.Parse.{after_element, atom, items, key_equals, members, read_map, val}
 use Rattle.toml.specs.Tables.{Nodes, close, no_nodes, put}
 use Rattle.fb_deploy_positions.specs.Values.{Text, after_items, after_members, after_value}

@@ -1,5 +1,5 @@
 -- A string on one line without an escape is what TOML's reader reads there.
-use Rattle.std.proofs.Common.{◌≡◌, ℕ, suc, ◌+◌, ◌-◌, ◌<◌, true, false, ◌==◌, List, [], ◌∷◌, length, get_or, slice_index, drop, Option, Some, None, option_map, refl, sym, ap, ◌∙◌, arith, add-one, add-zero, get_or-drop}
+use Rattle.std.proofs.Common.{◌≡◌, ℕ, suc, ◌+◌, ◌<◌, true, false, ◌==◌, [], ◌∷◌, length, get_or, slice_index, drop, Some, None, option_map, ap, ◌∙◌, arith, add-zero, get_or-drop}
 use Rattle.std.proofs.lemmas.Bool.{false≢true}
 use Rattle.std.proofs.lemmas.Bool.Decides.{nat_tests}
 use Rattle.std.proofs.lemmas.List.{drop-drop}

@@ -1,6 +1,5 @@
 -- What follows an atom and a key.
 use Rattle.std.proofs.Common.{◌≡◌, ◌==◌, true, false, Option, Some, None, option_map, Result, Ok, Err, drop, refl, sym, ap, ◌∙◌, subst}
-use Rattle.std.specs.Option.{IfSome}
 use Rattle.std.specs.Result.{IfOk}
 use Rattle.std.specs.declared.alloc.AllocError.{AllocError}
 use Rattle.toml_parser.specs.declared.error.ParseError.{ParseError}

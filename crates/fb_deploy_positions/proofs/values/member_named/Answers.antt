@@ -1,11 +1,11 @@
-use Rattle.std.proofs.Common.{◌≡◌, ◌-◌, ◌<◌, ◌==◌, ◌||◌, true, false, not, length, Some, None, sym, ap, ◌∙◌, subst, rules, arith}
+use Rattle.std.proofs.Common.{◌≡◌, ◌-◌, ◌<◌, ◌==◌, ◌||◌, true, false, not, length, Some, None, sym, ◌∙◌, subst, rules, arith}
 use Rattle.std.proofs.lemmas.Bool.Decides.{nat_tests}
 use Rattle.std.proofs.lemmas.Grind.{common_steps}
 use Rattle.std.specs.Option.{IfSome}
 use Rattle.toml.specs.Parse.{after_element, key_equals}
 use Rattle.toml_parser.specs.Lexical.{first, skip_blank}
 use Rattle.toml_parser.specs.Reading.{key_view}
-use Rattle.fb_deploy_positions.specs.Entries.{begins_with, named_member}
+use Rattle.fb_deploy_positions.specs.Entries.{begins_with}
 use Rattle.fb_deploy_positions.specs.Values.{after_value}
 use Rattle.fb_deploy_positions.proofs.lemmas.Tokens.{none_as, some_as}
 use Rattle.fb_deploy_positions.proofs.lemmas.Turns.{members_of_none, members_of_table, members_from_turn, named_none, named_turn}
