@@ -1,3 +1,4 @@
+pub mod Documents
 pub mod Follows
 pub mod Lines
 pub mod Nearest

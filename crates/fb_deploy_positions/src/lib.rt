@@ -10,7 +10,8 @@
 //! TOML reader refuses have those of their beginning.
 //!
 //! Read in this order: `tokens` and `values`, for what follows a value and where its parts are; `keys`; `statement` and
-//! `reading`, for the statements; `search`; `entry`; `spans` and `outline`.
+//! `reading`, for the statements; `search`; `entry`; `spans` and `outline`. `laws` says that the definitions agree with
+//! the TOML reader: what it reads in a document is what the statements define.
 #![tactic(auto)]
 
 mod entry;

@@ -8,7 +8,7 @@ use Rattle.toml.specs.Tables.{Nodes, close, no_nodes, put}
 use Rattle.fb_deploy_positions.specs.Values.{Text, after_items, after_members, after_value}
 
 -- what is found is the text that the reader leaves, if it reads anything
-abbrev Follows : {A : Type 0} → Read A → Option Text → Type 0
+abbrev pub Follows : {A : Type 0} → Read A → Option Text → Type 0
 Follows None after = ⊤
 Follows (Some p) after = after ≡ Some p.1
 
@@ -67,7 +67,7 @@ module _ (val : Text → Read Data) (after : Text → Option Text) (follow : (te
       (λ e. alone_follows (put e.0.0 e.0.1 found) _ _
       (λ more. same_follows (after_element 125 e.1) _ _ (λ next. members_follow n more next)))))
 
-value_follows : (depth : ℕ) (text : Text) → Follows (val depth text) (after_value depth text)
+pub value_follows : (depth : ℕ) (text : Text) → Follows (val depth text) (after_value depth text)
 unfolding val after_value
 value_follows zero text = atom_follows (atom text)
 value_follows (suc depth) text =
