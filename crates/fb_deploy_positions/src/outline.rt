@@ -81,11 +81,7 @@ impl<'a> Outline<'a> {
     }
 
     /// The bytes at a position, if there are any.
-    fn span_at(
-        &self,
-        alloc: Global,
-        position: DeployPosition,
-    ) -> Result<Option<Span>, AllocError>
+    fn span_at(&self, alloc: Global, position: DeployPosition) -> Result<Option<Span>, AllocError>
         ensures { IfOk result (λ o. o ≡ spec.span_at self.now.text.now position) }
     {
         match position {

@@ -128,10 +128,7 @@ fn ends_line(text: &str) -> bool
 }
 
 /// A statement that has its line to itself.
-fn line<'a>(
-    alloc: Global,
-    text: &'a str,
-) -> Result<Option<(Statement<'a>, &'a str)>, AllocError>
+fn line<'a>(alloc: Global, text: &'a str) -> Result<Option<(Statement<'a>, &'a str)>, AllocError>
     ensures value { AnswersRead statement_view result (spec.line text.now) }
     ensures shorter { LeavesLess text.now result }
 {
@@ -146,10 +143,7 @@ fn line<'a>(
 }
 
 /// The statements of a text, up to one that is none.
-fn statements_of<'a>(
-    alloc: Global,
-    text: &'a str,
-) -> Result<Vec<Statement<'a>>, AllocError>
+fn statements_of<'a>(alloc: Global, text: &'a str) -> Result<Vec<Statement<'a>>, AllocError>
     ensures { IfOk result (λ v. statements_view v.items ≡ spec.statements_from (suc (length text.now)) (parse.skip_bom text.now)) }
 {
     let mut found = Vec::new(alloc);

@@ -64,7 +64,11 @@ impl Passed {
         let heads = heads_element(statement, array);
         let key = is_key(statement.kind);
         Passed {
-            elements: if heads { self.elements + 1 } else { self.elements },
+            elements: if heads {
+                self.elements + 1
+            } else {
+                self.elements
+            },
             in_element: if key { self.in_element } else { heads },
             no_heading: key && self.no_heading,
         }
@@ -77,9 +81,8 @@ impl<'a> Wanted<'a> {
         ensures { result.now ≡ array_sought self.entry }
     {
         match self {
-            Wanted::Heading(array, _) | Wanted::Array(array) | Wanted::ElementEntry(array, _, _) => {
-                array
-            }
+            Wanted::Heading(array, _) | Wanted::Array(array) | Wanted::ElementEntry(array, _, _) =>
+                { array }
             Wanted::TopEntry(_) => "",
         }
     }

@@ -12,7 +12,7 @@ pub loop-preserved : goal.loop-preserved
 loop-preserved c = record {
   here = next_step around_deploy c.loop.counter c.args.position c.loop.here _ c.around-here.ensures c.loop.invariant.here;
   nearer = below_more _ c.loop.counter c.loop.invariant.nearer
-    (none_at (span_at c.args.self.now.text.now) _ c.loop.here _ c.in_ok-span.ensures c.in-None.is c.loop.invariant.here);
+      (none_at (span_at c.args.self.now.text.now) _ c.loop.here _ c.in_ok-span.ensures c.in-None.is c.loop.invariant.here);
 }
 
 pub returns-in-Some : goal.returns-in-Some
