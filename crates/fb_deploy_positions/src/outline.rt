@@ -38,6 +38,13 @@ impl<'a> Outline<'a> {
         Ok(Outline { text, statements })
     }
 
+    /// The text of the deployment.
+    pub fn text(&self) -> &'a [u8]
+        ensures { result.now ≡ self.now.text.now }
+    {
+        self.text
+    }
+
     /// The bytes at a position, or at the nearest one around it at which there are any.
     ///
     /// # Errors

@@ -2,7 +2,6 @@
 
 ghost use Rattle.std.specs.Prelude.{◌≡◌, IfOk, MatchOption, map, option_map};
 ghost use Rattle.std.specs.List.{All, AllZip};
-ghost use Rattle.fb_deploy_positions.specs.Entries.{IsNear};
 ghost use Rattle.fb_why.specs.InputPlaces as spec;
 ghost use Rattle.fb_why.specs.InputPlaces.{AreBytesOf, HasCheckedNone, HasNoBytes, HasNoInputPosition, HasNotMappedNone, IsCheckedPosition, IsInputPosition, IsListedIn, IsNearIn, IsNotListed, IsNotMappedPosition, IsPlaceFor, IsPlaceOf, IsReadFor, IsShownAt};
 ghost use Rattle.fb_why.specs.InputStretches.{IsDeployOutside, IsDeployPlace};
@@ -47,14 +46,6 @@ pub enum InputPosition {
     Further(TableLocation),
 }
 
-/// The bytes nearest to a position of a deployment.
-fn nearest_bytes(alloc: Global, bytes: &[u8], position: DeployPosition) -> Result<Span, AllocError>
-    ensures { IfOk result (IsNear bytes.now position) }
-{
-    let outline = Outline::read(alloc, bytes)?;
-    outline.nearest(alloc, position)
-}
-
 /// The place of a position of a deployment: where its key or its table is, or else the beginning of the text.
 ///
 /// # Errors
@@ -62,13 +53,13 @@ fn nearest_bytes(alloc: Global, bytes: &[u8], position: DeployPosition) -> Resul
 /// When memory runs out.
 pub fn place_in_deployment(
     alloc: Global,
-    bytes: &[u8],
+    outline: &Outline<'_>,
     position: DeployPosition,
 ) -> Result<Option<Place>, AllocError>
-    ensures { IfOk result (λ o. MatchOption o (IsDeployOutside bytes.now position) (IsDeployPlace bytes.now position)) }
+    ensures { let text = outline.now.text.now in IfOk result (λ o. MatchOption o (IsDeployOutside text position) (IsDeployPlace text position)) }
 {
-    let span = nearest_bytes(alloc, bytes, position)?;
-    Ok(place_between(bytes, span.start, span.end))
+    let span = outline.nearest(alloc, position)?;
+    Ok(place_between(outline.text(), span.start, span.end))
 }
 
 /// An instance that a resource lists.
