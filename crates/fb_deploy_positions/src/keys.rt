@@ -9,7 +9,6 @@ ghost use Rattle.toml.specs.Parse as parse;
 ghost use Rattle.fb_deploy_positions.specs.Entries as entries;
 ghost use Rattle.fb_deploy_positions.specs.Results.{AnswersRead, LeavesLess};
 
-use crate::values::begins_with;
 use std::alloc::{AllocError, Global};
 use toml_parser::bytes::is_ws;
 use toml_parser::text::{first, skip, skip_ws};
@@ -65,6 +64,16 @@ pub(crate) fn key_len(alloc: Global, text: &str) -> Result<usize, AllocError>
         return Ok(0);
     };
     Ok(trimmed(&text.as_bytes()[..text.len() - rest.len()]))
+}
+
+/// Whether the key has this name as its first part.
+pub(crate) fn begins_with(key: &Key, name: &str) -> bool
+    ensures { result ≡ entries.begins_with name.now (key_view key.now) }
+{
+    match key.path.first() {
+        Some(part) => part.as_str() == name,
+        None => key.last.as_str() == name,
+    }
 }
 
 /// Whether the key is this name alone.

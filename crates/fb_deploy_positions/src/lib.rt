@@ -9,7 +9,7 @@
 //! or `None` exactly if the table has no such key. Statements are read up to the first one that is none, so bytes that the
 //! TOML reader refuses have those of their beginning.
 //!
-//! Read in this order: `tokens` and `values`, for what follows a value and where its parts are; `keys`; `statement` and
+//! Read in this order: `tokens`, `keys` and `values`, for what follows a value and where its parts are; `statement` and
 //! `reading`, for the statements; `search`; `entry`; `spans` and `outline`. `laws` says that the definitions agree with
 //! the TOML reader: what it reads in a document is what the statements define.
 #![tactic(auto)]

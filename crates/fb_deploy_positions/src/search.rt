@@ -5,9 +5,8 @@ ghost use Rattle.fb_deploy_positions.specs.Entries as entries;
 ghost use Rattle.fb_deploy_positions.specs.Statements.{StatementAt};
 ghost use Rattle.fb_deploy_positions.specs.Views.{IsPassed, array_sought, is_wanted, statement_view, statements_view};
 
-use crate::keys::{begins_with_both, is_alone};
+use crate::keys::{begins_with, begins_with_both, is_alone};
 use crate::statement::{Statement, is_element, is_key};
-use crate::values::begins_with;
 
 /// What is sought among the statements of a document.
 #[derive(Clone, Copy)]

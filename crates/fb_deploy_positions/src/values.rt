@@ -5,6 +5,7 @@ ghost use Rattle.toml_parser.specs.Reading.{key_view};
 ghost use Rattle.fb_deploy_positions.specs.Entries as entries;
 ghost use Rattle.fb_deploy_positions.specs.Values as spec;
 
+use crate::keys::begins_with;
 use crate::tokens::{after_atom, after_element, key_equals};
 use std::alloc::{AllocError, Global};
 use toml_parser::Key;
@@ -128,16 +129,6 @@ pub(crate) fn item_at<'a>(
     ensures { IfOk result (λ o. option_map (λ r. r.now) o ≡ slice_get (spec.items_of depth text.now) index) }
 {
     Ok(items_of(alloc, text, depth)?.get(index).copied())
-}
-
-/// Whether a key begins with a name.
-pub(crate) fn begins_with(key: &Key, name: &str) -> bool
-    ensures { result ≡ entries.begins_with name.now (key_view key.now) }
-{
-    match key.path.first() {
-        Some(part) => part.as_str() == name,
-        None => key.last.as_str() == name,
-    }
 }
 
 /// The first key of an inline table at most this deep that begins with a name.

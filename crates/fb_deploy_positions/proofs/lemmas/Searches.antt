@@ -53,7 +53,7 @@ up_to true n m few = omega arith
 up_to false n m few = omega arith
 
 -- no more elements than statements
-pub few_elements : (array : Text) (before : List StatementAt) → elements_in array before ≤ length before
+few_elements : (array : Text) (before : List StatementAt) → elements_in array before ≤ length before
 unfolding elements_in
 few_elements array [] = omega arith
 few_elements array (s ∷ before) = up_to (heads_element array s) (elements_in array before) (length before) (few_elements array before)
