@@ -20,8 +20,9 @@ First it installs the system packages of tools/system_packages.txt that are miss
   rings of resources (tools/rings.py), sessions (tools/sessions.py), random systems (tools/drawn.py), random types (tools/drawn_types.py), where they stop
   (tools/stops.py), each token at each place of a declaration (tools/expected.py), types with more events than 16 bits can number
   (tools/wide.py), traces of more than a million lines (tools/long.py), a system at all limits at once (tools/limits.py), outputs that
-  take little and readers that fail (tools/narrow.py), texts that are cut or changed in one byte (tools/hostile.py), the Python package with docs/PYTHON.md
-  (tools/python_package.py), and each request for memory refused (tools/refuse.py)
+  take little and readers that fail (tools/narrow.py), texts that are cut or changed in one byte (tools/hostile.py), deployments in random
+  forms of TOML (tools/forms.py), the Python package with docs/PYTHON.md (tools/python_package.py), and each request for memory refused
+  (tools/refuse.py)
 
 Then it prints the processor seconds and the memory of each crate. The last line is 'N passed, M failed', and the status is 0 if none
 failed. With crates it does the same only for these and those below them, on a copy of their files. --jobs N uses N processors.
@@ -55,6 +56,7 @@ import editors
 import expected
 import explained
 import figures_test
+import forms
 import graphs
 import hostile
 import insides
@@ -255,6 +257,7 @@ def call_after_each_run():
         yield limits.main([made]) == 0
         yield narrow.try_all(made)
         yield hostile.try_all(made)
+        yield forms.try_all(made)
         yield expected.try_all(made)
         yield python_package.try_all(made)
         yield refuse.try_all(made)
