@@ -1,5 +1,5 @@
 -- The statements of a document: its headings, and its keys with their values (TOML 1.1, "Table", "Array of Tables").
-use Rattle.std.specs.Prelude.{ℕ, zero, suc, Bool, ◌&&◌, ◌==◌, if◌then◌else◌, List, [], ◌∷◌, length, drop, slice_index, Option, Some, None, option_map, unwrap_or}
+use Rattle.std.specs.Prelude.{ℕ, zero, suc, ◌&&◌, ◌==◌, if◌then◌else◌, List, [], ◌∷◌, length, drop, slice_index, Some, None, option_map, unwrap_or}
 use Rattle.std.specs.Str.{is_utf8}
 use Rattle.toml_parser.specs.Lexical.{Read, left_bracket, right_bracket, first, skip_blank, skip_ws}
 use Rattle.toml_parser.specs.Strings as toml

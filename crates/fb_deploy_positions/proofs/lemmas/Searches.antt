@@ -1,5 +1,5 @@
 -- Searches among statements, one after another.
-use Rattle.std.proofs.Common.{◌≡◌, ℕ, zero, suc, ◌+◌, ◌≤◌, ◌<◌, Bool, true, false, cond, ◌&&◌, List, [], ◌∷◌, ◌++◌, length, length-take, get_or, take, drop, map, Option, Some, None, refl, sym, ap, ◌∙◌, add-one, arith}
+use Rattle.std.proofs.Common.{◌≡◌, ℕ, suc, ◌+◌, ◌≤◌, ◌<◌, Bool, true, false, cond, ◌&&◌, List, [], ◌∷◌, ◌++◌, length, length-take, get_or, take, drop, Some, None, refl, sym, ap, ◌∙◌, arith}
 use Rattle.std.proofs.lemmas.List.{drop_all, drop_more, length-map, map_push, take_more}
 use Rattle.fb_deploy_positions.specs.Entries.{elements_in, found, has_no_heading, heads_element, is_in_element, is_key}
 use Rattle.fb_deploy_positions.specs.Statements.{StatementAt}

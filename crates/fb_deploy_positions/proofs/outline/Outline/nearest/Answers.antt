@@ -1,5 +1,5 @@
 use Rattle.std.proofs.Common.{◌≡◌, arith, below_more}
-use Rattle.fb_inputs.specs.Positions.{around_deploy, stepped}
+use Rattle.fb_inputs.specs.Positions.{around_deploy}
 use Rattle.fb_inputs.proofs.lemmas.positions.StepsAround.{next_step, no_step}
 use Rattle.fb_deploy_positions.specs.Entries.{span_at}
 use Rattle.fb_deploy_positions.proofs.lemmas.Nearest.{begins, none_at, some_at}
