@@ -5,9 +5,10 @@ The second simulator of tools/interpreter.py runs each example and each random s
 block does as docs/FORMATS.md says: transitions, algorithms with what they change, lost events, and what event blocks remember. The
 program is given the trace alone. Both texts are to be the same, and without the lines that begin with two spaces they are the trace.
 Of traces in which one emission was changed or left out, the program is to refuse the first line that shows it. Of traces that stop
-where a resource has used up its steps, with a limit that was passed before, it is to refuse the event that passed it. Of traces that are cut
-off, with `--cut`, the text is to be the same up to the last event, and then the lines that are there. What is written before a refusal,
-by `wave` too, is to be a beginning of what is written of any trace that begins with the lines before the refused one."""
+where a resource has used up its steps, with a limit that was passed before, it is to refuse the stop, and to say after which event the
+limit was passed. Of traces that are cut off, with `--cut`, the text is to be the same up to the last event, and then the lines that are
+there. What is written before a refusal, by `wave` too, is to be a beginning of what is written of any trace that begins with the lines
+before the refused one: also of one that stops for its steps, in the last of the events before it or later."""
 
 import glob
 import os
@@ -235,7 +236,7 @@ def spoiled(system, trace):
 
 
 def passed(system, trace):
-    """A trace that stops for its steps, with a limit that an event before has passed, and the number of the line of that event."""
+    """A trace that stops for its steps, with a limit that an event before has passed, and the numbers of its last line and of that event's."""
     *lines, end = trace.splitlines(keepends=True)
     limit = max((it[4] for it in system.uses), default=1) - 1
     over = next((it for it in system.uses if it[4] > limit), None)
@@ -245,7 +246,7 @@ def passed(system, trace):
     if end.startswith("end"):
         _, _, home, tick, *_ = system.uses[-1]
         end = f"stop {tick} {system.resources[home][0]} steps\n"
-    yield "".join([*lines, end]), limit, over[0]
+    yield "".join([*lines, end]), limit, len(lines) + 1, over[0]
 
 
 def is_own(first, line):
@@ -331,10 +332,11 @@ def faults_of(room, number, case):
             if (ran.returncode, ran.stderr) != (2, f"refused trace line {line}\n".encode()):
                 wrong.append(f"{name}, form {form}: a spoiled line {line}: status {ran.returncode} {ran.stderr.decode().strip()}")
         without = words[:-2] if "--steps" in words else words
-        for text, limit, line in passed(system, trace):
-            ran = room.call([*without, "--steps", str(limit), "-"], text.encode())
-            if (ran.returncode, ran.stderr) != (2, f"refused trace line {line}\n".encode()):
-                wrong.append(f"{name}, form {form}: steps passed at line {line}: status {ran.returncode} {ran.stderr.decode().strip()}")
+        for text, limit, line, event in passed(system, trace):
+            ran = room.call([*without, "--steps", str(limit), "--why", "-"], text.encode())
+            told = f"refused trace line {line}\ntrace: line {line}: the resource of line {event} uses more steps in that tick than it has\n"
+            if (ran.returncode, ran.stderr) != (2, told.encode()):
+                wrong.append(f"{name}, form {form}: steps passed at line {event}: status {ran.returncode} {ran.stderr.decode().strip()}")
     return wrong
 
 
@@ -349,8 +351,10 @@ EC_TRANSITIONS IDLE TO RUN := GO; RUN TO IDLE := 1; END_TRANSITIONS
 ALGORITHM ADD IN ST: Y := X + 1; N := N + 1; END_ALGORITHM END_FUNCTION_BLOCK
 APPLICATION A FBS D : DOOR; END_FBS END_APPLICATION
 """
+GATE = DOOR.replace("RUN := GO;", "RUN := GO [(X > 3)];")
 TICKS, LAST, WRONG = 3_000, 3_001, 6_002
 PAGE = 65_536
+MORE, FEWER = 200, 40
 
 
 def door_text(tick, notes):
@@ -372,20 +376,56 @@ def front_faults(room):
     for words in (["inspect"], ["wave"], ["wave", "--states"]):
         call = lambda text: room.call([*words, "door.iec", "-"], text.encode())
         ran, wholes = call("".join(spoiled)), [call(it) for it in others]
-        if (ran.returncode, ran.stderr) != (2, f"refused trace line {WRONG}\n".encode()) or any(it.returncode for it in wholes):
-            yield f"{words}: status {ran.returncode} {ran.stderr.decode().strip()}, and {[it.returncode for it in wholes]}"
-        elif len(ran.stdout) <= PAGE or not all(it.stdout.startswith(ran.stdout) for it in wholes):
-            yield f"{words}: the {len(ran.stdout)} bytes before the refusal are no beginning of what is written of other traces"
-        elif words == ["inspect"] and wholes[0].stdout != shown.encode():
+        yield from front_fault(words, ran, wholes, WRONG)
+        if words == ["inspect"] and wholes[0].stdout != shown.encode():
             yield "inspect: the text of the whole trace is another one"
+
+
+def front_fault(words, ran, wholes, line):
+    """Whether a trace was refused at a line, and what was written then, more than a page, begins what was written of other traces."""
+    if (ran.returncode, ran.stderr) != (2, f"refused trace line {line}\n".encode()) or any(it.returncode for it in wholes):
+        yield f"{words}: status {ran.returncode} {ran.stderr.decode().strip()}, and {[it.returncode for it in wholes]}"
+    elif len(ran.stdout) <= PAGE or not all(it.stdout.startswith(ran.stdout) for it in wholes):
+        yield f"{words}: the {len(ran.stdout)} bytes before the refusal are no beginning of what is written of other traces"
+
+
+def excess_faults(room):
+    """Each event costs 8 steps, and the trace stops for its steps after a limit of 7, in the tick after its events. So the stop is refused, not
+    the first event: two other traces have the same lines before it, and do not stop for their steps."""
+    lines = "".join(door_text(it, notes=False) for it in range(1, TICKS + 1))
+    more = "".join([f"{LAST} MAIN > D.GO X=7\n", *[f"{LAST} MAIN < D.DONE Y=8\n"] * 2])
+    for words in (["inspect"], ["wave", "--states"]):
+        call = lambda end: room.call([*words, "door.iec", "--steps", "7", "-"], (lines + end).encode())
+        wholes = [call(it) for it in (f"end {LAST}\n", f"{more}end {LAST + 1}\n")]
+        yield from front_fault([*words, "--steps 7"], call(f"stop {LAST} MAIN steps\n"), wholes, 3 * TICKS + 1)
+
+
+def last_faults(room):
+    """Events that are lost cost 2 steps each, and the last one costs 8. The line after it is wrong. Another trace with the same lines before that stops
+    there, with a limit of 6 steps, so in the middle of the last event. The text of that event must not be written yet, also where it fills a page."""
+    lost, last = "{0} MAIN > D.GO X=3\n", "{0} MAIN > D.GO X=4\n{0} MAIN < D.DONE Y=5\n{0} MAIN < D.DONE Y=5\n"
+    for words in (["inspect"], ["wave", "--states"]):
+        call = lambda count, end: room.call(
+            [*words, "gate.iec", "--steps", "6", "-"], "".join([*[lost.format(it) for it in range(count)], last.format(count), end.format(count)]).encode()
+        )
+        size = lambda count: len(call(count, "end {0}0\n").stdout)
+        few, many = 1, PAGE
+        while few + 1 < many:
+            middle = (few + many) // 2
+            few, many = (middle, many) if size(middle) < PAGE + MORE else (few, middle)
+        for count in range(few - FEWER, few + 1):
+            ran, other = call(count, "{0} MAIN < D.DONE Y=5\n"), call(count, "stop {0} MAIN steps\n")
+            if (ran.returncode, ran.stderr) != (2, f"refused trace line {count + 4}\n".encode()) or other.returncode or not other.stdout.startswith(ran.stdout):
+                yield f"{words}: after {count} lost events: status {ran.returncode} {ran.stderr.decode().strip()}, and {other.returncode} {other.stderr.decode().strip()}"
+                break
 
 
 def make_all(program):
     """Returns whether each text is as it is to be."""
     cases = [*examples(), *systems()]
-    with Room(program, {"door.iec": DOOR.encode()}) as room:
+    with Room(program, {"door.iec": DOOR.encode(), "gate.iec": GATE.encode()}) as room:
         wrong = [it for found in side_by_side(lambda it: faults_of(room, *it), [*enumerate(cases)]) for it in found]
-        wrong += front_faults(room)
+        wrong += [*front_faults(room), *excess_faults(room), *last_faults(room)]
     print("\n".join(wrong[:SHOWN]), end="\n" * bool(wrong))
     print(f"insides: {len(wrong)} faults in {len(cases)} systems", flush=True)
     return not wrong

@@ -215,3 +215,21 @@ pub record ShowsRead (sys : System) (what : Selection) (steps : ℕ) (input old 
   pub lines_are : map (line_of sys) lines ≡ all_lines front.takings
   pub read : IfSome input (BeginsWith (lines_text front.form sys (map (line_of sys) lines)))
   pub ends : (front.last ≡ []) ⊎ IsOwnEnd front.form sys what input lines front.last
+
+-- A writer got what is shown of these takings of a text, each taken as a whole. After their lines comes the line of an event, and that comes
+-- before the line of this number.
+pub record ShowsFirst (sys : System) (form : Form) (what : Selection) (number : ℕ) (text : List ℕ) (old new : Option (List ℕ)) : Type 0 where
+  pub takings : List Taking
+  pub chain : AreTakings sys most (opening_look sys) takings
+  pub lines : List run.Line
+  pub lines_are : map (line_of sys) lines ≡ all_lines takings
+  pub next : run.Line
+  pub are : AreLinesOf sys (lines ++ next ∷ [])
+  pub read : BeginsWith (lines_text form sys (map (line_of sys) (lines ++ next ∷ []))) text
+  pub before : length lines + 1 < number
+  pub got : Appends old new (all_text form sys what takings)
+
+-- Before the line of this number was refused, a writer got nothing, or what is shown of the first takings of a text. The last of these has
+-- another line after it, so it is shown alike in each trace with the lines before the refused one (`specs/Laws`).
+abbrev pub ShowsBefore : System → (what : Selection) → (number : ℕ) → (text : List ℕ) → (old new : Option (List ℕ)) → Type 0
+ShowsBefore sys what number text old new = Appends old new [] ⊎ ((form : Form) × ShowsFirst sys form what number text old new)

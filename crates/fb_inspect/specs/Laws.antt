@@ -1,11 +1,15 @@
 -- Laws of takings, and of what traces cover.
-use Rattle.std.specs.Prelude.{◌≡◌, ◌<◌, ◌≤◌, ◌^◌, ℕ, ◌+◌, List, ◌∷◌, ◌++◌, Option, Some, true}
+use Rattle.std.specs.Prelude.{◌≡◌, ◌<◌, ◌≤◌, ◌^◌, ℕ, ◌+◌, List, ◌∷◌, ◌++◌, map, length, Option, Some, true}
+use Rattle.std.specs.Io.KnownBytes.{Appends}
 use Rattle.fb_types.specs.Blocks.{Emission, Kind}
 use Rattle.fb_types.specs.Charts.{Position}
 use Rattle.fb_types.specs.Headline.{AreAccepted, Inputs, IsTrace, stimuli_of, system_of}
 use Rattle.fb_types.specs.Names.{Name}
+use Rattle.fb_types.specs.Numbers.{line_of}
+use Rattle.fb_types.specs.Text.{lines_text}
 use Rattle.fb_types.specs.Reactions.{Outcome, Reacts, World}
-use Rattle.fb_types.specs.Simulation.{Ending, IsSimulation, Taken, ending_of, lines_of}
+use Rattle.fb_types.specs.Simulation as simulation
+use Rattle.fb_types.specs.Simulation.{Ending, IsSimulation, ending_of}
 use Rattle.fb_types.specs.States.{Event as AnEvent, Line, path_of}
 use Rattle.fb_types.specs.Systems.{System}
 use Rattle.fb_types.specs.declared.key.Key.{Key}
@@ -19,12 +23,14 @@ use Rattle.fb_system.specs.Networks.{AreNarrow}
 use Rattle.fb_wave.specs.CutOff.{IsCutTrace}
 use Rattle.fb_wave.specs.Lines.{IsTextOf}
 use Rattle.fb_wave.specs.Named.{HasNames}
-use Rattle.fb_wave.specs.Waves.{IsTraceOf}
+use Rattle.fb_wave.specs.Waves.{AreLinesOf, IsTraceOf}
 use Rattle.fb_coverage.specs.declared.marks.Marks.{Marks}
 use Rattle.fb_inspect.specs.walk.Chains.{Piece, ShowsReaction}
 use Rattle.fb_inspect.specs.Happenings.{AreMarkedBy, History, together}
-use Rattle.fb_inspect.specs.Inspections.{AreTakings, BeginsWith, EndsSo, all_lines, all_text, last_look}
+use Rattle.fb_inspect.specs.Inspections.{AreTakings, BeginsWith, EndsSo, IsInspected, ShowsBefore, all_lines, all_text, last_look}
 use Rattle.fb_inspect.specs.Selections.{Selection}
+use Rattle.fb_inspect.specs.StateWaves.{AreFirst}
+use Rattle.fb_inspect.specs.dump.StateDumps.{HaveLines, Taken, lines_of, state_dump, takings_of}
 use Rattle.fb_inspect.specs.walk.Looks.{IsTaking, IsTakingAt, Look, Taking, most, opening_look}
 use Rattle.fb_inspect.specs.Refusals.{IsAccepted, IsWrongAt}
 use Rattle.fb_inspect.specs.walk.RunLines.{HaveRoom}
@@ -68,6 +74,31 @@ ShownAlike =
     (sys : System) (form : Form) (what : Selection) (xs ys : List Taking) (more : List Line) → AreTakings sys most (opening_look sys) xs → AreTakings sys most (opening_look sys) ys
     → all_lines ys ≡ all_lines xs ++ more → BeginsWith (all_text form sys what xs) (all_text form sys what ys)
 
+-- What is shown of takings begins what is shown of each trace whose lines are theirs and then at least one more. Such a trace may stop for its
+-- steps, with any limit.
+abbrev pub ShownBefore : Type 0
+ShownBefore =
+    (sys : System) (form : Form) (what : Selection) (steps : ℕ) (xs ys : List Taking) (next : Line) (more : List Line) (end : Ending) → steps ≤ most → AreTakings sys most (opening_look sys) xs → EndsSo sys steps ys end
+    → all_lines ys ≡ all_lines xs ++ next ∷ more → BeginsWith (all_text form sys what xs) (all_text form sys what ys)
+
+-- A text has each line of the system that another one has before the line of this number.
+abbrev pub AreSameBefore : System → (number : ℕ) → (text other : List ℕ) → Type 0
+AreSameBefore sys number text other =
+    (form : Form) (ls : List run.Line) → AreLinesOf sys ls → length ls < number → BeginsWith (lines_text form sys (map (line_of sys) ls)) text → BeginsWith (lines_text form sys (map (line_of sys) ls)) other
+
+-- What was written of a text before the line of this number was refused begins what is written of each whole trace with the lines before that,
+-- with any limit.
+abbrev pub TextsShownBefore : Type 0
+TextsShownBefore =
+    (i : Inputs) → AreAccepted i → HasNames (system_of i) → (what : Selection) (number steps : ℕ) (text other bytes : List ℕ) (old new : Option (List ℕ)) → steps ≤ most → ShowsBefore (system_of i) what number text old new
+    → AreSameBefore (system_of i) number text other → IsInspected (system_of i) what steps other bytes → (got : List ℕ) × Appends old new got × BeginsWith got bytes
+
+-- The same of dumps: what begins each dump of a trace that begins with takings begins the dump of each such trace.
+abbrev pub DumpedBefore : Type 0
+DumpedBefore =
+    (sys : System) (steps : ℕ) (xs ys : List Taken) (next : run.Line) (more : List run.Line) (end : Ending) (bytes : List ℕ) → steps ≤ most → HaveLines sys xs → HaveLines sys ys
+    → AreTakings sys most (opening_look sys) (takings_of xs) → EndsSo sys steps (takings_of ys) end → lines_of ys ≡ lines_of xs ++ next ∷ more → AreFirst sys xs bytes → BeginsWith bytes (state_dump true sys ys end)
+
 -- A reaction that does not run out of steps is the same with more of them, and it is shown alike.
 abbrev pub MoreSteps : Type 0
 MoreSteps =
@@ -90,22 +121,22 @@ ReactionsAreTakings =
 -- run.
 abbrev pub RunsAreTakings : Type 0
 RunsAreTakings =
-    (i : Inputs) → AreAccepted i → (horizon limit : ℕ) → horizon ≤ 10 ^ 12 → limit ≤ most → (ts : List Taken) → IsSimulation (system_of i) (stimuli_of i) horizon limit ts
-    → (takings : List Taking) × (all_lines takings ≡ lines_of ts) × EndsSo (system_of i) limit takings (ending_of horizon ts)
+    (i : Inputs) → AreAccepted i → (horizon limit : ℕ) → horizon ≤ 10 ^ 12 → limit ≤ most → (ts : List simulation.Taken) → IsSimulation (system_of i) (stimuli_of i) horizon limit ts
+    → (takings : List Taking) × (all_lines takings ≡ simulation.lines_of ts) × EndsSo (system_of i) limit takings (ending_of horizon ts)
 
 -- Where the lines of a run begin with those of takings of a walk and the first line of one more, they go on with the emissions of that
 -- taking, or the run stops in them for its steps.
 abbrev pub RunsGoOn : Type 0
 RunsGoOn =
-    (i : Inputs) → AreAccepted i → (horizon limit : ℕ) → horizon ≤ 10 ^ 12 → limit ≤ most → (ts : List Taken) → IsSimulation (system_of i) (stimuli_of i) horizon limit ts
+    (i : Inputs) → AreAccepted i → (horizon limit : ℕ) → horizon ≤ 10 ^ 12 → limit ≤ most → (ts : List simulation.Taken) → IsSimulation (system_of i) (stimuli_of i) horizon limit ts
     → (xs : List Taking) (x : Taking) (more : List Line) → AreTakings (system_of i) most (opening_look (system_of i)) xs → IsTaking (system_of i) most (last_look (opening_look (system_of i)) xs) x
-    → lines_of ts ≡ all_lines xs ++ x.first ∷ more → GoesOn x more (ending_of horizon ts)
+    → simulation.lines_of ts ≡ all_lines xs ++ x.first ∷ more → GoesOn x more (ending_of horizon ts)
 
 -- Where the lines of a run go on after those of takings of a walk, the next one begins a taking.
 abbrev pub RunsBegin : Type 0
 RunsBegin =
-    (i : Inputs) → AreAccepted i → (horizon limit : ℕ) → horizon ≤ 10 ^ 12 → limit ≤ most → (ts : List Taken) → IsSimulation (system_of i) (stimuli_of i) horizon limit ts
-    → (xs : List Taking) (l : Line) (more : List Line) → AreTakings (system_of i) most (opening_look (system_of i)) xs → lines_of ts ≡ all_lines xs ++ l ∷ more
+    (i : Inputs) → AreAccepted i → (horizon limit : ℕ) → horizon ≤ 10 ^ 12 → limit ≤ most → (ts : List simulation.Taken) → IsSimulation (system_of i) (stimuli_of i) horizon limit ts
+    → (xs : List Taking) (l : Line) (more : List Line) → AreTakings (system_of i) most (opening_look (system_of i)) xs → simulation.lines_of ts ≡ all_lines xs ++ l ∷ more
     → BeginsSo (system_of i) limit xs l (ending_of horizon ts)
 
 -- ---- What is accepted
@@ -115,13 +146,13 @@ RunsBegin =
 abbrev pub TracesAreAccepted : Type 0
 TracesAreAccepted =
     (i : Inputs) → AreGood i → AreNarrow i.library.blocks → (form : Form) (horizon limit : ℕ) (bytes : List ℕ) (end : Ending) → 0 < horizon → horizon ≤ 10 ^ 12 → limit ≤ most
-    → (trace : IsTrace i form horizon limit bytes end) → HaveRoom form (lines_of trace.takings) → IsAccepted (system_of i) limit bytes
+    → (trace : IsTrace i form horizon limit bytes end) → HaveRoom form (simulation.lines_of trace.takings) → IsAccepted (system_of i) limit bytes
 
 -- A text that is wrong at a line is no trace of any run with that limit, whatever the stimuli, the horizon and the form are.
 abbrev pub RefusedIsNoRun : Type 0
 RefusedIsNoRun =
     (i : Inputs) → AreGood i → AreNarrow i.library.blocks → HasNames (system_of i) → (limit n : ℕ) (text : List ℕ) → limit ≤ most → IsWrongAt (system_of i) limit n text
-    → (form : Form) (horizon : ℕ) (end : Ending) → 0 < horizon → horizon ≤ 10 ^ 12 → (trace : IsTrace i form horizon limit text end) → HaveRoom form (lines_of trace.takings) → ⊥
+    → (form : Form) (horizon : ℕ) (end : Ending) → 0 < horizon → horizon ≤ 10 ^ 12 → (trace : IsTrace i form horizon limit text end) → HaveRoom form (simulation.lines_of trace.takings) → ⊥
 
 -- A text that is accepted is wrong at no line, whatever the text is.
 abbrev pub AcceptedIsNotWrong : Type 0

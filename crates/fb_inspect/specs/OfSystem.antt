@@ -126,6 +126,9 @@ ShowsFront i = inspections.ShowsFront (system_of i)
 abbrev pub ShowsRead : Inputs → (what : Selection) → (steps : ℕ) → (input old new : Option (List ℕ)) → Type 0
 ShowsRead i = inspections.ShowsRead (system_of i)
 
+abbrev pub ShowsBefore : Inputs → (what : Selection) → (number : ℕ) → (text : List ℕ) → (old new : Option (List ℕ)) → Type 0
+ShowsBefore i = inspections.ShowsBefore (system_of i)
+
 -- ---- Dumps with the insides of blocks
 
 -- the scopes of the instances of a resource, and those of all resources
@@ -178,3 +181,6 @@ WritesFront i = state_waves.WritesFront (system_of i)
 
 abbrev pub WritesRead : Inputs → (steps : ℕ) → (input old new : Option (List ℕ)) → Type 0
 WritesRead i = state_waves.WritesRead (system_of i)
+
+abbrev pub WritesBefore : Inputs → (number : ℕ) → (text : List ℕ) → (old new : Option (List ℕ)) → Type 0
+WritesBefore i = state_waves.WritesBefore (system_of i)

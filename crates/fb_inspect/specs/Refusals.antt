@@ -245,9 +245,10 @@ pub record BeginsNothing (T : Taking → Type 0) (F : run.Line → Finding → T
       ((finding ≡ why.Line) × ((m : run.Line) → IsTextOf sys form m line → tick ≤ m.key.tick → ⊥))
       ⊎ ((m : run.Line) × IsTextOf sys form m line × F m finding)
 
--- The line is not the stop for its steps of the resource of the last of these takings.
-abbrev pub IsNoLastStop : System → List Taking → List ℕ → Type 0
-IsNoLastStop sys takings line = (front : List Taking) (x : Taking) → takings ≡ front ++ x ∷ [] → IsNoStepsStop sys x.first line
+-- The line is not the stop for its steps of the resource of the last of these takings, or more steps were used before that.
+abbrev pub IsNoLastStop : System → (steps : ℕ) → List Taking → List ℕ → Type 0
+IsNoLastStop sys steps takings line =
+    (front : List Taking) (x : Taking) → takings ≡ front ++ x ∷ [] → KeepSteps sys steps (last_look (opening_look sys) front) → IsNoStepsStop sys x.first line
 
 -- The line says that a resource stops, but none of these takings stopped it, and the steps are not used up there, or were not kept before.
 pub record EndsNothing (sys : System) (steps : ℕ) (takings : List Taking) (line : List ℕ) (finding : Finding) : Type 0 where
@@ -255,7 +256,7 @@ pub record EndsNothing (sys : System) (steps : ℕ) (takings : List Taking) (lin
   pub can : IsEndOf sys end
   pub is : line ≡ last_line sys end
   pub other : MayEnd sys steps (last_look (opening_look sys) takings) end → ⊥
-  pub near : IsNoLastStop sys takings line
+  pub near : IsNoLastStop sys steps takings line
   pub found : finding ≡ why.Runs
 
 -- Such a taking begins with these lines, of which there are some, and goes on with another one.
@@ -299,24 +300,27 @@ pub record StopsSoon (sys : System) (form : Form) (takings : List Taking) (first
   pub rest : List ℕ
   pub is : text ≡ lines_text form sys (all_lines takings ++ map (line_of sys) (first ∷ rows)) ++ (steps_stop sys (line_of sys first) ++ rest)
 
--- After one of the takings that go on from these, the first, a resource had used more than these steps in a tick, and a stop for steps comes later.
-pub record UsesTooMany (sys : System) (form : Form) (steps : ℕ) (takings : List Taking) (text : List ℕ) : Type 0 where
+-- The line of this number is the first of the first of these takings after which a resource had used more than these steps in a tick.
+pub record IsTooMany (sys : System) (steps : ℕ) (takings : List Taking) (number : ℕ) : Type 0 where
+  pub before : List Taking
   pub taking : Taking
   pub later : List Taking
-  pub chain : AreTakings sys most (opening_look sys) (takings ++ taking ∷ later)
-  pub goes_on : NoneStops (takings ++ taking ∷ later)
-  pub kept : KeepSteps sys steps (last_look (opening_look sys) takings)
+  pub parts : takings ≡ before ++ taking ∷ later
+  pub kept : KeepSteps sys steps (last_look (opening_look sys) before)
   pub over : KeepSteps sys steps taking.after → ⊥
-  pub read : List run.Line
-  pub read_are : map (line_of sys) read ≡ all_lines (takings ++ taking ∷ later)
-  pub untaken : List run.Line
-  pub are : All (IsLineOf sys) (read ++ untaken)
+  pub numbered : number ≡ length (all_lines before) + 1
+
+-- The line is a stop for steps, but after one of these takings a resource had used more in a tick. Where that is the last one, and no line comes
+-- after it, the line is not the stop of its resource.
+pub record UsesTooMany (sys : System) (steps : ℕ) (takings : List Taking) (begun : List Line) (line : List ℕ) (finding : Finding) : Type 0 where
+  pub number : ℕ
+  pub many : IsTooMany sys steps takings number
   pub tick : ℕ
   pub resource : ℕ
   pub can : IsEndOf sys (AtStop tick resource Steps)
-  pub near : later ≡ [] → untaken ≡ [] → IsNoStepsStop sys taking.first (last_line sys (AtStop tick resource Steps))
-  pub rest : List ℕ
-  pub is : text ≡ lines_text form sys (all_lines (takings ++ taking ∷ later) ++ map (line_of sys) untaken) ++ (last_line sys (AtStop tick resource Steps) ++ rest)
+  pub is : line ≡ last_line sys (AtStop tick resource Steps)
+  pub near : many.later ≡ [] → begun ≡ [] → IsNoStepsStop sys many.taking.first line
+  pub found : finding ≡ why.Excess number
 
 -- A line is wrong where a trace goes on, each resource with the greatest limit.
 abbrev pub IsWrongFreely : System → Form → (steps tick : ℕ) → (takings : List Taking) → (begun : List Line) → (line : List ℕ) → Finding → Type 0
@@ -345,7 +349,7 @@ abbrev pub IsWrongAfter : System → Form → (steps tick : ℕ) → (takings : 
 IsWrongAfter sys form steps tick takings begun line text finding =
     IsWrongFreely sys form steps tick takings begun line finding
     ⊎ ((first : run.Line) × StopsSoon sys form takings first text × IsWrongLast sys form steps tick takings first begun line finding)
-    ⊎ ((begun ≡ []) × UsesTooMany sys form steps takings text × (finding ≡ why.NoStep))
+    ⊎ UsesTooMany sys steps takings begun line finding
 
 -- The line of a refusal is this one, and it is not what comes after the lines before it. What was found is why.
 pub record IsWrongLine (sys : System) (steps : ℕ) (refusal : Refusal) (line text : List ℕ) : Type 0 where

@@ -1,5 +1,5 @@
 -- What comes of a trace: its dump with the inside of basic blocks, or a front of one.
-use Rattle.std.specs.Prelude.{◌≡◌, ◌⊎◌, ℕ, List, [], ◌++◌, map, true, IfSome, Option}
+use Rattle.std.specs.Prelude.{◌≡◌, ◌<◌, ◌+◌, ◌⊎◌, ℕ, List, [], ◌∷◌, ◌++◌, map, length, true, IfSome, Option}
 use Rattle.std.specs.Io.KnownBytes.{Appends}
 use Rattle.fb_types.specs.Simulation.{Ending}
 use Rattle.fb_types.specs.Numbers.{line_of}
@@ -83,3 +83,21 @@ pub record WritesRead (sys : System) (steps : ℕ) (input old new : Option (List
   pub form : Form
   pub read : IfSome input (BeginsWith (lines_text form sys (map (line_of sys) (lines_of front.takings))))
   pub goes_on : AreFirst sys front.takings front.bytes ⊎ IsOwnEnd sys form input front.takings front.dump
+
+-- A writer got the first bytes of the dump of each trace that begins with these takings of a text. After their lines comes the line of an event,
+-- and that comes before the line of this number.
+pub record WritesFirst (sys : System) (form : Form) (number : ℕ) (text : List ℕ) (old new : Option (List ℕ)) : Type 0 where
+  pub takings : List Taken
+  pub chain : AreTakings sys most (opening_look sys) (takings_of takings)
+  pub lines : HaveLines sys takings
+  pub next : Line
+  pub are : AreLinesOf sys (lines_of takings ++ next ∷ [])
+  pub read : BeginsWith (lines_text form sys (map (line_of sys) (lines_of takings ++ next ∷ []))) text
+  pub before : length (lines_of takings) + 1 < number
+  pub bytes : List ℕ
+  pub first : AreFirst sys takings bytes
+  pub got : Appends old new bytes
+
+-- Before the line of this number was refused, a writer got nothing, or the first bytes of such dumps (`specs/Laws`).
+abbrev pub WritesBefore : System → (number : ℕ) → (text : List ℕ) → (old new : Option (List ℕ)) → Type 0
+WritesBefore sys number text old new = Appends old new [] ⊎ ((form : Form) × WritesFirst sys form number text old new)

@@ -1,6 +1,6 @@
 //! What happens inside the blocks of a trace.
 
-ghost use Rattle.std.specs.Prelude.{◌≡◌, ◌≤◌, ◌++◌, ◌∷◌, if◌then◌else◌, ℕ, List, Option, Some, IfErr, IfOk, IfSome, OnErr, OnOk, false, true};
+ghost use Rattle.std.specs.Prelude.{◌≡◌, ◌≤◌, ◌++◌, ◌∷◌, if◌then◌else◌, ℕ, List, Option, Some, None, IfErr, IfOk, IfSome, OnErr, OnOk, true};
 ghost use Rattle.std.specs.Io.KnownBytes.{Consumes};
 ghost use Rattle.std.specs.List.{list_any};
 ghost use Rattle.fb_types.specs.Names.{Path};
@@ -15,7 +15,7 @@ ghost use Rattle.fb_wave.specs.OfSystem.{HasNames, IsUncut};
 ghost use Rattle.fb_inspect.specs.walk.Looks.{most};
 ghost use Rattle.fb_inspect.specs.Refusals.{IsNoRefusal, OfRefusal, Refuses};
 ghost use Rattle.fb_inspect.specs.walk.Walking.{AreUnused};
-ghost use Rattle.fb_inspect.specs.OfSystem.{BeginsWalk, IsNamesFault, IsNext, IsPathFault, IsShownBy, IsWrongAt, IsWrongFor, ShowsFront, ShowsRead, AreShown};
+ghost use Rattle.fb_inspect.specs.OfSystem.{BeginsWalk, IsNamesFault, IsNext, IsPathFault, IsShownBy, IsWrongAt, IsWrongFor, ShowsBefore, ShowsFront, ShowsRead, AreShown};
 ghost use Rattle.fb_inspect.specs.declared.error.InspectError.TheVariants.{Unknown};
 ghost use Rattle.fb_inspect.specs.walk.OfWalk as of_walk;
 ghost use Rattle.fb_inspect.specs.walk.OfWalk.{BeginsText, IsCoveredBy, Starts};
@@ -215,10 +215,13 @@ fn go_through<R: BufRead, W: Write>(
         → Starts fixed.now what walk.old → Consumes known (R.remaining input.old) walk.old.trail.reading.line.items → IsFirstLine walk.old.trail.reading.line.items known
         → OnErr result (of_walk.ShowsRead fixed.now what terms.steps known (W.contents out.old) (W.contents out.new)) }
     ensures refused { (what : Selection) (rest text : List ℕ)
-        → terms.steps ≤ most → of_walk.HasNames fixed.now → Starts fixed.now what walk.old → R.remaining input.old ≡ Some rest → BeginsText fixed.now walk.old.trail.reading.line.items false rest text
+        → terms.steps ≤ most → of_walk.HasNames fixed.now → Starts fixed.now what walk.old → R.remaining input.old ≡ Some rest → BeginsText fixed.now walk.old.trail.reading.line.items None rest text
         → IfErr result (Refuses (λ refusal. of_walk.IsWrongFor fixed.now terms.steps refusal refused.new.current.text.items text)) }
+    ensures before { (what : Selection) (rest text : List ℕ)
+        → terms.steps ≤ most → of_walk.HasNames fixed.now → Starts fixed.now what walk.old → R.remaining input.old ≡ Some rest → BeginsText fixed.now walk.old.trail.reading.line.items None rest text
+        → IfErr result (Refuses (λ refusal. of_walk.ShowsBefore fixed.now what refusal.number text (W.contents out.old) (W.contents out.new))) }
     ensures uncut { (what : Selection) (rest text : List ℕ)
-        → terms.steps ≤ most → of_walk.HasNames fixed.now → Starts fixed.now what walk.old → R.remaining input.old ≡ Some rest → BeginsText fixed.now walk.old.trail.reading.line.items false rest text
+        → terms.steps ≤ most → of_walk.HasNames fixed.now → Starts fixed.now what walk.old → R.remaining input.old ≡ Some rest → BeginsText fixed.now walk.old.trail.reading.line.items None rest text
         → terms.cut ≡ Cut.Allowed → IfErr result (Refuses (λ refusal. of_walk.IsUncut fixed.now refusal.number text)) }
 {
     if is_cut(terms.cut, walk.trail.reading.line.as_slice()) {
@@ -246,6 +249,8 @@ fn inspect_with<R: BufRead, W: Write>(
     ensures fault { OnErr result (ShowsRead table.now.system.now (selection_of inspection.entry) inspection.entry.terms.steps (R.remaining input.old) (W.contents out.old) (W.contents out.new)) }
     ensures refused { HasNames table.now.system.now → inspection.entry.terms.steps ≤ most
         → IfErr result (Refuses (λ refusal. IfSome (R.remaining input.old) (IsWrongFor table.now.system.now inspection.entry.terms.steps refusal refused.new.current.text.items))) }
+    ensures before { HasNames table.now.system.now → inspection.entry.terms.steps ≤ most
+        → IfErr result (Refuses (λ refusal. IfSome (R.remaining input.old) (λ text. ShowsBefore table.now.system.now (selection_of inspection.entry) refusal.number text (W.contents out.old) (W.contents out.new)))) }
     ensures uncut { HasNames table.now.system.now → inspection.entry.terms.steps ≤ most → inspection.entry.terms.cut ≡ Cut.Allowed
         → IfErr result (Refuses (λ refusal. IfSome (R.remaining input.old) (IsUncut table.now.system.now refusal.number))) }
 {
@@ -291,6 +296,8 @@ pub(crate) fn inspect_and_mark<R: BufRead, W: Write>(
         → IfErr result (OfRefusal (λ n. IfSome (R.remaining input.old) (IsWrongAt system.now inspection.entry.terms.steps n))) }
     ensures found { HasNames system.now → inspection.entry.terms.steps ≤ most
         → IfErr result (OfRefusal (λ n. IfSome (R.remaining input.old) (IsWrongFor system.now inspection.entry.terms.steps (record { number = n; finding = refused.new.finding }) refused.new.current.text.items))) }
+    ensures before { HasNames system.now → inspection.entry.terms.steps ≤ most
+        → IfErr result (OfRefusal (λ n. IfSome (R.remaining input.old) (λ text. ShowsBefore system.now (selection_of inspection.entry) n text (W.contents out.old) (W.contents out.new)))) }
     ensures uncut { HasNames system.now → inspection.entry.terms.steps ≤ most → inspection.entry.terms.cut ≡ Cut.Allowed
         → IfErr result (OfRefusal (λ n. IfSome (R.remaining input.old) (IsUncut system.now n))) }
     ensures names { IfErr result (IsNamesFault system.now) }
@@ -314,7 +321,7 @@ pub(crate) fn inspect_and_mark<R: BufRead, W: Write>(
 /// Before that, lines that may be only a part of what an event causes are written as they are.
 ///
 /// All memory is that of the blocks, of a line, of a page, of the lines that an event causes, and of what is shown of
-/// it.
+/// it and of the event before it.
 ///
 /// # Errors
 /// `Refused` with the number of the first line that shows that no run has the trace: it is no line of the system, or
@@ -322,9 +329,9 @@ pub(crate) fn inspect_and_mark<R: BufRead, W: Write>(
 /// are. `Unknown` if no instance has one of the paths that must be shown, and `Names` if lines do not distinguish
 /// the ports of the system. No trace is refused because it is cut off, if the terms allow that.
 ///
-/// What was written then is the beginning of what is shown of the first events of the trace, each taken as a whole. So
-/// it begins what is written of each trace that begins with their lines and does not stop in them for its steps
-/// (`laws::lines_are_shown_alike`). If the end of the trace was read, it may go on with a part of that.
+/// What was written before a refusal begins what is written of each whole trace with the lines before the refused one
+/// (clause `before`, `laws::lines_are_shown_alike`). After another error it is a beginning of what is shown of the first
+/// events of the trace, each taken as a whole. If the end of the trace was read, it may go on with a part of that.
 pub fn inspect<R: BufRead, W: Write>(
     alloc: Global,
     system: &System,
@@ -340,6 +347,8 @@ pub fn inspect<R: BufRead, W: Write>(
         → IfErr result (OfRefusal (λ n. IfSome (R.remaining input.old) (IsWrongAt system.now inspection.entry.terms.steps n))) }
     ensures found { HasNames system.now → inspection.entry.terms.steps ≤ most
         → IfErr result (OfRefusal (λ n. IfSome (R.remaining input.old) (IsWrongFor system.now inspection.entry.terms.steps (record { number = n; finding = refused.new.finding }) refused.new.current.text.items))) }
+    ensures before { HasNames system.now → inspection.entry.terms.steps ≤ most
+        → IfErr result (OfRefusal (λ n. IfSome (R.remaining input.old) (λ text. ShowsBefore system.now (selection_of inspection.entry) n text (W.contents out.old) (W.contents out.new)))) }
     ensures uncut { HasNames system.now → inspection.entry.terms.steps ≤ most → inspection.entry.terms.cut ≡ Cut.Allowed
         → IfErr result (OfRefusal (λ n. IfSome (R.remaining input.old) (IsUncut system.now n))) }
     ensures names { IfErr result (IsNamesFault system.now) }

@@ -1,6 +1,6 @@
 //! Laws of the definitions, which callers may use.
 
-ghost use Rattle.fb_inspect.specs.Laws.{AcceptedIsNotWrong, AddsUp, FewerSteps, MoreSteps, OneLine, OneRow, OneTaking, ReactionsAreTakings, RefusedIsNoRun, RunsAreTakings, RunsBegin, RunsGoOn, ShownAlike, SomeTaking, TracesAreAccepted, WholeOrCut};
+ghost use Rattle.fb_inspect.specs.Laws.{AcceptedIsNotWrong, AddsUp, DumpedBefore, FewerSteps, MoreSteps, OneLine, OneRow, OneTaking, ReactionsAreTakings, RefusedIsNoRun, RunsAreTakings, RunsBegin, RunsGoOn, ShownAlike, ShownBefore, SomeTaking, TextsShownBefore, TracesAreAccepted, WholeOrCut};
 
 /// For proofs: marks of one trace after another are exactly those of what the takings of all of them do.
 pub fn marks_add_up()
@@ -26,9 +26,13 @@ pub fn takings_are_determined()
     ensures row { OneRow }
 {}
 
-/// What is written of a trace begins with what is shown of the first of its events, however it goes on.
+/// What is written of a trace begins with what is shown of the first of its events, however it goes on. If another line
+/// comes after theirs, that holds of a trace that stops for its steps too, whatever the limit is, and of dumps.
 pub fn lines_are_shown_alike()
-    ensures { ShownAlike }
+    ensures alike { ShownAlike }
+    ensures before { ShownBefore }
+    ensures texts { TextsShownBefore }
+    ensures dumped { DumpedBefore }
 {}
 
 /// A reaction that does not run out of steps is the same with more of them, and one that does emits the first of what it

@@ -8,6 +8,8 @@
 //! - The line for which `insides::inspect` or `covering::cover` refuses a trace is not what the reactions give: no
 //!   trace of a run is refused (`laws`). What was found there (`Finding`) is true of the line: for example, the block emits
 //!   the event that it names, and the line is not that of this event.
+//! - What `insides::inspect` and `dump::states::write_states` write before a refusal begins what they write of each whole
+//!   trace with the lines before the refused one.
 //! - `dump::states::write_states` writes the value change dump of such a trace. In it are the state of each basic block by
 //!   name, its variables that no line carries, and a mark for each event that it lost. Without the lines of the inside of
 //!   blocks that is, byte for byte, the dump that `fb_wave` writes. After an error the writer has the first bytes of such
@@ -22,7 +24,7 @@
 //! Read in this order:
 //!
 //! - `insides`, the first entry, with `filter` and `error`.
-//! - `walk`, which goes through a trace, event by event.
+//! - `walk`, which goes through a trace, event by event; `held`, the text that waits.
 //! - `covering`, the second entry; `laws`, what is true of every run, and what the marks of several traces say.
 //! - `dump`, the dumps with the inside of blocks.
 //! - `refused`, why a line is refused, and the texts that say it.
@@ -32,6 +34,7 @@ pub mod covering;
 pub mod dump;
 pub mod error;
 pub mod filter;
+mod held;
 pub mod insides;
 pub mod laws;
 pub mod refused;

@@ -26,7 +26,7 @@ ghost use Rattle.fb_inspect.specs.declared.walk.error.WalkError.TheVariants.{Ref
 ghost use Rattle.fb_inspect.specs.walk.Standing.{IsStepsStop};
 ghost use Rattle.fb_inspect.specs.walk.Walking.{Finishes, FinishesCut, HasLimited, HasStepped, IsLookOf, MayEnd, SendsCutPart, SendsPart, unread};
 ghost use Rattle.fb_inspect.specs.declared.walk.blocks.Remembered.TheVariants as kept;
-ghost use Rattle.fb_inspect.specs.walk.OfWalk.{AreAhead, AreApart, AreKept, BeginsText, CanReact, FailsAt, GoesAfter, GoesWhole, HasAdvanced, HasCovered, HasLook, HasNames, IsCoveredBy, IsKeptAt, IsLineOf, IsNear, IsNext, IsNextLine, IsNotNear, IsShownBy, IsTextOf, IsUncut, IsWrongFor, KeptGoes, LineGoes, LooksAs, ShowsRead, StandsAt, StandsWell, StandsWhole, StandsWholeAt, Starts, StepGoes, TakingFails, WalkTakes, Watches};
+ghost use Rattle.fb_inspect.specs.walk.OfWalk.{AreAhead, AreApart, AreKept, BeginsText, BlamesSteps, CanReact, FailsAt, GoesAfter, GoesWhole, HasAdvanced, HasCovered, HasLook, HasNames, IsCoveredBy, IsKeptAt, IsLineOf, IsNear, IsNext, IsNextLine, IsNotNear, IsOwnStop, IsShownBy, IsTextOf, IsUncut, IsWrongFor, KeepsSteps, KeepsTakings, KeptGoes, LineGoes, LooksAs, ShowsBefore, ShowsRead, StandsAt, StandsWell, StandsWhole, StandsWholeAt, Starts, StepGoes, TakingFails, WalkTakes, Watches};
 
 pub mod ahead;
 pub mod blocks;
@@ -39,11 +39,12 @@ pub mod steps;
 pub mod trail;
 
 use crate::filter::Shown;
+use crate::held::flush_front;
 use crate::refused::finding::Finding;
 use crate::walk::ahead::Ahead;
 use crate::walk::blocks::{Chart, Remembered, basic_type, chart_at, type_number};
 use crate::walk::charts::{ChartTaking, follow, note_stop};
-use crate::walk::error::WalkError;
+use crate::walk::error::{Refusal, WalkError};
 use crate::walk::event_blocks::{expire_block, react_block};
 use crate::walk::notes::put_cut;
 use crate::walk::reading::Next;
@@ -195,6 +196,20 @@ fn is_steps_of(mark: StopMark, key: &Key) -> bool
     mark.tick == key.tick && mark.resource == key.resource && mark.reason == Reason::Steps
 }
 
+/// Whether a text is the stop for its steps of the resource of a line, in its tick.
+fn is_own_stop(fixed: &Fixed<'_, '_>, text: &[u8], line: &Line) -> bool
+    ensures stop { IsTrue result → IsOwnStop fixed.now line.now text.now }
+    ensures other { HasNames fixed.now → AreApart fixed.now → IsLineOf fixed.now line.now → result ≡ false → IsOwnStop fixed.now line.now text.now → ⊥ }
+{
+    let Some(end) = read_last(fixed.table.system, text) else {
+        return false;
+    };
+    match end {
+        Outcome::Stop(mark) => is_steps_of(mark, &line.key),
+        Outcome::End(_) => false,
+    }
+}
+
 fn is_for_steps(reason: Reason) -> bool
     ensures steps { IsTrue result → reason ≡ Reason.Steps }
     ensures other { result ≡ false → reason ≡ Reason.Steps → ⊥ }
@@ -317,28 +332,24 @@ impl Walk {
         true
     }
 
-    /// The refusal of a trace that stops where a resource has used up its steps: of the first event after which a
-    /// resource had used too many, or else of the next line, for what was found.
-    fn refusal_for_steps(&mut self, ahead: &mut Ahead, finding: Finding) -> WalkError
-        ensures back { ahead.old.watched.is_excess ≡ true → result ≡ Refused (record { number = ahead.old.watched.number; finding = Finding.NoStep }) }
-        ensures back_at { ahead.old.watched.is_excess ≡ true → self.new.trail.reading.line ≡ ahead.old.watched.text }
-        ensures none { ahead.old.watched.is_excess ≡ false → result ≡ Refused (record { number = self.old.trail.reading.number; finding = finding }) }
-        ensures here { ahead.old.watched.is_excess ≡ false → self.new.trail.reading.line ≡ self.old.trail.reading.line }
+    /// The refusal of the next line, which is a stop for steps: too many were used before, or else this was found.
+    fn refusal_for_steps(&self, ahead: &Ahead, finding: Finding) -> WalkError
+        ensures excess { (n : ℕ) → ahead.now.excess ≡ Some n → result ≡ Refused (record { number = self.now.trail.reading.number; finding = Finding.Excess n }) }
+        ensures none { ahead.now.excess ≡ None → result ≡ Refused (record { number = self.now.trail.reading.number; finding = finding }) }
+        ensures number { Refuses (λ refusal. refusal.number ≡ self.now.trail.reading.number) result }
     {
-        if ahead.go_back(&mut self.trail.reading) {
-            return self.trail.reading.refusal(Finding::NoStep);
-        }
-        self.trail.reading.refusal(finding)
+        let Some(line) = ahead.excess else {
+            return self.trail.reading.refusal(finding);
+        };
+        self.trail.reading.refusal(Finding::Excess { line })
     }
 
     /// The refusal of the last line, which ends the trace so.
-    fn refusal_of_end(&mut self, ahead: &mut Ahead, end: Outcome) -> WalkError
-        ensures back { ahead.old.watched.is_excess ≡ true → IsStepsStop end → result ≡ Refused (record { number = ahead.old.watched.number; finding = Finding.NoStep }) }
-        ensures none { ahead.old.watched.is_excess ≡ false → result ≡ Refused (record { number = self.old.trail.reading.number; finding = Finding.Runs }) }
-        ensures other { (IsStepsStop end → ⊥) → result ≡ Refused (record { number = self.old.trail.reading.number; finding = Finding.Runs }) }
-        ensures back_at { ahead.old.watched.is_excess ≡ true → IsStepsStop end → self.new.trail.reading.line ≡ ahead.old.watched.text }
-        ensures here { ahead.old.watched.is_excess ≡ false → self.new.trail.reading.line ≡ self.old.trail.reading.line }
-        ensures stays { (IsStepsStop end → ⊥) → self.new.trail.reading.line ≡ self.old.trail.reading.line }
+    fn refusal_of_end(&self, ahead: &Ahead, end: Outcome) -> WalkError
+        ensures excess { (n : ℕ) → ahead.now.excess ≡ Some n → IsStepsStop end → result ≡ Refused (record { number = self.now.trail.reading.number; finding = Finding.Excess n }) }
+        ensures none { ahead.now.excess ≡ None → result ≡ Refused (record { number = self.now.trail.reading.number; finding = Finding.Runs }) }
+        ensures other { (IsStepsStop end → ⊥) → result ≡ Refused (record { number = self.now.trail.reading.number; finding = Finding.Runs }) }
+        ensures number { Refuses (λ refusal. refusal.number ≡ self.now.trail.reading.number) result }
     {
         match end {
             Outcome::Stop(mark) if mark.reason == Reason::Steps => {
@@ -346,6 +357,25 @@ impl Walk {
             }
             Outcome::Stop(_) | Outcome::End(_) => self.trail.reading.refusal(Finding::Runs),
         }
+    }
+
+    /// The refusal of the next line, where the event of a line was taken with the greatest limit. If that line is the stop
+    /// of its resource for its steps, and too many were used before, then that is why, or else this was found.
+    fn refusal_after(
+        &self,
+        fixed: &Fixed<'_, '_>,
+        line: &Line,
+        ahead: &Ahead,
+        finding: Finding,
+    ) -> WalkError
+        ensures found { HasNames fixed.now → AreApart fixed.now → IsLineOf fixed.now line.now
+            → BlamesSteps fixed.now line.now ahead.now.excess self.now.trail.reading finding result }
+        ensures number { Refuses (λ refusal. refusal.number ≡ self.now.trail.reading.number) result }
+    {
+        if is_own_stop(fixed, self.trail.reading.line.as_slice(), line) {
+            return self.refusal_for_steps(ahead, finding);
+        }
+        self.trail.reading.refusal(finding)
     }
 
     /// Whether a resource has used these steps in a tick, of the greatest limit.
@@ -373,23 +403,21 @@ impl Walk {
     }
 
     /// Whether the taking of the event of a line may end by its steps: the line that was read ahead is that of such a
-    /// stop.
-    fn is_near(&self, fixed: &Fixed<'_, '_>, ahead: &Ahead, line: &Line) -> bool
+    /// stop, and no resource used more than these steps in a tick before.
+    fn is_near(&self, fixed: &Fixed<'_, '_>, steps: u64, ahead: &Ahead, line: &Line) -> bool
         requires { line.now.instance < length self.now.blocks.items }
         ensures near { (look : Look) → AreKept fixed.now self.now.blocks.items look → IsTrue result → IsNear fixed.now line.now ahead.now.last.items }
-        ensures other { (look : Look) → AreKept fixed.now self.now.blocks.items look → HasNames fixed.now → AreApart fixed.now → IsLineOf fixed.now line.now
-            → result ≡ false → IsNotNear fixed.now line.now ahead.now.last.items }
+        ensures kept { (look : Look) → LooksAs fixed.now self.now look → IsTrue result → KeepsSteps fixed.now steps look }
+        ensures other { (look : Look) → LooksAs fixed.now self.now look → HasNames fixed.now → AreApart fixed.now → IsLineOf fixed.now line.now
+            → result ≡ false → IsNotNear fixed.now line.now ahead.now.last.items ⊎ (KeepsSteps fixed.now steps look → ⊥) }
     {
         let Some(_chart) = chart_at(self.blocks.as_slice(), line.instance) else {
             return false;
         };
-        let Some(end) = read_last(fixed.table.system, ahead.last.as_slice()) else {
+        if !is_own_stop(fixed, ahead.last.as_slice(), line) {
             return false;
-        };
-        match end {
-            Outcome::Stop(mark) => is_steps_of(mark, &line.key),
-            Outcome::End(_) => false,
         }
+        self.keep_steps(steps)
     }
 
     /// Takes the event of the next line, and goes on in what was read ahead. Answers the reason that stops the
@@ -406,7 +434,7 @@ impl Walk {
             → IfOk result (λ stop. WalkTakes fixed.now look line.now stop self.old self.new (unread ahead.old remaining) (unread ahead.new remaining)) }
         ensures alone { OnOk result (IsAlone self.old.trail.reading.line.items (Some ahead.old.text.items) → IsAlone self.new.trail.reading.line.items (Some ahead.new.text.items)) }
         ensures last { OnOk result (ahead.new.last ≡ ahead.old.last) }
-        ensures watched { ahead.new.watched ≡ ahead.old.watched }
+        ensures excess { ahead.new.excess ≡ ahead.old.excess }
         ensures refused { (look : Look)
             → HasNames fixed.now → IsPlain fixed.now.form line.now.key → LooksAs fixed.now self.old look
             → IfErr result (Refuses (λ n. (rest : List ℕ) × TakingFails fixed.now look line.now self.old.trail.reading self.new.trail.reading (Some ahead.old.text.items) (Some rest) n)) }
@@ -435,24 +463,33 @@ impl Walk {
             → LooksAs fixed.now self.old look
             → IfOk result (LineGoes fixed.now steps look line.now self.old self.new ahead.new (unread ahead.old remaining) (unread ahead.new remaining)) }
         ensures stands { (takings : List Taking) (rest text : List ℕ) (rows : List run.Line) → StandsAt fixed.now takings self.old ahead.old.text.items ahead.old.last.items line.now rest text
-            → Watches fixed.now steps takings ahead.old.watched.number ahead.old.watched.text.items ahead.old.watched.is_excess
-            → AreAhead fixed.now line.now rows ahead.old.text.items ahead.old.last.items rest → IsNotNear fixed.now line.now ahead.old.last.items
+            → Watches fixed.now steps takings ahead.old.excess
+            → AreAhead fixed.now line.now rows ahead.old.text.items ahead.old.last.items rest → (IsNotNear fixed.now line.now ahead.old.last.items ⊎ (KeepsTakings fixed.now steps takings → ⊥))
             → GoesAfter fixed.now steps self.new ahead.new (Some rest) text result }
+        ensures later { (takings : List Taking) (rest text : List ℕ) → StandsAt fixed.now takings self.old ahead.old.text.items ahead.old.last.items line.now rest text
+            → IfErr result (Refuses (λ refusal. self.old.trail.reading.number ≤ refusal.number)) }
         ensures whole { IfOk result (λ step. step ≡ Step.CutOff → ⊥) }
     {
-        ahead.watch(&self.trail.reading)?;
-        let stop = self.take_from_ahead(fixed, line, ahead)?;
+        let number = self.trail.reading.number;
+        let stop = match self.take_from_ahead(fixed, line, ahead) {
+            Ok(stop) => stop,
+            Err(WalkError::Refused(refusal)) => {
+                let Refusal { number: _, finding } = refusal;
+                return Err(self.refusal_after(fixed, line, ahead, finding));
+            }
+            Err(error) => return Err(error),
+        };
         let own = &self.steps[line.key.resource as usize];
-        ahead.note(!own.keeps(steps));
+        ahead.note(number, !own.keeps(steps));
         let Some(reason) = stop else {
             return Ok(Step::Taken);
         };
         // A stop for the steps is one of the limit that the trace has, which is judged by itself.
         if is_for_steps(reason) {
-            return Err(self.trail.reading.refusal(Finding::Stops(reason)));
+            return Err(self.refusal_after(fixed, line, ahead, Finding::Stops(reason)));
         }
         if !is_stop(&self.trail.reading.next, &line.key, reason) {
-            return Err(self.trail.reading.refusal(Finding::Stops(reason)));
+            return Err(self.refusal_after(fixed, line, ahead, Finding::Stops(reason)));
         }
         Ok(Step::Ended(stop_of(&line.key, reason)))
     }
@@ -467,19 +504,18 @@ impl Walk {
     ) -> Result<Step, WalkError>
         requires is { IsTextOf fixed.now line.now self.old.trail.reading.line.items }
         requires look { HasLook fixed.now self.old }
+        requires kept { (look : Look) → LooksAs fixed.now self.old look → KeepsSteps fixed.now steps look }
         ensures takes { (look : Look) (remaining : Option (List ℕ))
             → LooksAs fixed.now self.old look
             → IfOk result (LineGoes fixed.now steps look line.now self.old self.new ahead.new (unread ahead.old remaining) (unread ahead.new remaining)) }
         ensures stands { (takings : List Taking) (rest text : List ℕ) (rows : List run.Line) → steps ≤ most → StandsAt fixed.now takings self.old ahead.old.text.items ahead.old.last.items line.now rest text
-            → Watches fixed.now steps takings ahead.old.watched.number ahead.old.watched.text.items ahead.old.watched.is_excess
             → AreAhead fixed.now line.now rows ahead.old.text.items ahead.old.last.items rest → IsNear fixed.now line.now ahead.old.last.items
             → GoesAfter fixed.now steps self.new ahead.new (Some rest) text result }
+        ensures later { (takings : List Taking) (rest text : List ℕ) → StandsAt fixed.now takings self.old ahead.old.text.items ahead.old.last.items line.now rest text
+            → IfErr result (Refuses (λ refusal. self.old.trail.reading.number ≤ refusal.number)) }
         ensures whole { IfOk result (λ step. step ≡ Step.CutOff → ⊥) }
     {
         fixed.table.system.facts(); // for the prover: what holds of every accepted system
-        if !self.keep_steps(steps) {
-            return Err(self.refusal_for_steps(ahead, Finding::NoStep));
-        }
         if !self.limit(steps, &line.key) {
             return Err(self.trail.reading.refusal(Finding::NoStep));
         }
@@ -535,8 +571,11 @@ impl Walk {
             → IfOk result (LineGoes fixed.now terms.steps look line.now self.old self.new ahead.new (unread ahead.old (R.remaining input.old)) (unread ahead.new (R.remaining input.new))) }
         ensures stands { (takings : List Taking) (rest text : List ℕ) → terms.steps ≤ most → R.remaining input.old ≡ Some rest
             → StandsAt fixed.now takings self.old ahead.old.text.items ahead.old.last.items line.now rest text
-            → Watches fixed.now terms.steps takings ahead.old.watched.number ahead.old.watched.text.items ahead.old.watched.is_excess
+            → Watches fixed.now terms.steps takings ahead.old.excess
             → GoesAfter fixed.now terms.steps self.new ahead.new (R.remaining input.new) text result }
+        ensures later { (takings : List Taking) (rest text : List ℕ) → R.remaining input.old ≡ Some rest
+            → StandsAt fixed.now takings self.old ahead.old.text.items ahead.old.last.items line.now rest text
+            → IfErr result (Refuses (λ refusal. self.old.trail.reading.number ≤ refusal.number)) }
         ensures uncut { (rest text : List ℕ) → terms.steps ≤ most → R.remaining input.old ≡ Some rest → StandsWholeAt fixed.now terms.steps self.old ahead.old line.now rest text
             → terms.cut ≡ Cut.Allowed → GoesWhole fixed.now terms.steps self.new ahead.new (R.remaining input.new) text result }
         ensures cut { IfOk result (λ step. step ≡ Step.CutOff → terms.cut ≡ Cut.Allowed) }
@@ -550,7 +589,7 @@ impl Walk {
             put_line(text, whole, is_shown).and(put_line(text, ahead.text.as_slice(), is_shown))?;
             return Ok(Step::CutOff);
         }
-        if self.is_near(fixed, ahead, line) {
+        if self.is_near(fixed, terms.steps, ahead, line) {
             return self.take_to_last_step(fixed, terms.steps, line, ahead);
         }
         self.take_counting_steps(fixed, terms.steps, line, ahead)
@@ -578,6 +617,8 @@ impl Walk {
             → IfOk result (StepGoes fixed.now terms.steps look self.old self.new ahead.new (unread ahead.old (R.remaining input.old)) (unread ahead.new (R.remaining input.new))) }
         ensures stands { (rest text : List ℕ) → terms.steps ≤ most → HasNames fixed.now → R.remaining input.old ≡ Some rest
             → StandsWell fixed.now terms.steps self.old ahead.old rest text → GoesAfter fixed.now terms.steps self.new ahead.new (R.remaining input.new) text result }
+        ensures later { (rest text : List ℕ) → HasNames fixed.now → R.remaining input.old ≡ Some rest
+            → StandsWell fixed.now terms.steps self.old ahead.old rest text → IfErr result (Refuses (λ refusal. self.old.trail.reading.number ≤ refusal.number)) }
         ensures uncut { (rest text : List ℕ) → terms.steps ≤ most → HasNames fixed.now → R.remaining input.old ≡ Some rest → StandsWhole fixed.now terms.steps self.old ahead.old rest text
             → terms.cut ≡ Cut.Allowed → GoesWhole fixed.now terms.steps self.new ahead.new (R.remaining input.new) text result }
         ensures cut { IfOk result (λ step. step ≡ Step.CutOff → terms.cut ≡ Cut.Allowed) }
@@ -609,6 +650,7 @@ impl Walk {
         ensures finishes { OnOk result (Finishes self.old (unread ahead.now (R.remaining input.old)) (W.contents out.old) (W.contents out.new)) }
         ensures marks { self.new.trail.marks ≡ self.old.trail.marks }
         ensures fault { OnErr result (SendsPart self.old (W.contents out.old) (W.contents out.new)) }
+        ensures kept { IfErr result (Refuses (λ refusal. W.contents out.new ≡ W.contents out.old)) }
         ensures refused { IfErr result (Refuses (λ refusal. IsRefusalAfter self.old.trail.reading.number refusal × IfSome (unread ahead.now (R.remaining input.old)) (λ rest. 0 < length rest))) }
     {
         let line = self.trail.reading.line.as_slice();
@@ -630,7 +672,7 @@ impl Walk {
         Ok(())
     }
 
-    /// Goes through a trace to its end.
+    /// Goes through a trace to its end. What is shown of an event is held back until the next one was taken.
     pub(crate) fn go<R: BufRead, W: Write>(
         &mut self,
         fixed: &Fixed<'_, '_>,
@@ -652,15 +694,19 @@ impl Walk {
             → Starts fixed.now what self.old → Consumes known (R.remaining input.old) self.old.trail.reading.line.items
             → OnErr result (ShowsRead fixed.now what terms.steps known (W.contents out.old) (W.contents out.new)) }
         ensures refused { (what : Selection) (rest text : List ℕ)
-            → terms.steps ≤ most → HasNames fixed.now → Starts fixed.now what self.old → R.remaining input.old ≡ Some rest → BeginsText fixed.now self.old.trail.reading.line.items ahead.old.watched.is_excess rest text
+            → terms.steps ≤ most → HasNames fixed.now → Starts fixed.now what self.old → R.remaining input.old ≡ Some rest → BeginsText fixed.now self.old.trail.reading.line.items ahead.old.excess rest text
             → IfErr result (Refuses (λ refusal. IsWrongFor fixed.now terms.steps refusal self.new.trail.reading.line.items text)) }
+        ensures before { (what : Selection) (rest text : List ℕ)
+            → terms.steps ≤ most → HasNames fixed.now → Starts fixed.now what self.old → R.remaining input.old ≡ Some rest → BeginsText fixed.now self.old.trail.reading.line.items ahead.old.excess rest text
+            → IfErr result (Refuses (λ refusal. ShowsBefore fixed.now what refusal.number text (W.contents out.old) (W.contents out.new))) }
         ensures uncut { (what : Selection) (rest text : List ℕ)
-            → terms.steps ≤ most → HasNames fixed.now → Starts fixed.now what self.old → R.remaining input.old ≡ Some rest → BeginsText fixed.now self.old.trail.reading.line.items ahead.old.watched.is_excess rest text
+            → terms.steps ≤ most → HasNames fixed.now → Starts fixed.now what self.old → R.remaining input.old ≡ Some rest → BeginsText fixed.now self.old.trail.reading.line.items ahead.old.excess rest text
             → terms.cut ≡ Cut.Allowed → is_unended self.old.trail.reading.line.items ≡ false → IfErr result (Refuses (λ refusal. IsUncut fixed.now refusal.number text)) }
     {
         for _ in 0..u64::MAX {
+            let before = self.trail.page.text.len();
             match self.advance(fixed, terms, ahead, input)? {
-                Step::Taken => self.trail.page.flush_much(out)?,
+                Step::Taken => flush_front(fixed.alloc, &mut self.trail.page, before, out)?,
                 Step::Ended(_) => {
                     return self.finish(ahead, input, out).and(Ok(Extent::Whole));
                 }

@@ -6,3 +6,4 @@ pub mod Waved
 pub mod DumpSteps
 pub mod Ending
 pub mod Hidden
+pub mod HeldDump

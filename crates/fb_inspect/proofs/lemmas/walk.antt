@@ -11,3 +11,4 @@ pub mod Watched
 pub mod StepsStop
 pub mod UpToRefusal
 pub mod UpToRead
+pub mod Held

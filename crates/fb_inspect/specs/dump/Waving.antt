@@ -17,7 +17,7 @@ use Rattle.fb_wave.specs.Copying.{IsAfter}
 use Rattle.fb_wave.specs.Dumps.{last_tick}
 use Rattle.fb_wave.specs.Lines.{IsLast}
 use Rattle.fb_wave.specs.Waves.{AreLinesOf}
-use Rattle.fb_inspect.specs.Inspections.{AreOfOne, AreTaken, AreTakings, EndsSo, NoneStops, last_look, most}
+use Rattle.fb_inspect.specs.Inspections.{AreOfOne, AreTaken, AreTakings, BeginsWith, EndsSo, NoneStops, last_look, most}
 use Rattle.fb_inspect.specs.walk.Lines.{IsNext}
 use Rattle.fb_inspect.specs.walk.Looks.{IsTaking, Look, Seen, opening_look, taking_lines}
 use Rattle.fb_inspect.specs.walk.Moves.{IsLineAt}
@@ -63,6 +63,7 @@ pub record CanShow (sys : System) (at : EventAt) (x : StateWave) : Type 0 where
 -- The taking of an event was shown, from what the blocks remember before it to what they remember after it: that of any taking which is
 -- from there to there.
 pub record ShowsTaking (sys : System) (at : EventAt) (look after : Look) (old new : StateWave) : Type 0 where
+  pub grows : (xs : List Taken) (sent : List ℕ) → Shows sys xs (sent ++ old.page.text.items) old.dump → BeginsWith old.page.text.items new.page.text.items
   pub shown :
       (xs : List Taken) (y : Taken) (sent : List ℕ) → Shows sys xs (sent ++ old.page.text.items) old.dump → last_look (opening_look sys) (takings_of xs) ≡ look
       → y.taking.first.at ≡ path_at sys at.instance → tick_of y ≡ at.tick → y.taking.after ≡ after → y.lines ≡ old.walk.trail.passed.lines.items
@@ -86,6 +87,13 @@ pub record TakingGoes (sys : System) (form : Form) (limit : ℕ) (look : Look) (
   pub numbered : new.walk.trail.reading.number ≡ old.walk.trail.reading.number + length taken.lines
   pub numbers : IsPortDump sys new.dump
   pub shown : (sent : List ℕ) → Shows sys xs (sent ++ old.page.text.items) old.dump → Shows sys (xs ++ taken ∷ []) (sent ++ new.page.text.items) new.dump
+
+-- The event of the next line was taken, and text was added.
+pub record HasGrown (old new : StateWave) : Type 0 where
+  pub line : Line
+  pub is : next.Event line ≡ old.walk.trail.reading.next
+  pub number : old.walk.trail.reading.number < new.walk.trail.reading.number
+  pub text : BeginsWith old.page.text.items new.page.text.items
 
 -- ---- All takings so far
 

@@ -98,6 +98,10 @@ emission_text sys i e =
 
 -- ---- Why no run gives a line
 
+-- too many steps were used after the event of an earlier line
+abbrev pub excess_text : (line : ℕ) → List ℕ
+excess_text n = codes "the resource of line " ++ decimal n ++ codes " uses more steps in that tick than it has"
+
 -- nothing where the reactions do not tell
 abbrev pub finding_text : System → Finding → List ℕ
 finding_text sys why.Line = []
@@ -106,6 +110,7 @@ finding_text sys why.Unmade = codes "the block does not emit this event here"
 finding_text sys why.NotDue = codes "the timer of the block does not emit this event in this tick"
 finding_text sys why.Late = codes "no run has so late a tick"
 finding_text sys why.NoStep = codes "the resource uses more steps in this tick than it has"
+finding_text sys (why.Excess n) = excess_text n
 finding_text sys (why.Stops reason) = codes "the reaction stops the resource here: " ++ shown (reason_text reason)
 finding_text sys why.Runs = codes "nothing stops the resource here"
 

@@ -1,6 +1,6 @@
 -- What contracts say of a walk through a trace: its value is what stays the same during it (`Fixed`), and each of these is of its system, of the
 -- types of blocks that this declares, and of the form of the lines.
-use Rattle.std.specs.Prelude.{ℕ, List, [], ◌∷◌, Bool, Option, Result}
+use Rattle.std.specs.Prelude.{ℕ, List, [], ◌∷◌, Option, Result}
 use Rattle.fb_types.specs.EventBlocks as event_blocks
 use Rattle.fb_types.specs.Blocks.{Emission}
 use Rattle.fb_types.specs.Headline.{system_of}
@@ -22,7 +22,7 @@ use Rattle.fb_inspect.specs.Selections.{Selection}
 use Rattle.fb_inspect.specs.Covering as covering
 use Rattle.fb_inspect.specs.Inspections as inspections
 use Rattle.fb_inspect.specs.walk.Lines as lines
-use Rattle.fb_inspect.specs.walk.Looks.{IsTaking, IsTakingAt, Look, Seen, Taking}
+use Rattle.fb_inspect.specs.walk.Looks.{IsTaking, IsTakingAt, Look, Seen, Taking, opening_look}
 use Rattle.fb_inspect.specs.walk.Moves as moves
 use Rattle.fb_inspect.specs.walk.Moves.{shown_text}
 use Rattle.fb_inspect.specs.Refusals as refusals
@@ -33,6 +33,7 @@ use Rattle.fb_inspect.specs.walk.Timing as timing
 use Rattle.fb_inspect.specs.walk.Timing.{taken_reaction, taken_variables}
 use Rattle.fb_inspect.specs.walk.Walking as walking
 use Rattle.fb_inspect.specs.dump.Waving as waving
+use Rattle.fb_inspect.specs.declared.refused.finding.Finding.{Finding}
 use Rattle.fb_inspect.specs.declared.walk.ahead.Ahead.{Ahead}
 use Rattle.fb_inspect.specs.declared.walk.blocks.EventBlock.{EventBlock}
 use Rattle.fb_inspect.specs.declared.walk.blocks.Remembered.{Remembered}
@@ -111,6 +112,15 @@ IsNear f = standing.IsNear (sys_of f)
 abbrev pub IsNotNear : Fixed → Line → (last : List ℕ) → Type 0
 IsNotNear f = standing.IsNotNear (sys_of f)
 
+abbrev pub IsOwnStop : Fixed → Line → (text : List ℕ) → Type 0
+IsOwnStop f = standing.IsOwnStop (sys_of f)
+
+abbrev pub KeepsSteps : Fixed → (steps : ℕ) → Look → Type 0
+KeepsSteps f = inspections.KeepSteps (sys_of f)
+
+abbrev pub KeepsTakings : Fixed → (steps : ℕ) → List Taking → Type 0
+KeepsTakings f steps takings = inspections.KeepSteps (sys_of f) steps (inspections.last_look (opening_look (sys_of f)) takings)
+
 -- ---- The reaction of one block
 
 -- What is kept of the instance of a line says what the look says of it.
@@ -180,7 +190,7 @@ HasAdvanced f first = walking.HasAdvanced (types_of f) first (sys_of f) f.form
 
 -- ---- Where a walk stands
 
-abbrev pub BeginsText : Fixed → (line : List ℕ) → (is_excess : Bool) → (rest text : List ℕ) → Type 0
+abbrev pub BeginsText : Fixed → (line : List ℕ) → (excess : Option ℕ) → (rest text : List ℕ) → Type 0
 BeginsText f = standing.BeginsText (sys_of f) f.form
 
 abbrev pub StandsAt : Fixed → List Taking → Walk → (ahead last : List ℕ) → Line → (rest text : List ℕ) → Type 0
@@ -189,8 +199,11 @@ StandsAt f = standing.StandsAt (sys_of f) f.form
 abbrev pub StandsWell : Fixed → (steps : ℕ) → Walk → Ahead → (rest text : List ℕ) → Type 0
 StandsWell f = standing.StandsWell (sys_of f) f.form
 
-abbrev pub Watches : Fixed → (steps : ℕ) → List Taking → (number : ℕ) → (text : List ℕ) → (is_excess : Bool) → Type 0
-Watches f = standing.Watches (sys_of f) f.form
+abbrev pub Watches : Fixed → (steps : ℕ) → List Taking → (excess : Option ℕ) → Type 0
+Watches f = standing.Watches (sys_of f)
+
+abbrev pub BlamesSteps : Fixed → Line → (excess : Option ℕ) → Reading → Finding → WalkError → Type 0
+BlamesSteps f = standing.BlamesSteps (sys_of f)
 
 abbrev pub GoesAfter : Fixed → (steps : ℕ) → Walk → Ahead → (remaining : Option (List ℕ)) → (text : List ℕ) → Result Step WalkError → Type 0
 GoesAfter f = standing.GoesAfter (sys_of f) f.form
@@ -242,3 +255,9 @@ IsShownWith cut f = state_waves.IsShownWith cut (sys_of f)
 
 abbrev pub WritesRead : Fixed → (steps : ℕ) → (input old new : Option (List ℕ)) → Type 0
 WritesRead f = state_waves.WritesRead (sys_of f)
+
+abbrev pub ShowsBefore : Fixed → (what : Selection) → (number : ℕ) → (text : List ℕ) → (old new : Option (List ℕ)) → Type 0
+ShowsBefore f = inspections.ShowsBefore (sys_of f)
+
+abbrev pub WritesBefore : Fixed → (number : ℕ) → (text : List ℕ) → (old new : Option (List ℕ)) → Type 0
+WritesBefore f = state_waves.WritesBefore (sys_of f)

@@ -1,10 +1,10 @@
 -- Where a walk stands in a text: the takings that were gone through, the next line, and what is left after it (this project's own).
-use Rattle.std.specs.Prelude.{◌≡◌, ◌<◌, ◌≤◌, ◌⊎◌, ℕ, ◌+◌, List, [], ◌∷◌, ◌++◌, map, length, All, Bool, true, false, Option, Some, Result, Ok, Err, slice_get, unwrap_or}
+use Rattle.std.specs.Prelude.{◌≡◌, ◌<◌, ◌≤◌, ◌⊎◌, ℕ, ◌+◌, List, [], ◌∷◌, ◌++◌, map, length, All, false, Option, Some, None, Result, Ok, Err, slice_get, unwrap_or}
 use Rattle.std.specs.Io.BufRead.{take_through}
 use Rattle.fb_types.specs.Blocks.{Basic}
 use Rattle.fb_types.specs.Numbers.{line_of, path_at}
 use Rattle.fb_types.specs.Systems.{System}
-use Rattle.fb_types.specs.Text.{line_text, lines_text}
+use Rattle.fb_types.specs.Text.{lines_text}
 use Rattle.fb_types.specs.declared.library.BasicType.{BasicType}
 use Rattle.fb_types.specs.declared.run.Form.{Form}
 use Rattle.fb_types.specs.declared.run.Line.{Line}
@@ -19,12 +19,16 @@ use Rattle.fb_wave.specs.Waves.{AreLinesOf}
 use Rattle.fb_inspect.specs.Inspections.{AreTakings, IsOwnLine, KeepSteps, NoneStops, all_lines, last_look}
 use Rattle.fb_inspect.specs.walk.Lines.{IsNext, IsPlain}
 use Rattle.fb_inspect.specs.walk.Looks.{IsTaking, Taking, most, opening_look}
-use Rattle.fb_inspect.specs.Refusals.{IsNoLastStop, IsWrongLine, Refuses, steps_stop}
+use Rattle.fb_inspect.specs.Refusals.{IsNoLastStop, IsTooMany, IsWrongLine, Refuses, steps_stop}
 use Rattle.fb_inspect.specs.walk.Walking.{IsLookOf, IsOwnRow}
+use Rattle.fb_inspect.specs.declared.refused.finding.Finding.{Finding}
+use Rattle.fb_inspect.specs.declared.refused.finding.Finding.TheVariants as why
 use Rattle.fb_inspect.specs.declared.walk.ahead.Ahead.{Ahead}
 use Rattle.fb_inspect.specs.declared.walk.blocks.Remembered.{Remembered}
 use Rattle.fb_inspect.specs.declared.walk.steps.TickSteps.{TickSteps}
 use Rattle.fb_inspect.specs.declared.walk.error.WalkError.{WalkError}
+use Rattle.fb_inspect.specs.declared.walk.error.WalkError.TheVariants.{Refused}
+use Rattle.fb_inspect.specs.declared.walk.reading.Reading.{Reading}
 use Rattle.fb_inspect.specs.declared.walk.Step.{Step}
 use Rattle.fb_inspect.specs.declared.walk.Step.TheVariants.{Taken, Ended, CutOff}
 use Rattle.fb_inspect.specs.declared.walk.Walk.{Walk}
@@ -65,7 +69,6 @@ pub record StandsIn (sys : System) (form : Form) (takings : List Taking) (blocks
   pub is : text ≡ lines_text form sys (map (line_of sys) lines) ++ (line ++ (ahead ++ rest))
   pub alone : line ≡ take_through 10 (line ++ (ahead ++ rest))
   pub formed : (f : Form) (m : Line) → IsTextOf sys f m (take_through 10 text) → f ≡ form
-  pub near : IsNoLastStop sys takings line
   pub after : (m : Line) → IsTextOf sys form m line → MayBeAhead sys form m ahead last rest
 
 abbrev pub Stands : (sys : System) (form : Form) (takings : List Taking) (walk : Walk) (ahead last rest text : List ℕ) → Type 0
@@ -91,6 +94,10 @@ pub record StandsOn (sys : System) (form : Form) (takings : List Taking) (walk :
 abbrev pub IsNotNear : System → Line → (last : List ℕ) → Type 0
 IsNotNear sys line last = (t : BasicType) → sys.kind (path_at sys line.instance) ≡ Some (Basic t) → last ≡ steps_stop sys (line_of sys line) → ⊥
 
+-- The text is the stop for its steps of the resource of a line in its tick.
+abbrev pub IsOwnStop : System → Line → (text : List ℕ) → Type 0
+IsOwnStop sys line text = text ≡ steps_stop sys (line_of sys line)
+
 -- The line that was read ahead is the stop for its steps of the resource of a basic block in the tick of a line.
 pub record IsNear (sys : System) (line : Line) (last : List ℕ) : Type 0 where
   pub block : BasicType
@@ -98,16 +105,17 @@ pub record IsNear (sys : System) (line : Line) (last : List ℕ) : Type 0 where
   pub is : last ≡ steps_stop sys (line_of sys line)
 
 -- One more taking was gone through, which began with this line.
-pub record TakesOne (sys : System) (form : Form) (takings : List Taking) (walk : Walk) (ahead last : List ℕ) (line : Line) (rest text : List ℕ) : Type 0 where
+pub record TakesOne (sys : System) (form : Form) (steps : ℕ) (takings : List Taking) (walk : Walk) (ahead last : List ℕ) (line : Line) (rest text : List ℕ) : Type 0 where
   pub taking : Taking
   pub first_is : taking.first ≡ line_of sys line
   pub taking_is : IsTaking sys most (last_look (opening_look sys) takings) taking
   pub on : StandsOn sys form (takings ++ taking ∷ []) walk ahead last rest text
+  pub near : IsNoLastStop sys steps (takings ++ taking ∷ []) walk.trail.reading.line.items
 
 -- What comes of the event of the next line: the walk stands at the line after one more taking, or the next line or one after it is wrong.
 abbrev pub StandsAfter :
     (sys : System) (form : Form) (steps : ℕ) (takings : List Taking) (walk : Walk) (ahead last : List ℕ) (line : Line) (rest text : List ℕ) → Result Step WalkError → Type 0
-StandsAfter sys form steps takings walk ahead last line rest text (Ok Taken) = TakesOne sys form takings walk ahead last line rest text
+StandsAfter sys form steps takings walk ahead last line rest text (Ok Taken) = TakesOne sys form steps takings walk ahead last line rest text
 StandsAfter sys form steps takings walk ahead last line rest text (Ok (Ended end)) = Unit {0}
 StandsAfter sys form steps takings walk ahead last line rest text (Ok CutOff) = Unit {0}
 StandsAfter sys form steps takings walk ahead last line rest text (Err e) = Refuses (λ refusal. IsWrongLine sys steps refusal walk.trail.reading.line.items text) e
@@ -119,34 +127,32 @@ abbrev pub IsStepsStop : Outcome → Type 0
 IsStepsStop (End h) = ⊥
 IsStepsStop (Stop m) = m.reason ≡ Steps
 
--- The line of this number is the first of the first of these takings after which a resource had used more than these steps in a tick.
-pub record IsTooMany (sys : System) (form : Form) (steps : ℕ) (takings : List Taking) (number : ℕ) (text : List ℕ) : Type 0 where
-  pub before : List Taking
-  pub taking : Taking
-  pub later : List Taking
-  pub parts : takings ≡ before ++ taking ∷ later
-  pub kept : KeepSteps sys steps (last_look (opening_look sys) before)
-  pub over : KeepSteps sys steps taking.after → ⊥
-  pub numbered : number ≡ length (all_lines before) + 1
-  pub is : text ≡ line_text form sys taking.first
+-- The line of this number is the first of the first of these takings after which a resource had used more than these steps in a tick, if there
+-- is such a taking.
+abbrev pub Watches : (sys : System) (steps : ℕ) (takings : List Taking) (excess : Option ℕ) → Type 0
+Watches sys steps takings (Some number) = IsTooMany sys steps takings number
+Watches sys steps takings None = KeepSteps sys steps (last_look (opening_look sys) takings)
 
--- The event line that is watched is that one, if there is one.
-abbrev pub Watches : (sys : System) (form : Form) (steps : ℕ) (takings : List Taking) (number : ℕ) (text : List ℕ) (is_excess : Bool) → Type 0
-Watches sys form steps takings number text true = IsTooMany sys form steps takings number text
-Watches sys form steps takings number text false = KeepSteps sys steps (last_look (opening_look sys) takings)
+-- The refusal of the next line after the event of a line: that is the stop of its resource for its steps, and too many were used before, or
+-- this was found.
+abbrev pub BlamesSteps : System → Line → (excess : Option ℕ) → Reading → Finding → WalkError → Type 0
+BlamesSteps sys line excess reading finding error =
+    ((number : ℕ) × (excess ≡ Some number) × IsOwnStop sys line reading.line.items × (error ≡ Refused (record { number = reading.number; finding = why.Excess number })))
+    ⊎ (((excess ≡ None) ⊎ (IsOwnStop sys line reading.line.items → ⊥)) × (error ≡ Refused (record { number = reading.number; finding = finding })))
 
 -- A walk stands at the next line after some takings, of which it watched the steps.
 pub record StandsWell (sys : System) (form : Form) (steps : ℕ) (walk : Walk) (ahead : Ahead) (rest text : List ℕ) : Type 0 where
   pub takings : List Taking
   pub on : StandsOn sys form takings walk ahead.text.items ahead.last.items rest text
-  pub watched : Watches sys form steps takings ahead.watched.number ahead.watched.text.items ahead.watched.is_excess
+  pub near : IsNoLastStop sys steps takings walk.trail.reading.line.items
+  pub watched : Watches sys steps takings ahead.excess
 
 -- This is the first line of a text, whose form it tells, and what is left of the text. No event was watched yet.
-pub record BeginsText (sys : System) (form : Form) (line : List ℕ) (is_excess : Bool) (rest text : List ℕ) : Type 0 where
+pub record BeginsText (sys : System) (form : Form) (line : List ℕ) (excess : Option ℕ) (rest text : List ℕ) : Type 0 where
   pub is : text ≡ line ++ rest
   pub alone : line ≡ take_through 10 text
   pub formed : (f : Form) (m : Line) → IsTextOf sys f m (take_through 10 text) → f ≡ form
-  pub unwatched : is_excess ≡ false
+  pub unwatched : excess ≡ None
 
 -- It is known what is left, and this is true of it.
 abbrev pub IsLeft : (remaining : Option (List ℕ)) → (List ℕ → Type 0) → Type 0
@@ -176,7 +182,7 @@ pub record StandsWholeAt (sys : System) (form : Form) (steps : ℕ) (walk : Walk
   pub is : text ≡ front ++ rest
   pub stands :
       (left : List ℕ) → (takings : List Taking) × StandsAt sys form takings walk ahead.text.items ahead.last.items line left (front ++ left)
-      × Watches sys form steps takings ahead.watched.number ahead.watched.text.items ahead.watched.is_excess
+      × Watches sys steps takings ahead.excess
 
 -- More was read ahead, or nothing: it ends in a line feed, so whatever comes after it, these lines and one more are ahead.
 pub record ReadsWhole (sys : System) (form : Form) (first : Line) (old new : Ahead) (before : List ℕ) (remaining : Option (List ℕ)) : Type 0 where

@@ -1,5 +1,5 @@
 -- What the program keeps of the blocks of a system, and one taking of a walk through a trace (this project's own).
-use Rattle.std.specs.Prelude.{◌≡◌, ◌<◌, ◌≤◌, ◌^◌, ◌⊎◌, ℕ, ◌+◌, ◌-◌, suc, min, ◌&&◌, List, [], ◌++◌, map, length, slice_get, slice_set, unwrap_or, All, IfSome, Bool, true, false, Option, Some, None}
+use Rattle.std.specs.Prelude.{◌≡◌, ◌<◌, ◌≤◌, ◌^◌, ◌⊎◌, ℕ, ◌+◌, ◌-◌, suc, min, ◌&&◌, List, [], ◌++◌, map, length, slice_get, slice_set, take, unwrap_or, All, IfSome, Bool, true, false, Option, Some, None}
 use Rattle.std.specs.List.{list_any}
 use Rattle.std.specs.Io.BufRead.{take_through}
 use Rattle.std.specs.Io.KnownBytes.{Appends, Consumes, IsAtEnd, prepend_known}
@@ -349,6 +349,20 @@ pub record SendsCutPart (walk : Walk) (old new : Option (List ℕ)) : Type 0 whe
   pub rest : List ℕ
   pub parts : walk.trail.page.text.items ++ cut_note ≡ got ++ rest
   pub appended : Appends old new got
+
+-- Of a text that waited a front was sent: what comes before this count, or nothing. The rest waits.
+pub record HasFlushed (count : ℕ) (old new : Option (List ℕ)) (before after : List ℕ) : Type 0 where
+  pub sent : List ℕ
+  pub got : Appends old new sent
+  pub parts : before ≡ sent ++ after
+  pub front : (sent ≡ []) ⊎ (sent ≡ take count before)
+
+-- A part of a text that waited was sent, or nothing.
+pub record SendsSome (before : List ℕ) (old new : Option (List ℕ)) : Type 0 where
+  pub sent : List ℕ
+  pub missing : List ℕ
+  pub parts : before ≡ sent ++ missing
+  pub got : Appends old new sent
 
 -- A part of what waited and of the last line was sent, or nothing.
 pub record SendsPart (walk : Walk) (old new : Option (List ℕ)) : Type 0 where

@@ -5,6 +5,7 @@ ghost use Rattle.fb_types.specs.Systems.{System as Flat};
 ghost use Rattle.fb_types.specs.declared.run.Line as run;
 ghost use Rattle.fb_system.specs.OfSystem.{BelongsTo};
 ghost use Rattle.fb_trace.specs.End.{ending_of};
+ghost use Rattle.fb_inspect.specs.Inspections.{BeginsWith};
 ghost use Rattle.fb_inspect.specs.dump.Dumping.{ShowsUpTo};
 ghost use Rattle.fb_inspect.specs.dump.Dumping as dumping;
 ghost use Rattle.fb_inspect.specs.dump.StateDumps.{Taken, cut_dump};
@@ -50,6 +51,8 @@ impl PortDump {
         ensures numbers { (sys : Flat) → dumping.IsPortDump sys self.old → OnOk result (dumping.IsPortDump sys self.new) }
         ensures shown { (sys : Flat) (xs : List Taken) (sent : List ℕ) → dumping.Shows sys xs (sent ++ text.old.items) self.old
             → OnOk result (ShowsUpTo sys xs (sent ++ text.new.items) tick self.new) }
+        ensures grows { (sys : Flat) (xs : List Taken) (sent : List ℕ) → dumping.Shows sys xs (sent ++ text.old.items) self.old
+            → OnOk result (BeginsWith text.old.items text.new.items) }
     {
         if tick == self.tick {
             return Ok(());

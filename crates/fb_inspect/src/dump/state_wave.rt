@@ -3,6 +3,7 @@
 ghost use Rattle.std.specs.Prelude.{◌≡◌, ◌<◌, ◌≤◌, ◌+◌, ◌∷◌, ◌++◌, ℕ, List, Option, Some, [], All, IfErr, IfOk, IfSome, IsTrue, OnErr, OnOk, length, true, false};
 ghost use Rattle.std.specs.Io.KnownBytes.{Consumes};
 ghost use Rattle.fb_types.specs.Systems.{System as Flat};
+ghost use Rattle.fb_trace.specs.declared.last.Outcome.{Outcome};
 ghost use Rattle.fb_types.specs.declared.run.Line as run;
 ghost use Rattle.fb_types.specs.OfSystem.{IsInstance, kind_at, path_at};
 ghost use Rattle.fb_system.specs.OfSystem.{BelongsTo};
@@ -12,13 +13,14 @@ ghost use Rattle.fb_inspect.specs.Refusals.{IsNoRefusal, IsRefusalAfter, Refuses
 ghost use Rattle.fb_inspect.specs.walk.Walking.{unread};
 ghost use Rattle.fb_inspect.specs.dump.Saved.{IsBefore};
 ghost use Rattle.fb_inspect.specs.dump.StateDumps.{Taken};
-ghost use Rattle.fb_inspect.specs.dump.Waving.{FinishesCut, SendsCutPart};
+ghost use Rattle.fb_inspect.specs.dump.Waving.{FinishesCut, HasGrown, SendsCutPart};
 ghost use Rattle.fb_inspect.specs.OfSystem.{AreKept, CanShow, Finishes, IsLineAt, IsNextKept, IsPortDump, SendsPart, Shows, ShowsTaking, ShowsUntaken};
-ghost use Rattle.fb_inspect.specs.walk.OfWalk.{GoesAfter, GoesWhole, HasGoneOn, HasLook, HasNames, HasWaved, IsNext, IsShownWith, IsUncut, IsWrongFor, StandsWell, StandsWhole, WaveStarts, WritesRead};
+ghost use Rattle.fb_inspect.specs.walk.OfWalk.{GoesAfter, GoesWhole, HasGoneOn, HasLook, HasNames, HasWaved, IsNext, IsShownWith, IsUncut, IsWrongFor, StandsWell, StandsWhole, WaveStarts, WritesBefore, WritesRead};
 
 use crate::Terms;
 use crate::dump::before::Before;
 use crate::dump::port_dump::PortDump;
+use crate::held::flush_front;
 use crate::walk::ahead::Ahead;
 use crate::walk::error::WalkError;
 use crate::walk::reading::Next;
@@ -148,6 +150,14 @@ impl StateWave {
             → IfOk result (HasGoneOn fixed.now terms.steps self.new known (unread ahead.new (R.remaining input.new)) old new) }
         ensures stands { (rest text : List ℕ) → terms.steps ≤ most → HasNames fixed.now → R.remaining input.old ≡ Some rest
             → StandsWell fixed.now terms.steps self.old.walk ahead.old rest text → GoesAfter fixed.now terms.steps self.new.walk ahead.new (R.remaining input.new) text result }
+        ensures grows { (known old new : Option (List ℕ))
+            → HasWaved fixed.now terms.steps self.old known (unread ahead.old (R.remaining input.old)) old new
+            → IfOk result (λ step. step ≡ Step.Taken → HasGrown self.old self.new) }
+        ensures ends { (known old new : Option (List ℕ))
+            → HasWaved fixed.now terms.steps self.old known (unread ahead.old (R.remaining input.old)) old new
+            → IfOk result (λ step. (end : Outcome) → step ≡ Step.Ended end → self.old.walk.trail.reading.number ≤ self.new.walk.trail.reading.number) }
+        ensures later { (rest text : List ℕ) → HasNames fixed.now → R.remaining input.old ≡ Some rest
+            → StandsWell fixed.now terms.steps self.old.walk ahead.old rest text → IfErr result (Refuses (λ refusal. self.old.walk.trail.reading.number ≤ refusal.number)) }
         ensures uncut { (rest text : List ℕ) → terms.steps ≤ most → HasNames fixed.now → R.remaining input.old ≡ Some rest → StandsWhole fixed.now terms.steps self.old.walk ahead.old rest text
             → terms.cut ≡ Cut.Allowed → GoesWhole fixed.now terms.steps self.new.walk ahead.new (R.remaining input.new) text result }
         ensures cut { IfOk result (λ step. step ≡ Step.CutOff → terms.cut ≡ Cut.Allowed) }
@@ -178,6 +188,7 @@ impl StateWave {
     ) -> Result<(), WalkError>
         ensures finishes { OnOk result (Finishes system.now end self.old (unread ahead.now (R.remaining input.old)) (W.contents out.old) (W.contents out.new)) }
         ensures fault { OnErr result (SendsPart system.now end self.old (W.contents out.old) (W.contents out.new)) }
+        ensures kept { IfErr result (Refuses (λ refusal. W.contents out.new ≡ W.contents out.old)) }
         ensures refused { IfErr result (Refuses (λ refusal. IsRefusalAfter self.old.walk.trail.reading.number refusal × IfSome (unread ahead.now (R.remaining input.old)) (λ rest. 0 < length rest))) }
     {
         self.dump.end(system, end, &mut self.page.text)?;
@@ -197,7 +208,7 @@ impl StateWave {
         Ok(())
     }
 
-    /// Goes through a trace to its end.
+    /// Goes through a trace to its end. What is shown of an event is held back until the next one was taken.
     pub(crate) fn go<R: BufRead, W: Write>(
         &mut self,
         fixed: &Fixed<'_, '_>,
@@ -216,13 +227,17 @@ impl StateWave {
         ensures refused { (rest text : List ℕ)
             → terms.steps ≤ most → HasNames fixed.now → R.remaining input.old ≡ Some rest → StandsWell fixed.now terms.steps self.old.walk ahead.old rest text → text ≡ self.old.walk.trail.reading.line.items ++ rest
             → IfErr result (Refuses (λ refusal. IsWrongFor fixed.now terms.steps refusal self.new.walk.trail.reading.line.items text)) }
+        ensures before { (rest text : List ℕ)
+            → terms.steps ≤ most → HasNames fixed.now → R.remaining input.old ≡ Some rest → StandsWell fixed.now terms.steps self.old.walk ahead.old rest text → text ≡ self.old.walk.trail.reading.line.items ++ rest
+            → IfErr result (Refuses (λ refusal. WritesBefore fixed.now refusal.number text (W.contents out.old) (W.contents out.new))) }
         ensures uncut { (rest text : List ℕ)
             → terms.steps ≤ most → HasNames fixed.now → R.remaining input.old ≡ Some rest → StandsWhole fixed.now terms.steps self.old.walk ahead.old rest text → text ≡ self.old.walk.trail.reading.line.items ++ rest
             → terms.cut ≡ Cut.Allowed → IfErr result (Refuses (λ refusal. IsUncut fixed.now refusal.number text)) }
     {
         for _ in 0..u64::MAX {
+            let before = self.page.text.len();
             match self.advance(fixed, terms, ahead, input)? {
-                Step::Taken => self.page.flush_much(out)?,
+                Step::Taken => flush_front(fixed.alloc, &mut self.page, before, out)?,
                 Step::Ended(end) => {
                     return self.finish(fixed.table.system, end, ahead, input, out);
                 }

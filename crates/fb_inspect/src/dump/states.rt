@@ -1,12 +1,12 @@
 //! The dump of a trace with the inside of basic blocks.
 
-ghost use Rattle.std.specs.Prelude.{◌≡◌, ◌≤◌, ℕ, List, Option, Some, IfErr, IfOk, IfSome, OnErr, OnOk, false};
+ghost use Rattle.std.specs.Prelude.{◌≡◌, ◌≤◌, ℕ, List, Option, Some, None, IfErr, IfOk, IfSome, OnErr, OnOk};
 ghost use Rattle.std.specs.Io.KnownBytes.{Consumes};
 ghost use Rattle.fb_wave.specs.Copying.{IsFirstLine};
 ghost use Rattle.fb_wave.specs.OfSystem.{HasNames, IsUncut};
 ghost use Rattle.fb_inspect.specs.walk.Looks.{most};
 ghost use Rattle.fb_inspect.specs.Refusals.{OfRefusal, Refuses};
-ghost use Rattle.fb_inspect.specs.OfSystem.{BeginsWave, IsNamesFault, IsShownWith, IsWrongAt, IsWrongFor, WritesFront, WritesRead};
+ghost use Rattle.fb_inspect.specs.OfSystem.{BeginsWave, IsNamesFault, IsShownWith, IsWrongAt, IsWrongFor, WritesBefore, WritesFront, WritesRead};
 ghost use Rattle.fb_inspect.specs.declared.error.InspectError.TheVariants.{Unknown};
 ghost use Rattle.fb_inspect.specs.walk.OfWalk as of_walk;
 ghost use Rattle.fb_inspect.specs.walk.OfWalk.{BeginsText, IsNext};
@@ -72,10 +72,13 @@ fn go_through<R: BufRead, W: Write>(
         → Consumes known (R.remaining input.old) wave.old.walk.trail.reading.line.items → IsFirstLine wave.old.walk.trail.reading.line.items known
         → OnErr result (of_walk.WritesRead fixed.now terms.steps known (W.contents out.old) (W.contents out.new)) }
     ensures refused { (rest text : List ℕ)
-        → terms.steps ≤ most → of_walk.HasNames fixed.now → R.remaining input.old ≡ Some rest → BeginsText fixed.now wave.old.walk.trail.reading.line.items false rest text
+        → terms.steps ≤ most → of_walk.HasNames fixed.now → R.remaining input.old ≡ Some rest → BeginsText fixed.now wave.old.walk.trail.reading.line.items None rest text
         → IfErr result (Refuses (λ refusal. of_walk.IsWrongFor fixed.now terms.steps refusal refused.new.current.text.items text)) }
+    ensures before { (rest text : List ℕ)
+        → terms.steps ≤ most → of_walk.HasNames fixed.now → R.remaining input.old ≡ Some rest → BeginsText fixed.now wave.old.walk.trail.reading.line.items None rest text
+        → IfErr result (Refuses (λ refusal. of_walk.WritesBefore fixed.now refusal.number text (W.contents out.old) (W.contents out.new))) }
     ensures uncut { (rest text : List ℕ)
-        → terms.steps ≤ most → of_walk.HasNames fixed.now → R.remaining input.old ≡ Some rest → BeginsText fixed.now wave.old.walk.trail.reading.line.items false rest text
+        → terms.steps ≤ most → of_walk.HasNames fixed.now → R.remaining input.old ≡ Some rest → BeginsText fixed.now wave.old.walk.trail.reading.line.items None rest text
         → terms.cut ≡ Cut.Allowed → IfErr result (Refuses (λ refusal. of_walk.IsUncut fixed.now refusal.number text)) }
 {
     if is_cut(terms.cut, wave.walk.trail.reading.line.as_slice()) {
@@ -100,6 +103,8 @@ fn write_with<R: BufRead, W: Write>(
     ensures fault { OnErr result (WritesRead table.now.system.now terms.steps (R.remaining input.old) (W.contents out.old) (W.contents out.new)) }
     ensures refused { HasNames table.now.system.now → terms.steps ≤ most
         → IfErr result (Refuses (λ refusal. IfSome (R.remaining input.old) (IsWrongFor table.now.system.now terms.steps refusal refused.new.current.text.items))) }
+    ensures before { HasNames table.now.system.now → terms.steps ≤ most
+        → IfErr result (Refuses (λ refusal. IfSome (R.remaining input.old) (λ text. WritesBefore table.now.system.now refusal.number text (W.contents out.old) (W.contents out.new)))) }
     ensures uncut { HasNames table.now.system.now → terms.steps ≤ most → terms.cut ≡ Cut.Allowed
         → IfErr result (Refuses (λ refusal. IfSome (R.remaining input.old) (IsUncut table.now.system.now refusal.number))) }
 {
@@ -128,8 +133,9 @@ fn write_with<R: BufRead, W: Write>(
 ///
 /// # Errors
 /// As those of `crate::inspect`, but no path is unknown: the line is lent at which the trace is refused. What was written
-/// then is the beginning of the dump of each trace that begins with the events that were taken before. If the end of
-/// the trace was read, it is the beginning of the dump of the trace.
+/// before a refusal begins the dump of each whole trace with the lines before the refused one (clause `before`,
+/// `laws::lines_are_shown_alike`). After another error it is the beginning of the dump of each trace that begins with
+/// the events that were taken before, or of the dump of the trace, if its end was read.
 pub fn write_states<R: BufRead, W: Write>(
     alloc: Global,
     system: &System,
@@ -145,6 +151,8 @@ pub fn write_states<R: BufRead, W: Write>(
         → IfErr result (OfRefusal (λ n. IfSome (R.remaining input.old) (IsWrongAt system.now terms.steps n))) }
     ensures found { HasNames system.now → terms.steps ≤ most
         → IfErr result (OfRefusal (λ n. IfSome (R.remaining input.old) (IsWrongFor system.now terms.steps (record { number = n; finding = refused.new.finding }) refused.new.current.text.items))) }
+    ensures before { HasNames system.now → terms.steps ≤ most
+        → IfErr result (OfRefusal (λ n. IfSome (R.remaining input.old) (λ text. WritesBefore system.now n text (W.contents out.old) (W.contents out.new)))) }
     ensures uncut { HasNames system.now → terms.steps ≤ most → terms.cut ≡ Cut.Allowed
         → IfErr result (OfRefusal (λ n. IfSome (R.remaining input.old) (IsUncut system.now n))) }
     ensures names { IfErr result (IsNamesFault system.now) }

@@ -28,8 +28,13 @@ pub enum Finding {
     NotDue,
     /// No run has such a late tick.
     Late,
-    /// The resource has no step left in that tick, or it used more than it has in a run that stops for its steps.
+    /// The resource has no step left in that tick.
     NoStep,
+    /// The trace stops there for its steps, but after an earlier event a resource had used more in a tick than it has.
+    Excess {
+        /// The number of the line of the first such event, from 1.
+        line: u64,
+    },
     /// This reason stops the resource there.
     Stops(Reason),
     /// Nothing stops the resource there.

@@ -7,7 +7,7 @@ ghost use Rattle.fb_wave.specs.Reading.{name_at};
 ghost use Rattle.fb_inspect.specs.OfSystem.{finding_text};
 ghost use Rattle.fb_inspect.specs.refused.Messages as spec;
 
-use crate::refused::fault_text::{put_shown, put_value};
+use crate::refused::fault_text::{put_number, put_shown, put_value};
 use crate::refused::finding::{Finding, RefusedLine};
 use crate::walk::notes::word_of;
 use fb_system::System;
@@ -70,6 +70,15 @@ fn put_emission(
     )
 }
 
+/// Adds that too many steps were used after the event of an earlier line.
+fn put_excess(text: &mut String, line: u64) -> Result<(), AllocError>
+    ensures { OnOk result (string_bytes text.new ≡ string_bytes text.old ++ spec.excess_text line) }
+{
+    text.push_str("the resource of line ")?;
+    put_number(text, line)?;
+    text.push_str(" uses more steps in that tick than it has")
+}
+
 /// Adds why no run gives a line.
 fn put_finding(text: &mut String, system: &System, finding: &Finding) -> Result<(), AllocError>
     ensures { OnOk result (string_bytes text.new ≡ string_bytes text.old ++ finding_text system.now finding.now) }
@@ -87,6 +96,7 @@ fn put_finding(text: &mut String, system: &System, finding: &Finding) -> Result<
         }
         Finding::Late => text.push_str("no run has so late a tick"),
         Finding::NoStep => text.push_str("the resource uses more steps in this tick than it has"),
+        Finding::Excess { line } => put_excess(text, *line),
         Finding::Stops(reason) => {
             text.push_str("the reaction stops the resource here: ")?;
             put_shown(text, word_of(*reason))

@@ -1,6 +1,6 @@
 //! Lines that are read ahead.
 
-ghost use Rattle.std.specs.Prelude.{◌≡◌, ◌∷◌, ◌++◌, ◌||◌, [], IfErr, IfNone, IfOk, IfSome, IsTrue, List, OnOk, true, false};
+ghost use Rattle.std.specs.Prelude.{◌≡◌, ◌∷◌, ◌++◌, [], IfErr, IfNone, IfOk, IfSome, IsTrue, List, None, OnOk, Some, ℕ, true, false};
 ghost use Rattle.fb_types.specs.declared.run.Line as run;
 ghost use Rattle.fb_inspect.specs.Refusals.{IsNoRefusal};
 ghost use Rattle.fb_inspect.specs.walk.Standing.{IsLeft};
@@ -8,14 +8,13 @@ ghost use Rattle.fb_inspect.specs.walk.Walking.{IsOwnRow, IsReadOn, unread};
 ghost use Rattle.fb_inspect.specs.walk.OfWalk.{AreAhead, AreCutOff, AreGathered, HasNames, IsTextOf, MayBeAhead, ReadsWhole};
 
 use crate::walk::error::WalkError;
-use crate::walk::reading::{Next, Reading, judged, read_on};
+use crate::walk::reading::{Next, judged, read_on};
 use crate::walk::trail::Fixed;
 use fb_types::Line;
 use fb_wave::truncation::is_cut;
 use fb_wave::{Cut, Guess, PortTable};
 use std::alloc::{AllocError, Global};
 use std::io::BufRead;
-use std::mem;
 
 /// The lines after that of an event: those of emissions of its block in its tick, and the line after them. They are read
 /// before the event is taken, since that last line decides whether the trace ends with it.
@@ -27,8 +26,9 @@ pub struct Ahead {
     /// The last line that was read.
     pub last: Vec<u8>,
     guess: Guess,
-    /// The event that is taken, or the first one after which its resource had used too many steps.
-    watched: EventLine,
+    /// The number of the line of the first event after which a resource had used too many steps in a tick, if there is
+    /// one.
+    pub excess: Option<u64>,
 }
 
 impl Drop for Ahead {
@@ -38,20 +38,9 @@ impl Drop for Ahead {
             rows: _,
             last: _,
             guess: _,
-            watched: _,
+            excess: _,
         } = self;
     }
-}
-
-/// The line of an event.
-#[derive(Drop)]
-struct EventLine {
-    text: Vec<u8>,
-    number: u64,
-    /// The tick of the line before it.
-    tick: u64,
-    /// Whether its resource had used too many steps after it.
-    is_excess: bool,
 }
 
 /// Whether a line is one of an emission of the block of another line, in its tick.
@@ -90,67 +79,30 @@ impl Ahead {
     /// When memory runs out.
     pub fn new(alloc: Global, table: &PortTable<'_>) -> Result<Ahead, AllocError>
         ensures empty { IfOk result (λ ahead. ahead.text.items ≡ []) }
-        ensures watched { IfOk result (λ ahead. ahead.watched.is_excess ≡ false) }
+        ensures excess { IfOk result (λ ahead. ahead.excess ≡ None) }
     {
         Ok(Ahead {
             text: Vec::new(alloc),
             rows: Vec::new(alloc),
             last: Vec::new(alloc),
             guess: Guess::new(alloc, table)?,
-            watched: EventLine {
-                text: Vec::new(alloc),
-                number: 0,
-                tick: 0,
-                is_excess: false,
-            },
+            excess: None,
         })
     }
 
-    /// Keeps the next line, that of an event, until the next one is kept. The first one after which too many steps were
-    /// used stays.
-    pub(crate) fn watch(&mut self, reading: &Reading) -> Result<(), AllocError>
+    /// Notes whether the resource of the event whose line has this number had used too many steps after it. The first
+    /// such event stays.
+    pub(crate) fn note(&mut self, number: u64, is_excess: bool)
         ensures text { self.new.text ≡ self.old.text }
         ensures rows { self.new.rows ≡ self.old.rows }
         ensures last { self.new.last ≡ self.old.last }
-        ensures kept { self.old.watched.is_excess ≡ true → self.new.watched ≡ self.old.watched }
-        ensures watched { OnOk result (self.old.watched.is_excess ≡ false
-            → (self.new.watched.is_excess ≡ false) × (self.new.watched.number ≡ reading.now.number) × (self.new.watched.text.items ≡ reading.now.line.items)) }
+        ensures first { (first : ℕ) → self.old.excess ≡ Some first → self.new.excess ≡ Some first }
+        ensures over { self.old.excess ≡ None → is_excess ≡ true → self.new.excess ≡ Some number }
+        ensures none { self.old.excess ≡ None → is_excess ≡ false → self.new.excess ≡ None }
     {
-        let watched = &mut self.watched;
-        if watched.is_excess {
-            return Ok(());
+        if self.excess.is_none() && is_excess {
+            self.excess = Some(number);
         }
-        watched.number = reading.number;
-        watched.tick = reading.tick;
-        watched.text.clear();
-        watched.text.extend_from_slice(reading.line.as_slice())
-    }
-
-    /// Notes whether the resource of the event that is kept had used too many steps after it.
-    pub(crate) fn note(&mut self, is_excess: bool)
-        ensures text { self.new.text ≡ self.old.text }
-        ensures rows { self.new.rows ≡ self.old.rows }
-        ensures last { self.new.last ≡ self.old.last }
-        ensures watched { self.new.watched ≡ record self.old.watched { is_excess = self.old.watched.is_excess || is_excess } }
-    {
-        self.watched.is_excess = self.watched.is_excess || is_excess;
-    }
-
-    /// Goes back to the first event after which its resource had used too many steps. Answers `false` where there is
-    /// none.
-    pub(crate) fn go_back(&mut self, reading: &mut Reading) -> bool
-        ensures excess { result ≡ self.old.watched.is_excess }
-        ensures back { IsTrue result → reading.new.number ≡ self.old.watched.number }
-        ensures line { IsTrue result → reading.new.line ≡ self.old.watched.text }
-        ensures none { result ≡ false → reading.new ≡ reading.old }
-    {
-        if !self.watched.is_excess {
-            return false;
-        }
-        mem::swap(&mut reading.line, &mut self.watched.text);
-        reading.number = self.watched.number;
-        reading.tick = self.watched.tick;
-        true
     }
 
     /// Reads the lines after that of an event. The last of them is not added to the text.
@@ -161,7 +113,7 @@ impl Ahead {
         input: &mut R,
     ) -> Result<(), WalkError>
         ensures gathered { OnOk result (AreGathered fixed.now first.now self.new.rows.items self.new.text.items self.new.last.items (R.remaining input.old) (R.remaining input.new)) }
-        ensures watched { OnOk result (self.new.watched ≡ self.old.watched) }
+        ensures excess { OnOk result (self.new.excess ≡ self.old.excess) }
         ensures other { HasNames fixed.now → OnOk result ((m : run.Line) → IsTextOf fixed.now m self.new.last.items → IsOwnRow m first.now → ⊥) }
         ensures fault { IfErr result IsNoRefusal }
     {
@@ -198,7 +150,7 @@ impl Ahead {
         input: &mut R,
     ) -> Result<bool, WalkError>
         ensures whole { IfOk result (λ is_cut. is_cut ≡ false → IsReadOn (unread self.old (R.remaining input.old)) (unread self.new (R.remaining input.new))) }
-        ensures watched { OnOk result (self.new.watched ≡ self.old.watched) }
+        ensures excess { OnOk result (self.new.excess ≡ self.old.excess) }
         ensures ahead { HasNames fixed.now → IfOk result (λ is_cut. is_cut ≡ false
             → IfSome (R.remaining input.old) (λ before. MayBeAhead fixed.now first.now self.old.text.items self.old.last.items before
             → IsLeft (R.remaining input.new) (λ rest. (self.old.text.items ++ before ≡ self.new.text.items ++ rest)
@@ -223,7 +175,7 @@ impl Ahead {
     pub(crate) fn keep(&mut self, rest: Vec<u8>) -> Result<(), AllocError>
         ensures text { OnOk result (self.new.text.items ≡ rest.items) }
         ensures last { self.new.last ≡ self.old.last }
-        ensures watched { self.new.watched ≡ self.old.watched }
+        ensures excess { self.new.excess ≡ self.old.excess }
     {
         self.text.clear();
         self.text.extend_from_slice(rest.as_slice())

@@ -1,4 +1,4 @@
-use Rattle.fb_inspect.proofs.lemmas.Common.{◌≡◌, List, ℕ, Bool, true, false, refl, sym, ◌∙◌, subst, IfSome, system_of, Marks, is_unended, BeginsText, IfErr, IsWrongFor, Refuses}
+use Rattle.fb_inspect.proofs.lemmas.Common.{◌≡◌, List, ℕ, Option, true, false, refl, sym, ◌∙◌, subst, IfSome, system_of, Marks, is_unended, BeginsText, IfErr, IsWrongFor, Refuses}
 use Rattle.fb_inspect.specs.Covering.{IsCoveredBy, IsCutCovered}
 use Rattle.fb_inspect.proofs.lemmas.walk.Ended.{front_none, severed_covered, severed_none, severed_part, severed_shown, shown_cut}
 use Rattle.fb_wave.proofs.lemmas.Handing.{on_ok}
@@ -80,7 +80,7 @@ returns-clause-refused g c = λ what rest text few names starts known begins.
     let sys = system_of fixed.table.now.system.now in
     subst (λ (l : CurrentLine). IfErr c.go-gone.result (Refuses (λ n. IsWrongFor sys c.args.terms.steps n l.text.items text))) (sym c.lend.ensures.line)
     (c.go-gone.ensures.refused what rest text few names starts known
-    (subst (λ (e : Bool). BeginsText sys fixed.form c.args.walk.now.trail.reading.line.items e rest text) (sym c.in_ok-ahead.ensures.watched) begins))
+    (subst (λ (e : Option ℕ). BeginsText sys fixed.form c.args.walk.now.trail.reading.line.items e rest text) (sym c.in_ok-ahead.ensures.excess) begins))
 
 pub returns-in_err-ahead-clause-whole : goal.returns-in_err-ahead-clause-whole
 returns-in_err-ahead-clause-whole g c = λ _ _ _ _ _. ok_passed c.from_residual.result _ _ c.from_residual.ensures.1
@@ -106,5 +106,21 @@ returns-clause-uncut g c = λ what rest text few names starts known begins allow
     let sys = system_of fixed.table.now.system.now in
     let line = c.args.walk.now.trail.reading.line.items in
     c.go-gone.ensures.uncut what rest text few names starts known
-    (subst (λ (e : Bool). BeginsText sys fixed.form line e rest text) (sym c.in_ok-ahead.ensures.watched) begins) allowed
+    (subst (λ (e : Option ℕ). BeginsText sys fixed.form line e rest text) (sym c.in_ok-ahead.ensures.excess) begins) allowed
     (subst (λ (l : List ℕ). is_unended l ≡ false) c.as_slice.ensures.value (uncut_line c.args.terms.cut c.as_slice.result.now (sym c.is_cut.ensures ∙ c.if-is_cut.false) allowed))
+
+-- ---- What was written before a line is refused
+
+pub returns-then-is_cut-clause-before : goal.returns-then-is_cut-clause-before
+returns-then-is_cut-clause-before g c = λ what rest text few names starts known begins.
+    err_joined c.and.result c.finish_cut.result _ _ c.and.ensures (err_none c.finish_cut.result _ c.finish_cut.ensures.none)
+
+pub returns-in_err-ahead-clause-before : goal.returns-in_err-ahead-clause-before
+returns-in_err-ahead-clause-before g c = λ _ _ _ _ _ _ _ _. none_passed _ _ _ c.from_residual.ensures.1 tt
+
+pub returns-clause-before : goal.returns-clause-before
+returns-clause-before g c = λ what rest text few names starts known begins.
+    let fixed = c.args.fixed.now in
+    let sys = system_of fixed.table.now.system.now in
+    c.go-gone.ensures.before what rest text few names starts known
+    (subst (λ (e : Option ℕ). BeginsText sys fixed.form c.args.walk.now.trail.reading.line.items e rest text) (sym c.in_ok-ahead.ensures.excess) begins)

@@ -67,3 +67,7 @@ returns-in_err-inspect_and_mark-clause-found g c = λ names few.
 pub returns-in_err-inspect_and_mark-clause-uncut : goal.returns-in_err-inspect_and_mark-clause-uncut
 returns-in_err-inspect_and_mark-clause-uncut g c = λ names few allowed.
     let q = err_from_is_err_and c.from_residual.result c.from_residual.ensures.1 in rw (q.1, q.2) (c.in_err-inspect_and_mark.ensures.uncut names few allowed)
+
+pub returns-in_err-inspect_and_mark-clause-before : goal.returns-in_err-inspect_and_mark-clause-before
+returns-in_err-inspect_and_mark-clause-before g c = λ names few.
+    let q = err_from_is_err_and c.from_residual.result c.from_residual.ensures.1 in rw (q.1, q.2) (c.in_err-inspect_and_mark.ensures.before names few)

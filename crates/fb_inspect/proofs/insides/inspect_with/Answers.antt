@@ -1,4 +1,4 @@
-use Rattle.fb_inspect.proofs.lemmas.Common.{◌≡◌, List, ℕ, false, refl, sym, ap, subst, IfSome, Consumes, err_from_is_err_and, system_of, Marks, IsFirstLine, IsWrongFor, BeginsText, Reading}
+use Rattle.fb_inspect.proofs.lemmas.Common.{◌≡◌, List, ℕ, None, refl, sym, ap, subst, IfSome, Consumes, err_from_is_err_and, system_of, Marks, IsFirstLine, IsWrongFor, BeginsText, Reading}
 use Rattle.fb_inspect.specs.Covering.{Covers}
 use Rattle.fb_inspect.proofs.lemmas.walk.Ended.{covers_of, front_none, starts_of}
 use Rattle.fb_inspect.proofs.lemmas.results.Errors.{of_known}
@@ -8,6 +8,7 @@ use Rattle.fb_inspect.proofs.lemmas.results.Refused.{none_passed}
 use Rattle.fb_inspect.proofs.lemmas.results.Joined.{ok_passed}
 use Rattle.fb_inspect.specs.Selections.{selection_of}
 use Rattle.fb_wave.specs.CutOff.{IsUncut}
+use Rattle.fb_inspect.specs.Inspections.{ShowsBefore}
 use Rattle.fb_inspect.proofs.insides.inspect_with.Goals as goal
 
 pub returns-in_err-form-clause-fault : goal.returns-in_err-form-clause-fault
@@ -71,10 +72,10 @@ returns-in_err-extent-clause-refused g c = λ names few.
     rw (q.1, q.2)
     (of_known (g.R.Read.remaining c.args.input.now) (λ n. IsWrongFor sys steps n c.go_through.new.refused.current.text.items) c.in_err-extent.field-0.0
     (λ text known.
-    let begins = text_begins sys c.in_ok-form.form c.in_ok-form.reading.line.items false text (g.R.Read.remaining c.args.input.now) (g.R.Read.remaining c.first_reading.new.input) names known
+    let begins = text_begins sys c.in_ok-form.form c.in_ok-form.reading.line.items None text (g.R.Read.remaining c.args.input.now) (g.R.Read.remaining c.first_reading.new.input) names known
     c.in_ok-form.ensures.read c.in_ok-form.ensures.first c.in_ok-form.ensures.form refl in
     c.in_err-extent.ensures.refused what begins.0 text few names starts begins.1
-    (subst (λ (u : List ℕ). BeginsText sys c.in_ok-form.form u false begins.0 text) line_is begins.2)))
+    (subst (λ (u : List ℕ). BeginsText sys c.in_ok-form.form u None begins.0 text) line_is begins.2)))
 
 pub returns-in_err-form-clause-whole : goal.returns-in_err-form-clause-whole
 returns-in_err-form-clause-whole g c = ok_passed c.from_residual.result _ _ c.from_residual.ensures.1
@@ -112,13 +113,36 @@ returns-in_err-extent-clause-uncut g c = λ names few allowed.
     rw (q.1, q.2)
     (of_known (g.R.Read.remaining c.args.input.now) (λ n. IsUncut sys n.number) c.in_err-extent.field-0.0
     (λ text known.
-    let begins = text_begins sys c.in_ok-form.form c.in_ok-form.reading.line.items false text (g.R.Read.remaining c.args.input.now) (g.R.Read.remaining c.first_reading.new.input) names known
+    let begins = text_begins sys c.in_ok-form.form c.in_ok-form.reading.line.items None text (g.R.Read.remaining c.args.input.now) (g.R.Read.remaining c.first_reading.new.input) names known
     c.in_ok-form.ensures.read c.in_ok-form.ensures.first c.in_ok-form.ensures.form refl in
     c.in_err-extent.ensures.uncut what begins.0 text few names starts begins.1
-    (subst (λ (u : List ℕ). BeginsText sys c.in_ok-form.form u false begins.0 text) line_is begins.2) allowed))
+    (subst (λ (u : List ℕ). BeginsText sys c.in_ok-form.form u None begins.0 text) line_is begins.2) allowed))
 
 pub returns-in_err-form-clause-uncut : goal.returns-in_err-form-clause-uncut
 returns-in_err-form-clause-uncut g c = λ _ _ _. none_passed _ _ _ c.from_residual.ensures.1 c.in_err-form.ensures.fault
 
 pub returns-in_err-walk-clause-uncut : goal.returns-in_err-walk-clause-uncut
 returns-in_err-walk-clause-uncut g c = λ _ _ _. none_passed _ _ _ c.from_residual-in_err-walk.ensures.1 tt
+
+-- ---- What was written before a line is refused
+
+pub returns-in_err-extent-clause-before : goal.returns-in_err-extent-clause-before
+returns-in_err-extent-clause-before g c = λ names few.
+    let sys = system_of c.args.table.now.system.now in
+    let what = (selection_of c.args.inspection) in
+    let starts = starts_of sys _ what _ c.in_ok-form.reading c.in_ok-walk.walk c.in_ok-walk.ensures c.in_ok-form.ensures.next c.in_ok-form.ensures.number in
+    let line_is : c.in_ok-form.reading.line.items ≡ c.in_ok-walk.walk.trail.reading.line.items = sym (ap (λ (r : Reading). r.line.items) c.in_ok-walk.ensures.reading_is) in
+    let q = err_from_is_err_and c.from_residual-in_err-extent.result c.from_residual-in_err-extent.ensures.1 in
+    rw (q.1, q.2)
+    (of_known (g.R.Read.remaining c.args.input.now) (λ n text. ShowsBefore sys what n.number text (g.W.Write.contents c.args.out.now) (g.W.Write.contents c.go_through.new.out)) c.in_err-extent.field-0.0
+    (λ text known.
+    let begins = text_begins sys c.in_ok-form.form c.in_ok-form.reading.line.items None text (g.R.Read.remaining c.args.input.now) (g.R.Read.remaining c.first_reading.new.input) names known
+    c.in_ok-form.ensures.read c.in_ok-form.ensures.first c.in_ok-form.ensures.form refl in
+    c.in_err-extent.ensures.before what begins.0 text few names starts begins.1
+    (subst (λ (u : List ℕ). BeginsText sys c.in_ok-form.form u None begins.0 text) line_is begins.2)))
+
+pub returns-in_err-form-clause-before : goal.returns-in_err-form-clause-before
+returns-in_err-form-clause-before g c = λ _ _. none_passed _ _ _ c.from_residual.ensures.1 c.in_err-form.ensures.fault
+
+pub returns-in_err-walk-clause-before : goal.returns-in_err-walk-clause-before
+returns-in_err-walk-clause-before g c = λ _ _. none_passed _ _ _ c.from_residual-in_err-walk.ensures.1 tt

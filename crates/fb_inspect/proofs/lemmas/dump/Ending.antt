@@ -1,5 +1,6 @@
 -- How a dump ends, and what the writer got where it does not.
 use Rattle.fb_inspect.proofs.lemmas.Common.{◌≡◌, ◌<◌, ◌+◌, ℕ, true, List, [], ◌∷◌, ◌++◌, length, map, Option, Some, None, refl, sym, ◌∙◌, ap, subst, inl, inr, append_assoc, append-nil, arith, IfSome, Appends, Consumes, Appends-nil, Appends-trans, map-append, All-nil, line_of, AtHorizon, System, last_line, last_look, lines_text, opening_look, Form, Line, One, ending_of, Outcome, IsFirstLine, is_unended, last_tick, IsLineOf, all_lines, taking_lines, Page, Reading, Shows, Taken, lines_of, takings_of, HasWaved}
+use Rattle.fb_inspect.specs.walk.Walking.{SendsSome}
 use Rattle.fb_inspect.specs.Refusals.{IsAfterLast}
 use Rattle.fb_types.proofs.Common.{IsAtEnd, trace_text}
 use Rattle.std.specs.Io.KnownBytes.{prepend_known}
@@ -94,7 +95,7 @@ part_cut_sent sys x page old new fault whole short = record {
 -- ---- Whatever comes after takings
 
 -- what was sent goes on to the dump of the takings and any others
-first_of : (sys : System) (xs : List Taken) (sent waits : List ℕ) (x : PortDump) → Shows sys xs (sent ++ waits) x → AreFirst sys xs sent
+pub first_of : (sys : System) (xs : List Taken) (sent waits : List ℕ) (x : PortDump) → Shows sys xs (sent ++ waits) x → AreFirst sys xs sent
 first_of sys xs sent waits x shown = record {
   ended = λ more end.
       let K : List ℕ = takings_text true sys [] x.tick shown.before shown.now (last_look (opening_look sys) (takings_of xs)) more in
@@ -143,9 +144,9 @@ module _ (sys : System) (form : Form) (steps : ℕ) where
 
   -- the same, where a part of what waits was sent after it
   flushed_front :
-      (x : StateWave) (input remaining old mid new : Option (List ℕ)) (fault : PageFault) → HasWaved sys form steps x input remaining old mid → IsCutShort mid new x.page fault
+      (x : StateWave) (input remaining old mid new : Option (List ℕ)) → HasWaved sys form steps x input remaining old mid → SendsSome x.page.text.items mid new
       → WritesFront sys steps old new
-  flushed_front x input remaining old mid new fault have short =
+  flushed_front x input remaining old mid new have short =
       let waved = have.waved in
       let front = shows_front sys have.takings (waved.sent ++ x.page.text.items) (AtHorizon 0) x.dump waved.shown in
       record {
@@ -164,11 +165,11 @@ module _ (sys : System) (form : Form) (steps : ℕ) where
       }
 
   pub front_flush :
-      (x : StateWave) (input remaining old mid new : Option (List ℕ)) (fault : PageFault) → HasWaved sys form steps x input remaining old mid → IsCutShort mid new x.page fault
+      (x : StateWave) (input remaining old mid new : Option (List ℕ)) → HasWaved sys form steps x input remaining old mid → SendsSome x.page.text.items mid new
       → WritesRead sys steps input old new
   unfolding flushed_front
-  front_flush x input remaining old mid new fault have short = record {
-    front = flushed_front x input remaining old mid new fault have short;
+  front_flush x input remaining old mid new have short = record {
+    front = flushed_front x input remaining old mid new have short;
     form = form;
     read = begins_read input remaining (text_of have.takings) x.walk.trail.reading.line.items have.waved.read;
     goes_on = inl
@@ -346,7 +347,7 @@ shown_cut cut.Refused sys steps input old new same shown = absurd (cc)
 shown_cut cut.Allowed sys steps input old new same shown = on_some input _ _ shown (λ text is. inr is)
 
 -- the lines are those of the takings
-lines_are_of : (sys : System) (xs : List Taken) → HaveLines sys xs → map (line_of sys) (lines_of xs) ≡ all_lines (takings_of xs)
+pub lines_are_of : (sys : System) (xs : List Taken) → HaveLines sys xs → map (line_of sys) (lines_of xs) ≡ all_lines (takings_of xs)
 lines_are_of sys [] have = refl
 lines_are_of sys (x ∷ xs) have =
     map-append (line_of sys) x.lines (lines_of xs) ∙ ap (λ (ls : List model.Line). ls ++ map (line_of sys) (lines_of xs)) have.0 ∙ ap (λ (ls : List model.Line). taking_lines x.taking ++ ls) (lines_are_of sys xs have.1)

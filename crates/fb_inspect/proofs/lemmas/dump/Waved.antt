@@ -1,8 +1,8 @@
 -- Takings that are gone through and shown, one after another.
 use Rattle.fb_inspect.proofs.lemmas.Common.{◌≡◌, ◌≤◌, ℕ, ◌+◌, Bool, true, List, [], ◌∷◌, ◌++◌, length, map, Option, None, sym, ◌∙◌, ap, subst, inl, append_assoc, arith, length-append, All, Consumes, Appends-nil, Appends-trans, Consumes-trans, map-append, All-append, All-nil, line_of, System, lines_text, Form, Line, Reason, BelongsTo, last_tick, IsLineOf, RiseFrom, AreTaken, NoneStops, Look, taking_lines, IsLineAt, Page, Shows, Taken, lines_of, takings_of, HasWaved}
+use Rattle.fb_inspect.specs.walk.Walking.{HasFlushed}
 use Rattle.fb_types.specs.States as model
 use Rattle.fb_inspect.specs.walk.Moves.{HavePassed, lines_kept}
-use Rattle.fb_wave.specs.Pages.{IsFlushed}
 use Rattle.fb_inspect.specs.declared.walk.trail.PassedLines.{PassedLines}
 use Rattle.fb_inspect.proofs.lemmas.walk.WalkedTakings.{each_of, none_more, rise_more}
 use Rattle.fb_inspect.proofs.lemmas.lines.Moving.{lines-append}
@@ -100,9 +100,9 @@ module _ (sys : System) (form : Form) (steps : ℕ) where
 
   -- a part of what waited was sent
   pub flushed_on :
-      (x : StateWave) (page : Page) (input remaining old mid new : Option (List ℕ)) → HasWaved sys form steps x input remaining old mid → IsFlushed mid new x.page page
+      (x : StateWave) (page : Page) (input remaining old mid new : Option (List ℕ)) → HasWaved sys form steps x input remaining old mid → (count : ℕ) → HasFlushed count mid new x.page.text.items page.text.items
       → HasWaved sys form steps (record x { page = page }) input remaining old new
-  flushed_on x page input remaining old mid new have flushed =
+  flushed_on x page input remaining old mid new have count flushed =
       let waved = have.waved in
       record {
         takings = have.takings;

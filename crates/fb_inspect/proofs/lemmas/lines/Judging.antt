@@ -1,13 +1,11 @@
 -- The next line of a walk: an event, an end that may not come there, or none.
-use Rattle.fb_inspect.proofs.lemmas.Common.{◌≡◌, ℕ, Bool, true, false, List, [], ◌∷◌, ◌++◌, map, refl, sym, ap, subst, ◌∙◌, inl, inr, append-nil, take_through, All-nil, line_of, AtStop, System, last_line, lines_text, Form, Line, StopMark, Reason, Divide, Range, Steps, ending_of, Outcome, Stop, last_tick, IsEndOf, IsLineOf, IsTextOf, HasNames, all_lines, last_look, IsNext, Taking, opening_look, IsWrongLine, Finding, Refusal, Refuses, StandsWell, Watches, MayEnd, Ahead, WalkError, Refused, Next, Walk, Vec}
-use Rattle.fb_types.specs.States as model
+use Rattle.fb_inspect.proofs.lemmas.Common.{◌≡◌, ℕ, List, Option, Some, None, [], ◌∷◌, ◌++◌, map, refl, sym, ap, subst, ◌∙◌, inl, inr, append-nil, take_through, line_of, AtStop, System, last_line, lines_text, Form, Line, StopMark, Reason, Divide, Range, Steps, ending_of, Outcome, Stop, last_tick, IsEndOf, IsTextOf, HasNames, all_lines, last_look, IsNext, Taking, opening_look, IsWrongLine, Finding, Refusal, Refuses, StandsWell, Watches, MayEnd, Ahead, WalkError, Refused, Next, Walk}
 use Rattle.fb_trace.specs.declared.last.Outcome.TheVariants.{End}
-use Rattle.fb_inspect.specs.Refusals.{IsWrongAfter}
+use Rattle.fb_inspect.specs.Refusals.{IsTooMany, IsWrongAfter}
 use Rattle.fb_inspect.specs.walk.Standing.{AreApart, AreNumbered, IsStepsStop, Stands, StandsAt, StandsOn}
 use Rattle.fb_inspect.specs.declared.refused.finding.Finding.TheVariants as why
 use Rattle.fb_inspect.specs.declared.walk.reading.Next.TheVariants as next
 use Rattle.fb_inspect.proofs.lemmas.results.Errors.{of_refusal}
-use Rattle.fb_inspect.proofs.lemmas.walk.Watched.{too_many_wrong}
 
 -- the next line is that of an event
 pub event_at :
@@ -73,49 +71,51 @@ module _ (sys : System) (form : Form) (steps : ℕ) (w : Walk) (a : Ahead) (rest
 
     nothing : IsWrongLine sys steps (refused_for why.Runs) w.trail.reading.line.items text
     nothing =
-        wrong_line why.Runs (inl (inr (inl (refl, record { end = ending_of end; can = here.0.can; is = here.0.is; other = other here.0.can; near = stands.near; found = refl }))))
+        wrong_line why.Runs (inl (inr (inl (refl, record { end = ending_of end; can = here.0.can; is = here.0.is; other = other here.0.can; near = well.near; found = refl }))))
 
     -- the run ends for its steps, but a resource had used too many before
-    many : (m : StopMark) → end ≡ Stop m → m.reason ≡ Steps → (k : ℕ) (event : List ℕ) → Watches sys form steps well.takings k event true
-        → IsWrongLine sys steps (record { number = k; finding = why.NoStep }) event text
-    many m end_is reason k event watched =
+    many : (m : StopMark) → end ≡ Stop m → m.reason ≡ Steps → (k : ℕ) → IsTooMany sys steps well.takings k → IsWrongLine sys steps (refused_for (why.Excess k)) w.trail.reading.line.items text
+    many m end_is reason k watched =
         let stop_is : ending_of end ≡ AtStop m.tick m.resource Steps = ap ending_of end_is ∙ ap (AtStop m.tick m.resource) reason in
-        let line_is : w.trail.reading.line.items ≡ last_line sys (AtStop m.tick m.resource Steps) = here.0.is ∙ ap (last_line sys) stop_is in
-        too_many_wrong sys form names steps well.takings w a.text.items a.last.items rest text stands k event watched [] (All-nil (IsLineOf sys)) m.tick m.resource (subst (IsEndOf sys) stop_is here.0.can) (a.text.items ++ rest)
-        (stands.is
-        ∙ ap (λ (ls : List model.Line). lines_text form sys ls ++ (w.trail.reading.line.items ++ (a.text.items ++ rest))) (stands.lines_are ∙ sym (append-nil (all_lines well.takings)))
-        ∙ ap (λ (u : List ℕ). lines_text form sys (all_lines well.takings ++ []) ++ (u ++ (a.text.items ++ rest))) line_is)
-        (λ front z e none t kind same. stands.near front z e t kind (line_is ∙ same))
+        wrong_line (why.Excess k)
+        (inr
+        (inr
+        (record {
+          number = k;
+          many = watched;
+          tick = m.tick;
+          resource = m.resource;
+          can = subst (IsEndOf sys) stop_is here.0.can;
+          is = here.0.is ∙ ap (last_line sys) stop_is;
+          near = λ none no_line. well.near watched.before watched.taking (watched.parts ∙ ap (λ (ts : List Taking). watched.before ++ watched.taking ∷ ts) none) watched.kept;
+          found = refl;
+        })))
 
--- the next line was lent, or that of the event which is watched
+-- the next line is an end that may not come there: for its steps, where too many were used before
 pub wrong_end :
     (sys : System) (form : Form) (steps : ℕ) (w : Walk) (a : Ahead) (rest text : List ℕ) → HasNames sys → (well : StandsWell sys form steps w a rest text) → (end : Outcome) → next.End end ≡ w.trail.reading.next
-    → (IsEndOf sys (ending_of end) → MayEnd sys steps (last_look (opening_look sys) well.takings) (ending_of end) → ⊥) → (error : WalkError) (lent : Vec ℕ)
-    → (a.watched.is_excess ≡ true → IsStepsStop end → (error ≡ Refused (record { number = a.watched.number; finding = why.NoStep })) × (lent ≡ a.watched.text))
-    → (a.watched.is_excess ≡ false → (error ≡ Refused (record { number = w.trail.reading.number; finding = why.Runs })) × (lent ≡ w.trail.reading.line))
-    → ((IsStepsStop end → ⊥) → (error ≡ Refused (record { number = w.trail.reading.number; finding = why.Runs })) × (lent ≡ w.trail.reading.line))
-    → Refuses (λ n. IsWrongLine sys steps n lent.items text) error
-wrong_end sys form steps w a rest text names well end is other error lent back none apart = by a.watched.is_excess refl well.watched end refl
+    → (IsEndOf sys (ending_of end) → MayEnd sys steps (last_look (opening_look sys) well.takings) (ending_of end) → ⊥) → (error : WalkError)
+    → ((k : ℕ) → a.excess ≡ Some k → IsStepsStop end → error ≡ Refused (record { number = w.trail.reading.number; finding = why.Excess k }))
+    → (a.excess ≡ None → error ≡ Refused (record { number = w.trail.reading.number; finding = why.Runs }))
+    → ((IsStepsStop end → ⊥) → error ≡ Refused (record { number = w.trail.reading.number; finding = why.Runs }))
+    → Refuses (λ n. IsWrongLine sys steps n w.trail.reading.line.items text) error
+wrong_end sys form steps w a rest text names well end is other error back none apart = by a.excess refl well.watched end refl
   where
     not : IsEndOf sys (ending_of end) → MayEnd sys steps (last_look (opening_look sys) well.takings) (ending_of end) → ⊥
     not can = other can
 
-    plain : (error ≡ Refused (record { number = w.trail.reading.number; finding = why.Runs })) × (lent ≡ w.trail.reading.line) → Refuses (λ n. IsWrongLine sys steps n lent.items text) error
+    plain : error ≡ Refused (record { number = w.trail.reading.number; finding = why.Runs }) → Refuses (λ n. IsWrongLine sys steps n w.trail.reading.line.items text) error
     plain e =
-        of_refusal (λ n. IsWrongLine sys steps n lent.items text) error (record { number = w.trail.reading.number; finding = why.Runs }) e.0
-        (subst (λ (v : Vec ℕ). IsWrongLine sys steps (record { number = w.trail.reading.number; finding = why.Runs }) v.items text) (sym e.1) (nothing sys form steps w a rest text names well end is not))
+        of_refusal (λ n. IsWrongLine sys steps n w.trail.reading.line.items text) error (record { number = w.trail.reading.number; finding = why.Runs }) e (nothing sys form steps w a rest text names well end is not)
 
-    for_steps : (m : StopMark) → end ≡ Stop m → a.watched.is_excess ≡ true → Watches sys form steps well.takings a.watched.number a.watched.text.items true → (r : Reason) → m.reason ≡ r
-        → Refuses (λ n. IsWrongLine sys steps n lent.items text) error
-    for_steps m e set watched Steps reason =
-        let found = back set (subst IsStepsStop (sym e) reason) in
-        of_refusal (λ n. IsWrongLine sys steps n lent.items text) error (record { number = a.watched.number; finding = why.NoStep }) found.0
-        (subst (λ (v : Vec ℕ). IsWrongLine sys steps (record { number = a.watched.number; finding = why.NoStep }) v.items text) (sym found.1)
-        (many sys form steps w a rest text names well end is not m e reason a.watched.number a.watched.text.items watched))
-    for_steps m e set watched Divide reason = plain (apart (λ s. let h : m.reason ≡ Steps = subst IsStepsStop e s in let both : Steps ≡ Divide = sym h ∙ reason in cc))
-    for_steps m e set watched Range reason = plain (apart (λ s. let h : m.reason ≡ Steps = subst IsStepsStop e s in let both : Steps ≡ Range = sym h ∙ reason in cc))
+    for_steps : (m : StopMark) → end ≡ Stop m → (k : ℕ) → a.excess ≡ Some k → IsTooMany sys steps well.takings k → (r : Reason) → m.reason ≡ r → Refuses (λ n. IsWrongLine sys steps n w.trail.reading.line.items text) error
+    for_steps m e k set watched Steps reason =
+        of_refusal (λ n. IsWrongLine sys steps n w.trail.reading.line.items text) error (record { number = w.trail.reading.number; finding = why.Excess k }) (back k set (subst IsStepsStop (sym e) reason))
+        (many sys form steps w a rest text names well end is not m e reason k watched)
+    for_steps m e k set watched Divide reason = plain (apart (λ s. let h : m.reason ≡ Steps = subst IsStepsStop e s in let both : Steps ≡ Divide = sym h ∙ reason in cc))
+    for_steps m e k set watched Range reason = plain (apart (λ s. let h : m.reason ≡ Steps = subst IsStepsStop e s in let both : Steps ≡ Range = sym h ∙ reason in cc))
 
-    by : (x : Bool) → a.watched.is_excess ≡ x → Watches sys form steps well.takings a.watched.number a.watched.text.items x → (o : Outcome) → end ≡ o → Refuses (λ n. IsWrongLine sys steps n lent.items text) error
-    by false set watched o e = plain (none set)
-    by true set watched (End h) e = plain (apart (λ s. subst IsStepsStop e s))
-    by true set watched (Stop m) e = for_steps m e set watched m.reason refl
+    by : (x : Option ℕ) → a.excess ≡ x → Watches sys steps well.takings x → (o : Outcome) → end ≡ o → Refuses (λ n. IsWrongLine sys steps n w.trail.reading.line.items text) error
+    by None set watched o e = plain (none set)
+    by (Some k) set watched (End h) e = plain (apart (λ s. subst IsStepsStop e s))
+    by (Some k) set watched (Stop m) e = for_steps m e k set watched m.reason refl

@@ -42,6 +42,15 @@ pub err_none : {A : Type 0} (r : Result A WalkError) (P : Refusal → Type 0) �
 err_none (Ok x) P h = tt
 err_none (Err e) P h = none_refused e P h
 
+-- two things that are said of a line that is refused
+pub both_refused :
+    {A : Type 0} (r : Result A WalkError) (P Q S : Refusal → Type 0) → IfErr r (Refuses P) → IfErr r (Refuses Q) → ((n : Refusal) → P n → Q n → S n) → IfErr r (Refuses S)
+both_refused (Ok x) P Q S h k f = tt
+both_refused (Err (Refused n)) P Q S h k f = f n h k
+both_refused (Err Memory) P Q S h k f = tt
+both_refused (Err Read) P Q S h k f = tt
+both_refused (Err (Write n)) P Q S h k f = tt
+
 -- an error that was passed on
 pub err_passed :
     {A : Type 0} (r : Result A WalkError) (e : WalkError) (P Q : Refusal → Type 0) → IsErrAnd r (λ g. g ≡ e) → Refuses P e → ((n : Refusal) → P n → Q n) → IfErr r (Refuses Q)

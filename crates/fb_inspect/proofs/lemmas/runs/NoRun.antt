@@ -310,7 +310,10 @@ module _ (i : Inputs) (accepted : AreAccepted i) (names : HasNames (system_of i)
         by o (inr stops) =
             let w = unshown F ys stops.0 stops.1 stops.2 in
             let basic : IsBasic sys (shown_taking F w.1).first = subst (λ (z : Taking). IsBasic sys z.first) (sym w.3) stops.3 in
-            no_stop_there w.1 (wrong.near w.0 w.1 w.2) basic o.none (stops.4 ∙ ap (λ (z : Taking). AtStop z.first.key.tick z.first.key.resource Steps) (sym w.3))
+            let kept : KeepSteps sys limit (last_look (opening_look sys) w.0) =
+            subst (KeepSteps sys limit) (look_shown F (opening_look sys) w.0) (subst (λ (ts : List Taking). KeepSteps sys limit (last_look (opening_look sys) ts)) (sym w.4) stops.5)
+            in
+            no_stop_there w.1 (wrong.near w.0 w.1 w.2 kept) basic o.none (stops.4 ∙ ap (λ (z : Taking). AtStop z.first.key.tick z.first.key.resource Steps) (sym w.3))
 
     -- ---- Lines of a taking
 
@@ -515,35 +518,31 @@ module _ (i : Inputs) (accepted : AreAccepted i) (names : HasNames (system_of i)
 
     -- ---- Steps that were not kept
 
-    not_over : UsesTooMany sys f limit ys text → ⊥
+    not_over : UsesTooMany sys limit ys begun line finding → ⊥
     not_over wrong =
-        let read = wrong.read ++ wrong.untaken in
-        let stop_line = last_line sys (AtStop wrong.tick wrong.resource Steps) in
-        let are : map (line_of sys) read ≡ all_lines (ys ++ wrong.taking ∷ wrong.later) ++ map (line_of sys) wrong.untaken =
-        map-append (line_of sys) wrong.read wrong.untaken ∙ ap (λ (ls : List Line). ls ++ map (line_of sys) wrong.untaken) wrong.read_are
-        in
-        let al2 =
-        align f read stop_line wrong.rest wrong.are (wrong.is ∙ ap (λ (ls : List Line). lines_text f sys ls ++ (stop_line ++ wrong.rest)) (sym are))
-        (sym (through stop_line wrong.rest (last_one sys (AtStop wrong.tick wrong.resource Steps) names wrong.can)))
-        in
-        let o = over f read stop_line wrong.rest al2 (AtStop wrong.tick wrong.resource Steps) refl in
-        let s = stop_is wrong.tick wrong.resource o.is in
-        let z = shown_taking F wrong.taking in
-        let joined = joined_shown F ys wrong.taking wrong.later in
-        let chain2 = subst (λ (ts : List Taking). AreTakings sys most (opening_look sys) ts) joined (chain_shown sys F most (opening_look sys) (ys ++ wrong.taking ∷ wrong.later) wrong.chain) in
-        let lines : all_lines rows ≡ all_lines (ahead ++ z ∷ shown_takings F wrong.later) ++ map view wrong.untaken =
-        none_left f read stop_line wrong.rest al2 o.none ∙ ap (shown_lines F) are ∙ both_shown F (all_lines (ys ++ wrong.taking ∷ wrong.later)) (map (line_of sys) wrong.untaken)
-        ∙ ap (λ (ls : List Line). ls ++ shown_lines F (map (line_of sys) wrong.untaken)) (sym (all_shown F (ys ++ wrong.taking ∷ wrong.later)) ∙ ap all_lines joined)
-        ∙ ap (λ (ls : List Line). all_lines (ahead ++ z ∷ shown_takings F wrong.later) ++ ls) (seen_all F wrong.untaken)
+        let many = wrong.many in
+        let o = over f before line rest al (AtStop wrong.tick wrong.resource Steps) wrong.is in
+        let s = stop_is wrong.tick wrong.resource (sym wrong.is ∙ o.is) in
+        let z = shown_taking F many.taking in
+        let parts : ahead ≡ shown_takings F many.before ++ z ∷ shown_takings F many.later = ap (shown_takings F) many.parts ∙ joined_shown F many.before many.taking many.later in
+        let chain2 = subst (λ (ts : List Taking). AreTakings sys most (opening_look sys) ts) parts ahead_chain in
+        let lines : all_lines rows ≡ all_lines (shown_takings F many.before ++ z ∷ shown_takings F many.later) ++ seen_begun =
+        whole ∙ ap (λ (ls : List run.Line). all_lines ahead ++ (seen_begun ++ map view ls)) o.none ∙ ap (λ (ls : List Line). all_lines ahead ++ ls) (append-nil seen_begun)
+        ∙ ap (λ (ts : List Taking). all_lines ts ++ seen_begun) parts
         in
         let last =
-        too_many sys limit within ahead z (shown_takings F wrong.later) chain2 (λ kept. wrong.over (subst (KeepSteps sys limit) (after_shown F wrong.taking) kept)) s.tick s.resource rows s.ends (map view wrong.untaken) lines
+        too_many sys limit within (shown_takings F many.before) z (shown_takings F many.later) chain2 (λ kept. many.over (subst (KeepSteps sys limit) (after_shown F many.taking) kept)) s.tick s.resource rows s.ends seen_begun lines
         in
-        let basic = basic_shown wrong.taking last.basic in
-        let end : AtStop s.tick s.resource Steps ≡ AtStop wrong.taking.first.key.tick wrong.taking.first.key.resource Steps =
-        ap (λ (n : ℕ). AtStop n s.resource Steps) (sym last.tick) ∙ ap (λ (n : ℕ). AtStop z.first.key.tick n Steps) (sym last.resource) ∙ stop_of_shown wrong.taking
+        let basic = basic_shown many.taking last.basic in
+        let end : AtStop s.tick s.resource Steps ≡ AtStop many.taking.first.key.tick many.taking.first.key.resource Steps =
+        ap (λ (n : ℕ). AtStop n s.resource Steps) (sym last.tick) ∙ ap (λ (n : ℕ). AtStop z.first.key.tick n Steps) (sym last.resource) ∙ stop_of_shown many.taking
         in
-        wrong.near (no_takings F wrong.later last.no_later) (no_lines_left view wrong.untaken last.no_line) basic.0 basic.1 (o.is ∙ ap (last_line sys) (s.is ∙ end))
+        wrong.near (no_takings F many.later last.no_later) (no_shown F begun last.no_line) basic.0 basic.1 (o.is ∙ ap (last_line sys) (s.is ∙ end))
+      where
+        no_shown : (form : Form) (ls : List Line) → shown_lines form ls ≡ [] → ls ≡ []
+        no_shown Two ls e = e
+        no_shown One [] e = refl
+        no_shown One (l ∷ ls) e = absurd (no_first (bare l) (map bare ls) e)
 
     -- ---- All kinds
 
@@ -561,7 +560,7 @@ module _ (i : Inputs) (accepted : AreAccepted i) (names : HasNames (system_of i)
     not_after : IsWrongAfter sys f limit (last_tick 0 before) ys begun line text finding → ⊥
     not_after (inl wrong) = not_freely wrong
     not_after (inr (inl wrong)) = not_last wrong.0 wrong.1 wrong.2
-    not_after (inr (inr wrong)) = not_over wrong.1
+    not_after (inr (inr wrong)) = not_over wrong
 
   not_line : (n : Refusal) (line : List ℕ) → IsWrongLine sys limit n line text → ⊥
   not_line n line w =

@@ -95,9 +95,10 @@ module _ (sys : System) (limit : ℕ) (within : limit ≤ most) (ys : List Takin
 
   -- ---- What may come
 
-  -- the taking of a basic block that a row ends with, and that stops it for its steps
+  -- the taking of a basic block that a row ends with, and that stops it for its steps, which were kept before
   abbrev pub StopsLast : Ending → Type 0
   StopsLast end = (front : List Taking) × (z : Taking) × (ys ≡ front ++ z ∷ []) × IsBasic sys z.first × (end ≡ AtStop z.first.key.tick z.first.key.resource Steps)
+      × KeepSteps sys limit (last_look look front)
 
   -- what comes after some lines of a taking is its next line, or the taking is of a basic block and the run stops there for its steps
   abbrev pub GoesRight : Taking → Line → (back : List Line) → Ending → Type 0
@@ -226,6 +227,7 @@ module _ (sys : System) (limit : ℕ) (within : limit ≤ most) (ys : List Takin
               inside.parts,
               basic,
               stops_at inside.x inside.is_last ∙ ap (λ (l : Line). AtStop l.key.tick l.key.resource Steps) (sym inside.first),
+              ends.limited_so.kept,
             )
         inside_end inside (inr other) = inl (plain_end inside other)
 

@@ -126,16 +126,16 @@ pub two_heads : {X : Type 0} (x y : X) (xs ys : List X) → x ∷ xs ≡ y ∷ y
 two_heads x y xs ys e = (cc, cc)
 
 -- the last taking of a row that a form shows
-pub unshown : (form : Form) (ys front : List Taking) (z : Taking) → shown_takings form ys ≡ front ++ z ∷ [] → (g : List Taking) × (w : Taking) × (ys ≡ g ++ w ∷ []) × (shown_taking form w ≡ z)
-unshown Two ys front z e = (front, z, e, refl)
+pub unshown : (form : Form) (ys front : List Taking) (z : Taking) → shown_takings form ys ≡ front ++ z ∷ [] → (g : List Taking) × (w : Taking) × (ys ≡ g ++ w ∷ []) × (shown_taking form w ≡ z) × (shown_takings form g ≡ front)
+unshown Two ys front z e = (front, z, e, refl, refl)
 unshown One [] [] z e = absurd (let clash : [] ≡ z ∷ [] = e in cc)
 unshown One [] (y ∷ front) z e = absurd (let clash : [] ≡ y ∷ (front ++ z ∷ []) = e in cc)
-unshown One (y ∷ []) [] z e = ([], y, refl, (two_heads (bare_taking y) z [] [] e).0)
+unshown One (y ∷ []) [] z e = ([], y, refl, (two_heads (bare_taking y) z [] [] e).0, refl)
 unshown One (y ∷ x ∷ ys) [] z e = absurd (let clash : bare_taking x ∷ map bare_taking ys ≡ [] = (two_heads (bare_taking y) z (bare_taking x ∷ map bare_taking ys) [] e).1 in cc)
 unshown One (y ∷ ys) (x ∷ front) z e =
     let h = two_heads (bare_taking y) x (map bare_taking ys) (front ++ z ∷ []) e in
     let rest = unshown One ys front z h.1 in
-    (y ∷ rest.0, rest.1, ap (λ (ts : List Taking). y ∷ ts) rest.2, rest.3)
+    (y ∷ rest.0, rest.1, ap (λ (ts : List Taking). y ∷ ts) rest.2, rest.3, ap (λ (ts : List Taking). bare_taking y ∷ ts) rest.4 ∙ ap (λ (v : Taking). v ∷ front) h.0)
 
 -- Where no taking ends a row for its steps, its last taking is of no basic block of that resource in that tick.
 abbrev pub JudgesLast : (sys : System) (limit : ℕ) (takings : List Taking) (end : Ending) → EndsSo sys limit takings end → Type 0

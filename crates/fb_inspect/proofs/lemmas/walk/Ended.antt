@@ -9,7 +9,7 @@ use Rattle.fb_inspect.specs.Covering.{Covers, IsCovered, IsCoveredBy, IsCutCover
 use Rattle.fb_inspect.specs.Happenings.{History}
 use Rattle.fb_inspect.specs.Inspections.{IsCutInspected, IsCutShown, IsInspected, BeginsWith, IsShown, IsShownBy, ShowsFront, ShowsRead, all_text, cut_note, one_text}
 use Rattle.fb_wave.specs.Pages.{IsCutShort}
-use Rattle.fb_inspect.specs.walk.Walking.{Begins, Finishes, FinishesCut, IsComplete, IsGone, SendsCutPart, SendsPart}
+use Rattle.fb_inspect.specs.walk.Walking.{Begins, Finishes, FinishesCut, IsComplete, IsGone, SendsCutPart, SendsPart, SendsSome}
 use Rattle.fb_wave.specs.declared.page.PageFault.{PageFault}
 use Rattle.fb_inspect.specs.declared.walk.Extent.{Extent}
 use Rattle.fb_inspect.specs.declared.walk.Extent.TheVariants.{CutOff, Whole}
@@ -321,9 +321,9 @@ front_gone sys form what steps walk takings input remaining old new gone = recor
 
 -- the same, where a part of what waits was sent after it
 front_short :
-    (sys : System) (form : Form) (what : Selection) (steps : ℕ) (walk : Walk) (takings : List Taking) (input remaining old mid new : Option (List ℕ)) (fault : PageFault)
-    → IsGone sys form what steps walk takings input remaining old mid → IsCutShort mid new walk.trail.page fault → ShowsFront sys what steps old new
-front_short sys form what steps walk takings input remaining old mid new fault gone short = record {
+    (sys : System) (form : Form) (what : Selection) (steps : ℕ) (walk : Walk) (takings : List Taking) (input remaining old mid new : Option (List ℕ))
+    → IsGone sys form what steps walk takings input remaining old mid → SendsSome walk.trail.page.text.items mid new → ShowsFront sys what steps old new
+front_short sys form what steps walk takings input remaining old mid new gone short = record {
   form = form;
   takings = takings;
   taken = gone.taken;
@@ -336,11 +336,11 @@ front_short sys form what steps walk takings input remaining old mid new fault g
 }
 
 pub front_flush :
-    (sys : System) (form : Form) (what : Selection) (steps : ℕ) (walk : Walk) (takings : List Taking) (input remaining old mid new : Option (List ℕ)) (fault : PageFault)
-    → IsGone sys form what steps walk takings input remaining old mid → IsCutShort mid new walk.trail.page fault → ShowsRead sys what steps input old new
+    (sys : System) (form : Form) (what : Selection) (steps : ℕ) (walk : Walk) (takings : List Taking) (input remaining old mid new : Option (List ℕ))
+    → IsGone sys form what steps walk takings input remaining old mid → SendsSome walk.trail.page.text.items mid new → ShowsRead sys what steps input old new
 unfolding front_short
-front_flush sys form what steps walk takings input remaining old mid new fault gone short = record {
-  front = front_short sys form what steps walk takings input remaining old mid new fault gone short;
+front_flush sys form what steps walk takings input remaining old mid new gone short = record {
+  front = front_short sys form what steps walk takings input remaining old mid new gone short;
   lines = gone.lines;
   are = gone.are;
   lines_are = gone.lines_are;

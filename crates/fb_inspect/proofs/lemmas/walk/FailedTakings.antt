@@ -104,6 +104,7 @@ module _ (sys : System) (limit : ℕ) (look : Look) (line : Line) (left : ℕ) (
   found_whole why.Late h = absurd h
   found_whole why.NoStep h = absurd h
   found_whole (why.Stops r) h = absurd h
+  found_whole (why.Excess n) h = absurd h
   found_whole why.Runs h = absurd h
 
   pub fails_whole : (form : Form) (old new : Reading) (l j : Option (List ℕ)) (n : Refusal)

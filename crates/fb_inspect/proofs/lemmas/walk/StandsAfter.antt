@@ -1,16 +1,17 @@
 -- Where a walk stands after a taking, and which line is wrong where it does not go on.
-use Rattle.fb_inspect.proofs.lemmas.Common.{◌≡◌, ◌⊎◌, ℕ, zero, suc, ◌+◌, Bool, List, [], ◌∷◌, ◌++◌, length, map, Option, Some, None, Result, Ok, refl, sym, ap, subst, ◌∙◌, inl, inr, append_assoc, append-nil, arith, length-append, All, IfSome, Vec, take_through, append_cancel_left, map-append, All-append, All-cons, All-head, All-nil, All-tail, Basic, Composite, Emission, Event, Kind, system_of, line_of, path_at, AtStop, System, last_line, line_text, lines_text, Key, BasicType, BlockType, Form, One, Two, Line, Reason, Steps, last_tick, IsLineOf, IsTextOf, PortTable, IsOwnLine, all_lines, last_look, IsAlone, IsNext, IsTaking, IsTakingAt, IsTakingWith, Look, Taking, emission_line, left_at, most, opening_look, taking_lines, IsLineAt, FailsBy, IsUnstarted, IsWrongLine, Finding, Refusal, steps_stop, AreAhead, GoesAfter, IsLeft, Watches, IsLookOf, WalkTakes, unread, Ahead, WalkError, Reading, Step, Ended, Trail, Walk, Stop}
+use Rattle.fb_inspect.proofs.lemmas.Common.{◌≡◌, ◌⊎◌, ℕ, zero, suc, ◌+◌, Bool, List, [], ◌∷◌, ◌++◌, length, map, Option, Some, None, Result, Ok, refl, sym, ap, subst, ◌∙◌, inl, inr, append_assoc, append-nil, arith, length-append, All, IfSome, Vec, take_through, append_cancel_left, map-append, All-append, All-cons, All-head, All-nil, All-tail, Basic, Composite, Emission, Event, Kind, system_of, line_of, path_at, AtStop, System, last_line, line_text, lines_text, Key, BasicType, BlockType, Form, One, Two, Line, Reason, Steps, last_tick, IsLineOf, IsTextOf, PortTable, IsOwnLine, KeepSteps, all_lines, last_look, IsAlone, IsNext, IsTaking, IsTakingAt, IsTakingWith, Look, Taking, emission_line, left_at, most, opening_look, taking_lines, IsLineAt, FailsBy, IsUnstarted, IsWrongLine, Finding, Refusal, Refuses, steps_stop, AreAhead, GoesAfter, IsLeft, Watches, IsLookOf, WalkTakes, unread, Ahead, WalkError, Reading, Step, Ended, Trail, Walk, Stop}
 use Rattle.fb_types.specs.States as model
 use Rattle.fb_wave.specs.Waves.{AreLinesOf}
 use Rattle.fb_wave.proofs.lemmas.Lining.{line_not_last, line_one}
 use Rattle.fb_inspect.specs.walk.Lines.{IsPlain}
-use Rattle.fb_inspect.specs.Refusals.{BeginsNothing, GoesOtherwise, HasRead, HaveTaken, IsLineAfter, IsNoStepsStop, IsWrongAfter, TakingFails}
+use Rattle.fb_inspect.specs.Refusals.{BeginsNothing, GoesOtherwise, HasRead, HaveTaken, IsLineAfter, IsNoLastStop, IsNoStepsStop, IsTooMany, IsWrongAfter, TakingFails}
 use Rattle.fb_inspect.specs.walk.SameLines.{AreLikeParts, IsSameLine}
-use Rattle.fb_inspect.specs.walk.Standing.{AreNumbered, IsNotNear, MayBeAhead, StandsAfter, StandsAt, StandsOn, TakesOne}
+use Rattle.fb_inspect.specs.walk.Standing.{AreNumbered, BlamesSteps, IsNotNear, IsOwnStop, MayBeAhead, StandsAfter, StandsAt, StandsOn, TakesOne}
 use Rattle.fb_inspect.specs.declared.refused.finding.Finding.TheVariants as why
 use Rattle.fb_inspect.specs.declared.walk.Step.TheVariants.{CutOff, Taken}
 use Rattle.fb_inspect.specs.declared.walk.reading.Next.TheVariants as next
 use Rattle.fb_inspect.proofs.lemmas.lines.OneEnd.{no_stop_text}
+use Rattle.fb_inspect.proofs.lemmas.results.Errors.{of_refusal}
 use Rattle.fb_inspect.proofs.lemmas.lines.Fronting.{IsFront, front, front_after, front_alone, front_end, through_one}
 use Rattle.fb_inspect.proofs.lemmas.walk.WalkedTakings.{chain_more, each_of, last_more, lines_more, look_more, none_more, rise_more}
 use Rattle.fb_inspect.proofs.lemmas.lines.Moving.{lines-append}
@@ -78,6 +79,23 @@ last_same_taking (z ∷ zs) [] x y e = absurd (more zs (cc))
     more [] e = cc
     more (u ∷ us) e = cc
 last_same_taking (z ∷ zs) (u ∷ us) x y e = last_same_taking zs us x y (cc)
+
+front_same : (xs ys : List Taking) (x y : Taking) → xs ++ x ∷ [] ≡ ys ++ y ∷ [] → xs ≡ ys
+front_same [] [] x y e = refl
+front_same [] (z ∷ zs) x y e = absurd (more zs (cc))
+  where
+    more : (us : List Taking) → [] ≡ us ++ y ∷ [] → ⊥
+    more [] e = cc
+    more (u ∷ us) e = cc
+front_same (z ∷ zs) [] x y e = absurd (more zs (cc))
+  where
+    more : (us : List Taking) → us ++ x ∷ [] ≡ [] → ⊥
+    more [] e = cc
+    more (u ∷ us) e = cc
+front_same (z ∷ zs) (u ∷ us) x y e =
+    let head : z ≡ u = cc in
+    let tail : zs ++ x ∷ [] ≡ us ++ y ∷ [] = cc in
+    ap (λ (v : Taking). v ∷ zs) head ∙ ap (λ (vs : List Taking). u ∷ vs) (front_same zs us x y tail)
 
 -- a taking that stops its resource is one of a basic block
 pub stops_basic : (sys : System) (limit : ℕ) (look : Look) (x : Taking) (r : Reason) → x.stop ≡ Some r → IsTaking sys limit look x → (t : BasicType) × (sys.kind x.first.at ≡ Some (Basic t))
@@ -292,21 +310,87 @@ module _ (t : PortTable) (form : Form) (takings : List Taking) (w : Walk) (a : A
     found = fails.found;
   }
 
+  -- ---- Steps that were used before
+
+  -- the line that was read ahead is no stop for its steps, or too many were used before
+  abbrev pub IsFree : (steps : ℕ) → Type 0
+  IsFree steps = IsNotNear sys line a.last.items ⊎ (KeepSteps sys steps seen_last → ⊥)
+
+  module _ (steps : ℕ) (old excess : Option ℕ) (watches : Watches sys steps takings old) (keeps : (k : ℕ) → old ≡ Some k → excess ≡ Some k) where
+    over_watched : (KeepSteps sys steps seen_last → ⊥) → (k : ℕ) × (excess ≡ Some k) × IsTooMany sys steps takings k
+    over_watched over = by old refl watches
+      where
+        by : (o : Option ℕ) → old ≡ o → Watches sys steps takings o → (k : ℕ) × (excess ≡ Some k) × IsTooMany sys steps takings k
+        by None e is = absurd (over is)
+        by (Some k) e is = (k, keeps k e, is)
+
+    -- the line is not that stop, or it is not near
+    quiet_by : (new : Reading) → IsFree steps → (excess ≡ None) ⊎ (IsOwnStop sys line new.line.items → ⊥) → IsNotNear sys line a.last.items ⊎ (IsOwnStop sys line new.line.items → ⊥)
+    quiet_by new (inl far) is = inl far
+    quiet_by new (inr over) (inr other) = inr other
+    quiet_by new (inr over) (inl none) = let all = over_watched over in absurd (clash all.0 (sym none ∙ all.1))
+      where
+        clash : (k : ℕ) → None ≡ Some k → ⊥
+        clash k e = cc
+
+    same_number : (k n : ℕ) → excess ≡ Some k → excess ≡ Some n → IsTooMany sys steps takings k → IsTooMany sys steps takings n
+    same_number k n one other many = let same : k ≡ n = once (sym one ∙ other) in subst (IsTooMany sys steps takings) same many
+      where
+        once : Some k ≡ Some n → k ≡ n
+        once e = cc
+
+  module _ (rows : List Line) (ahead : AreAhead sys form line rows a.text.items a.last.items rest) (passed : List Line) (new : Reading) (left : List ℕ)
+      (reads : HasRead sys form line.key.tick (line ∷ passed) w.trail.reading new (Some a.text.items) (Some left)) (own : All (IsOwnLine sys line) passed) where
+    quiet : IsNotNear sys line a.last.items ⊎ (IsOwnStop sys line new.line.items → ⊥) → (x : Taking) → x.first ≡ line_of sys line → IsNoStepsStop sys x.first new.line.items
+    quiet (inl far) x first = no_steps_stop rows ahead passed new left reads own far x first
+    quiet (inr other) x first = λ basic kind stop. other (stop ∙ ap (steps_stop sys) first)
+
+    -- the trace stops there for its steps, but too many were used before
+    wrong_many : (steps k : ℕ) → IsTooMany sys steps takings k → IsOwnStop sys line new.line.items → IsWrongLine sys steps (record { number = new.number; finding = why.Excess k }) new.line.items text
+    wrong_many steps k many is =
+        wrong_after rows ahead passed new left reads own steps (record { number = new.number; finding = why.Excess k }) refl
+        (inr
+        (inr
+        (record {
+          number = k;
+          many = many;
+          tick = line.key.tick;
+          resource = line.key.resource;
+          can = (at.is.line.range.tick, at.is.line.belongs.resource);
+          is = is;
+          near = λ none no_line. absurd (some_begun no_line);
+          found = refl;
+        })))
+      where
+        some_begun : map (line_of sys) (line ∷ passed) ≡ [] → ⊥
+        some_begun e = cc
+
   -- a line is wrong where each resource has the greatest limit
   pub wrong_freely :
-      (steps : ℕ) (n : Refusal) (rows : List Line) (new : Reading) (left : List ℕ) → AreAhead sys form line rows a.text.items a.last.items rest → IsNotNear sys line a.last.items
-      → FailsBy (IsTaking sys most seen_last) (IsUnstarted sys most seen_last line) sys form line w.trail.reading new (Some a.text.items) (Some left) n → IsWrongLine sys steps n new.line.items text
+      (steps : ℕ) (n : Refusal) (rows : List Line) (new : Reading) (left : List ℕ) (excess : Option ℕ) (error : WalkError) → AreAhead sys form line rows a.text.items a.last.items rest → Watches sys steps takings excess → IsFree steps
+      → BlamesSteps sys line excess new n.finding error
+      → FailsBy (IsTaking sys most seen_last) (IsUnstarted sys most seen_last line) sys form line w.trail.reading new (Some a.text.items) (Some left) n → Refuses (λ r. IsWrongLine sys steps r new.line.items text) error
   unfolding otherwise
-  wrong_freely steps n rows new left ahead far (inl none) =
-      subst (λ (r : Reading). IsWrongLine sys steps n r.line.items text) (sym none.same)
-      (wrong_here steps n none.number_is (inl (inl (refl, begins_nothing (IsTaking sys most seen_last) (IsUnstarted sys most seen_last) n.finding none.none none.found))))
-  wrong_freely steps n rows new left ahead far (inr fails) =
+  wrong_freely steps n rows new left excess error ahead watches free (inl blames) (inl none) =
+      absurd (line_not_last sys form line (AtStop line.key.tick line.key.resource Steps) at.is.line (sym at.is.is ∙ ap (λ (r : Reading). r.line.items) (sym none.same) ∙ blames.2))
+  wrong_freely steps n rows new left excess error ahead watches free (inr blames) (inl none) =
+      of_refusal (λ r. IsWrongLine sys steps r new.line.items text) error (record { number = new.number; finding = n.finding }) blames.1
+      (subst (λ (r : Reading). IsWrongLine sys steps (record { number = r.number; finding = n.finding }) r.line.items text) (sym none.same)
+      (wrong_here steps (record { number = w.trail.reading.number; finding = n.finding }) refl
+      (inl (inl (refl, begins_nothing (IsTaking sys most seen_last) (IsUnstarted sys most seen_last) n.finding none.none none.found)))))
+  wrong_freely steps n rows new left excess error ahead watches free (inl blames) (inr fails) =
       let own = own_of (IsTaking sys most seen_last) new (Some a.text.items) (Some left) n fails in
-      wrong_after rows ahead fails.passed new left fails.reads own steps n fails.number_is
+      of_refusal (λ r. IsWrongLine sys steps r new.line.items text) error (record { number = new.number; finding = why.Excess blames.0 }) blames.3
+      (wrong_many rows ahead fails.passed new left fails.reads own steps blames.0 (subst (Watches sys steps takings) blames.1 watches) blames.2)
+  wrong_freely steps n rows new left excess error ahead watches free (inr blames) (inr fails) =
+      let own = own_of (IsTaking sys most seen_last) new (Some a.text.items) (Some left) n fails in
+      of_refusal (λ r. IsWrongLine sys steps r new.line.items text) error (record { number = new.number; finding = n.finding }) blames.1
+      (wrong_after rows ahead fails.passed new left fails.reads own steps (record { number = new.number; finding = n.finding }) refl
       (inl (inr (inr (inl (
         otherwise (IsTaking sys most seen_last) new (Some a.text.items) (Some left) n fails,
-        no_steps_stop rows ahead fails.passed new left fails.reads own far fails.taking (first_is fails.taking fails.passed (fails.next ∷ fails.more) fails.parts),
-      )))))
+        quiet rows ahead fails.passed new left fails.reads own (quiet_by steps excess excess watches (λ k e. e) new free blames.0) fails.taking
+            (first_is fails.taking fails.passed (fails.next ∷ fails.more) fails.parts),
+      ))))))
 
   -- ---- After the taking
 
@@ -343,9 +427,9 @@ module _ (t : PortTable) (form : Form) (takings : List Taking) (w : Walk) (a : A
 
     -- the walk stands at the next line
     pub stands_on :
-        (b : Ahead) → b.text.items ≡ left → b.last ≡ a.last → IsNotNear sys line a.last.items → x.stop ≡ None → IsTaking sys most seen_last x → IsLookOf sys done.blocks.items done.steps.items x.after
+        (b : Ahead) → b.text.items ≡ left → b.last ≡ a.last → x.stop ≡ None → IsTaking sys most seen_last x → IsLookOf sys done.blocks.items done.steps.items x.after
         → IsNext sys form line.key.tick done.trail.reading.line.items done.trail.reading.next → StandsOn sys form (takings ++ x ∷ []) done b.text.items b.last.items rest text
-    stands_on b text_same last_same far stop taking look next =
+    stands_on b text_same last_same stop taking look next =
         let before = lines ++ (line ∷ passed) in
         record {
           stands = record {
@@ -362,9 +446,6 @@ module _ (t : PortTable) (form : Form) (takings : List Taking) (w : Walk) (a : A
             alone = front_alone sys form at.names line done.trail.reading.line.items left a.last.items rest ahead.alone (front_is rows ahead passed done.trail.reading left reads own)
                 ∙ ap (λ (u : List ℕ). take_through 10 (done.trail.reading.line.items ++ (u ++ rest))) (sym text_same);
             formed = at.stands.formed;
-            near = λ front z e.
-                subst (λ (y : Taking). IsNoStepsStop sys y.first done.trail.reading.line.items) (last_same_taking takings front x z e)
-                (no_steps_stop rows ahead passed done.trail.reading left reads own far x first);
             after = λ m is.
                 subst (λ (u : List ℕ). MayBeAhead sys form m u b.last.items rest) (sym text_same)
                 (subst (λ (v : List ℕ). MayBeAhead sys form m left v rest) (ap (λ (v : Vec ℕ). v.items) (sym last_same))
@@ -373,15 +454,36 @@ module _ (t : PortTable) (form : Form) (takings : List Taking) (w : Walk) (a : A
           next = subst (λ (k : ℕ). IsNext sys form k done.trail.reading.line.items done.trail.reading.next) (sym (tick_is rows ahead passed done.trail.reading left reads own)) next;
         }
 
+    -- the next line is not the stop of its resource for its steps, or too many were used before
+    pub near_on : (steps : ℕ) → IsFree steps → IsNoLastStop sys steps (takings ++ x ∷ []) done.trail.reading.line.items
+    near_on steps (inl far) front z e kept =
+        subst (λ (y : Taking). IsNoStepsStop sys y.first done.trail.reading.line.items) (last_same_taking takings front x z e)
+        (no_steps_stop rows ahead passed done.trail.reading left reads own far x first)
+    near_on steps (inr over) front z e kept = absurd (over (subst (λ (ts : List Taking). KeepSteps sys steps (last_look (opening_look sys) ts)) (sym (front_same takings front x z e)) kept))
+
     -- a taking stops its resource, and the next line says something else
     pub wrong_stop :
-        (steps : ℕ) (n : Refusal) (reason : Reason) → n ≡ record { number = done.trail.reading.number; finding = why.Stops reason } → x.stop ≡ Some reason → IsTaking sys most seen_last x → IsNotNear sys line a.last.items
+        (steps : ℕ) (reason : Reason) (old excess : Option ℕ) (error : WalkError) → Watches sys steps takings old → ((k : ℕ) → old ≡ Some k → excess ≡ Some k) → IsFree steps
+        → BlamesSteps sys line excess done.trail.reading (why.Stops reason) error → x.stop ≡ Some reason → IsTaking sys most seen_last x
         → ((reason ≡ Steps → ⊥) → done.trail.reading.line.items ≡ last_line sys (AtStop line.key.tick line.key.resource reason) → ⊥) → (reason ≡ Steps) ⊎ (reason ≡ Steps → ⊥)
-        → IsWrongLine sys steps n done.trail.reading.line.items text
-    wrong_stop steps n reason is stop taking far other which =
-        let none_near = no_steps_stop rows ahead passed done.trail.reading left reads own far x first in
+        → Refuses (λ n. IsWrongLine sys steps n done.trail.reading.line.items text) error
+    wrong_stop steps reason old excess error watches keeps free (inl blames) stop taking other which =
+        of_refusal (λ n. IsWrongLine sys steps n done.trail.reading.line.items text) error (record { number = done.trail.reading.number; finding = why.Excess blames.0 }) blames.3
+        (wrong_many rows ahead passed done.trail.reading left reads own steps blames.0 (many free) blames.2)
+      where
+        many : IsFree steps → IsTooMany sys steps takings blames.0
+        many (inl far) =
+            let basic = stops_basic sys most seen_last x reason stop taking in
+            absurd (no_steps_stop rows ahead passed done.trail.reading left reads own far x first basic.0 basic.1 (blames.2 ∙ ap (steps_stop sys) (sym first)))
+        many (inr over) =
+            let all = over_watched steps old excess watches keeps over in
+            same_number steps old excess watches keeps all.0 blames.0 all.1 blames.1 all.2
+    wrong_stop steps reason old excess error watches keeps free (inr blames) stop taking other which =
+        let none_near = quiet rows ahead passed done.trail.reading left reads own (quiet_by steps old excess watches keeps done.trail.reading free blames.0) x first in
         let basic = stops_basic sys most seen_last x reason stop taking in
-        wrong_after rows ahead passed done.trail.reading left reads own steps n (ap (λ (r : Refusal). r.number) is)
+        let n : Refusal = record { number = done.trail.reading.number; finding = why.Stops reason } in
+        of_refusal (λ n. IsWrongLine sys steps n done.trail.reading.line.items text) error n blames.1
+        (wrong_after rows ahead passed done.trail.reading left reads own steps n refl
         (inl (inr (inr (inr (
           record {
             taking = x;
@@ -389,11 +491,11 @@ module _ (t : PortTable) (form : Form) (takings : List Taking) (w : Walk) (a : A
             lines_are = sym taking_is;
             reason = reason;
             stop = stop;
-            found = ap (λ (r : Refusal). r.finding) is;
+            found = refl;
             other = λ says. by which basic (says ∙ ap (λ (m : model.Line). last_line sys (AtStop m.key.tick m.key.resource reason)) first) says none_near;
           },
           none_near,
-        )))))
+        ))))))
       where
         by : (reason ≡ Steps) ⊎ (reason ≡ Steps → ⊥) → (y : BasicType) × (sys.kind x.first.at ≡ Some (Basic y)) → done.trail.reading.line.items ≡ last_line sys (AtStop line.key.tick line.key.resource reason)
             → done.trail.reading.line.items ≡ last_line sys (AtStop x.first.key.tick x.first.key.resource reason) → IsNoStepsStop sys x.first done.trail.reading.line.items → ⊥
@@ -418,7 +520,7 @@ module _ (t : PortTable) (form : Form) (takings : List Taking) (w : Walk) (a : A
       }
 
   -- a taking whose resource has the greatest limit, after which the next line is known
-  module _ (rows : List Line) (ahead : AreAhead sys form line rows a.text.items a.last.items rest) (far : IsNotNear sys line a.last.items) (types : List BlockType) (limit : ℕ) (most_is : limit ≡ most)
+  module _ (rows : List Line) (ahead : AreAhead sys form line rows a.text.items a.last.items rest) (steps : ℕ) (free : IsFree steps) (types : List BlockType) (limit : ℕ) (most_is : limit ≡ most)
       (done : Walk) (b : Ahead) (stop : Option Reason) (goes_so : WalkTakes types sys form limit seen_last line stop w done (unread a (Some [])) (unread b (Some [])))
       (alone : IsAlone w.trail.reading.line.items (Some a.text.items) → IsAlone done.trail.reading.line.items (Some b.text.items)) (last_same : b.last ≡ a.last)
       (next_is : IsNext sys form line.key.tick done.trail.reading.line.items done.trail.reading.next) where
@@ -430,37 +532,27 @@ module _ (t : PortTable) (form : Form) (takings : List Taking) (w : Walk) (a : A
     all =
         reads_first goes.taking goes.first_is done.trail.reading b.text.items goes.lines goes.lines_are (goes_reads types most seen_last stop w done b refl goes alone)
 
-    pub freely_on : stop ≡ None → TakesOne sys form takings done b.text.items b.last.items line rest text
+    pub freely_on : stop ≡ None → TakesOne sys form steps takings done b.text.items b.last.items line rest text
     freely_on none = record {
       taking = goes.taking;
       first_is = goes.first_is;
       taking_is = goes.is_taking;
-      on = stands_on rows ahead goes.taking goes.first_is done b.text.items all.0 all.1 all.2 b refl last_same far (goes.stop_is ∙ none) goes.is_taking goes.look_after next_is;
+      on = stands_on rows ahead goes.taking goes.first_is done b.text.items all.0 all.1 all.2 b refl last_same (goes.stop_is ∙ none) goes.is_taking goes.look_after next_is;
+      near = near_on rows ahead goes.taking goes.first_is done b.text.items all.0 all.1 all.2 steps free;
     }
 
     pub freely_stop :
-        (steps : ℕ) (n : Refusal) (reason : Reason) → n ≡ record { number = done.trail.reading.number; finding = why.Stops reason } → stop ≡ Some reason → (reason ≡ Steps) ⊎ (reason ≡ Steps → ⊥)
+        (reason : Reason) (old excess : Option ℕ) (error : WalkError) → Watches sys steps takings old → ((k : ℕ) → old ≡ Some k → excess ≡ Some k)
+        → BlamesSteps sys line excess done.trail.reading (why.Stops reason) error → stop ≡ Some reason → (reason ≡ Steps) ⊎ (reason ≡ Steps → ⊥)
         → ((reason ≡ Steps → ⊥) → done.trail.reading.next ≡ next.End (Stop (record { tick = line.key.tick; resource = line.key.resource; reason = reason })) → ⊥)
-        → IsWrongLine sys steps n done.trail.reading.line.items text
-    freely_stop steps n reason refused stops which other =
-        wrong_stop rows ahead goes.taking goes.first_is done b.text.items all.0 all.1 all.2 steps n reason refused (goes.stop_is ∙ stops) goes.is_taking far
+        → Refuses (λ n. IsWrongLine sys steps n done.trail.reading.line.items text) error
+    freely_stop reason old excess error watches keeps blames stops which other =
+        wrong_stop rows ahead goes.taking goes.first_is done b.text.items all.0 all.1 all.2 steps reason old excess error watches keeps free blames (goes.stop_is ∙ stops) goes.is_taking
         (λ not is.
         no_stop_text sys form at.names at.apart line.key.tick done.trail.reading.line.items done.trail.reading.next line.key.tick line.key.resource reason next_is (omega arith)
         (at.is.line.range.tick, at.is.line.belongs.resource) (other not) is) which
 
 -- ---- Where lines are read ahead
-
-pub at_ahead :
-    (sys : System) (form : Form) (takings : List Taking) (w : Walk) (a b : Ahead) (line : Line) (rest text : List ℕ) → b.text ≡ a.text → b.last ≡ a.last → StandsAt sys form takings w a.text.items a.last.items line rest text
-    → StandsAt sys form takings w b.text.items b.last.items line rest text
-at_ahead sys form takings w a b line rest text one two at =
-    subst (λ (v : Vec ℕ). StandsAt sys form takings w b.text.items v.items line rest text) (sym two) (subst (λ (v : Vec ℕ). StandsAt sys form takings w v.items a.last.items line rest text) (sym one) at)
-
-pub ahead_ahead :
-    (sys : System) (form : Form) (a b : Ahead) (line : Line) (rows : List Line) (rest : List ℕ) → b.text ≡ a.text → b.last ≡ a.last → AreAhead sys form line rows a.text.items a.last.items rest
-    → AreAhead sys form line rows b.text.items b.last.items rest
-ahead_ahead sys form a b line rows rest one two at =
-    subst (λ (v : Vec ℕ). AreAhead sys form line rows b.text.items v.items rest) (sym two) (subst (λ (v : Vec ℕ). AreAhead sys form line rows v.items a.last.items rest) (sym one) at)
 
 -- more lines were read ahead of the next one
 pub at_look :
@@ -481,7 +573,6 @@ at_look t form takings w line ahead last rest text at rows whole new left same i
         is = at.stands.is ∙ ap (λ (u : List ℕ). lines_text form sys (map (line_of sys) at.stands.lines) ++ (w.trail.reading.line.items ++ u)) same;
         alone = at.stands.alone ∙ ap (λ (u : List ℕ). take_through 10 (w.trail.reading.line.items ++ u)) same;
         formed = at.stands.formed;
-        near = at.stands.near;
         after = λ m text_is.
             let once = line_once t at.names form line m w.trail.reading.line.items at.is text_is in
             inr (
@@ -513,7 +604,7 @@ pub watched_step :
     (sys : System) (form : Form) (steps : ℕ) (takings : List Taking) (w : Walk) (b c : Ahead) (line : Line) (rest text : List ℕ) (step : Step) → c.text ≡ b.text → c.last ≡ b.last
     → StandsAfter sys form steps takings w b.text.items b.last.items line rest text (Ok step)
     → ((x : Taking) → x.first ≡ line_of sys line → IsTaking sys most (last_look (opening_look sys) takings) x → IsLookOf sys w.blocks.items w.steps.items x.after
-    → Watches sys form steps (takings ++ x ∷ []) c.watched.number c.watched.text.items c.watched.is_excess)
+    → Watches sys steps (takings ++ x ∷ []) c.excess)
     → GoesAfter sys form steps w c (Some rest) text (Ok step)
 watched_step sys form steps takings w b c line rest text Taken one two after watched = (
   rest,
@@ -522,6 +613,7 @@ watched_step sys form steps takings w b c line rest text Taken one two after wat
     takings = takings ++ after.taking ∷ [];
     on = subst (λ (v : Vec ℕ). StandsOn sys form (takings ++ after.taking ∷ []) w c.text.items v.items rest text) (sym two)
         (subst (λ (v : Vec ℕ). StandsOn sys form (takings ++ after.taking ∷ []) w v.items b.last.items rest text) (sym one) after.on);
+    near = after.near;
     watched = watched after.taking after.first_is after.taking_is
         (subst (λ (k : Look). IsLookOf sys w.blocks.items w.steps.items k) (look_more (opening_look sys) takings after.taking) after.on.stands.look);
   },

@@ -1,13 +1,11 @@
 -- The event after which a trace may stop for its steps: which line is wrong where it does not.
-use Rattle.fb_inspect.proofs.lemmas.Common.{◌≡◌, ◌⊎◌, ℕ, Bool, true, false, List, [], ◌∷◌, ◌++◌, map, Option, Some, None, refl, sym, ap, subst, ◌∙◌, inl, inr, append_assoc, All-cons, system_of, line_of, System, line_text, lines_text, BlockType, Form, Line, Reason, Steps, IsLineOf, PortTable, KeepSteps, KeepsLimit, all_lines, last_look, limited, IsAlone, IsTaking, Look, Taking, left_at, opening_look, FailsBy, IsUnstarted, IsWrongLine, Finding, Refusal, Refuses, steps_stop, AreAhead, Watches, WalkTakes, unread, Ahead, WalkError, Refused, Reading, Walk}
+use Rattle.fb_inspect.proofs.lemmas.Common.{◌≡◌, ◌⊎◌, ℕ, List, [], ◌∷◌, ◌++◌, map, Option, Some, None, refl, sym, ap, subst, ◌∙◌, inl, inr, append_assoc, system_of, line_of, System, line_text, lines_text, BlockType, Form, Line, Reason, Steps, PortTable, KeepsLimit, all_lines, last_look, limited, IsAlone, IsTaking, Look, Taking, left_at, opening_look, FailsBy, IsUnstarted, IsWrongLine, Finding, Refusal, steps_stop, AreAhead, WalkTakes, unread, Ahead, Reading, Walk}
 use Rattle.fb_types.specs.States as model
 use Rattle.fb_inspect.specs.Refusals.{IsEndFound, StopsSoon}
 use Rattle.fb_inspect.specs.declared.refused.finding.Finding.TheVariants as why
 use Rattle.fb_inspect.specs.walk.Standing.{IsNear, StandsAt}
 use Rattle.fb_inspect.proofs.lemmas.lines.Moving.{lines-append}
-use Rattle.fb_inspect.proofs.lemmas.results.Errors.{of_refusal}
 use Rattle.fb_inspect.proofs.lemmas.walk.StandsAfter.{begins_nothing, goes_reads, otherwise, own, own_of, reads_first, taking_is, wrong_after, wrong_here}
-use Rattle.fb_inspect.proofs.lemmas.walk.Watched.{too_many_wrong}
 
 pub stop_same : (a b : Option Reason) (P : Type 0) → a ≡ b → (a ≡ Some Steps) ⊎ ((a ≡ None) × P) → (b ≡ Some Steps) ⊎ ((b ≡ None) × P)
 stop_same a b P same (inl stops) = inl (sym same ∙ stops)
@@ -63,18 +61,6 @@ module _ (t : PortTable) (form : Form) (takings : List Taking) (w : Walk) (a : A
       → IsWrongLine sys steps n w.trail.reading.line.items text
   last_limit n is over =
       wrong_here t form takings w a line rest text at steps n (ap (λ (r : Refusal). r.number) is) (inr (inl (line, soon, inl (refl, over, ap (λ (r : Refusal). r.finding) is))))
-
-  -- some resource had used more than the steps in some tick
-  pub last_kept :
-      (e : Bool) (k : ℕ) (event : List ℕ) → Watches sys form steps takings k event e → (KeepSteps sys steps look → ⊥) → (error : WalkError)
-      → (e ≡ true → error ≡ Refused (record { number = k; finding = why.NoStep })) → (lent : List ℕ) → (e ≡ true → lent ≡ event)
-      → Refuses (λ n. IsWrongLine sys steps n lent text) error
-  last_kept true k event many over error is lent at_event =
-      of_refusal (λ n. IsWrongLine sys steps n lent text) error (record { number = k; finding = why.NoStep }) (is refl)
-      (subst (λ (u : List ℕ). IsWrongLine sys steps (record { number = k; finding = why.NoStep }) u text) (sym (at_event refl))
-      (too_many_wrong sys form at.names steps takings w a.text.items a.last.items rest text at.stands k event many (line ∷ rows) (All-cons (IsLineOf sys) line rows at.is.line (λ n d h. (ahead.each n d h).line)) line.key.tick line.key.resource
-      (at.is.line.range.tick, at.is.line.belongs.resource) rest whole (λ front z e none. absurd (cc))))
-  last_kept false k event kept over error is lent at_event = absurd (over kept)
 
   -- the next line, or one after it, is not that of the taking
   pub last_fails :

@@ -1,5 +1,5 @@
 -- A walk that stands at the next line, whatever comes after what was read.
-use Rattle.fb_inspect.proofs.lemmas.Common.{◌≡◌, ◌⊎◌, ◌+◌, ℕ, Bool, false, List, [], ◌∷◌, ◌++◌, Option, Some, Result, Ok, Err, refl, sym, ap, subst, ◌∙◌, inl, inr, append_assoc, append-nil, arith, take_through, system_of, System, Form, Line, IsTextOf, HasNames, PortTable, is_unended, Selection, IsNext, Taking, opening_look, AreAhead, BeginsText, GoesAfter, StandsWell, Watches, IsLookOf, Starts, Ahead, WalkError, Refused, Next, Page, Trail, Walk, Step, Ended, Marks}
+use Rattle.fb_inspect.proofs.lemmas.Common.{◌≡◌, ◌⊎◌, ◌+◌, ℕ, false, List, [], ◌∷◌, ◌++◌, Option, Some, Result, Ok, Err, refl, sym, ap, subst, ◌∙◌, inl, inr, append_assoc, append-nil, arith, take_through, system_of, System, Form, Line, IsTextOf, HasNames, PortTable, is_unended, Selection, IsNext, Taking, opening_look, AreAhead, BeginsText, GoesAfter, StandsWell, Watches, IsLookOf, Starts, Ahead, WalkError, Refused, Next, Page, Trail, Walk, Step, Ended, Marks}
 use Rattle.fb_wave.specs.CutOff.{IsUncut}
 use Rattle.fb_wave.proofs.lemmas.Severed.{feeds, feeds-append}
 use Rattle.fb_inspect.specs.Refusals.{IsAfterLast}
@@ -17,8 +17,8 @@ module _ (sys : System) (form : Form) (steps : ℕ) where
   -- ---- The first line
 
   begins_so :
-      (line rest text : List ℕ) (is_excess : Bool) → BeginsText sys form line is_excess rest text → is_unended line ≡ false → (left : List ℕ) → BeginsText sys form line is_excess left (line ++ left)
-  begins_so line rest text is_excess begins ended left =
+      (line rest text : List ℕ) (excess : Option ℕ) → BeginsText sys form line excess rest text → is_unended line ≡ false → (left : List ℕ) → BeginsText sys form line excess left (line ++ left)
+  begins_so line rest text excess begins ended left =
       let alone = ended_alone line rest left (begins.alone ∙ ap (take_through 10) begins.is) ended in
       record {
         is = refl;
@@ -29,18 +29,18 @@ module _ (sys : System) (form : Form) (steps : ℕ) where
 
   pub whole_opens :
       (w : Walk) (a : Ahead) (rest text : List ℕ) → IsLookOf sys w.blocks.items w.steps.items (opening_look sys) → w.trail.reading.number ≡ 1 → IsNext sys form 0 w.trail.reading.line.items w.trail.reading.next
-      → a.text.items ≡ [] → BeginsText sys form w.trail.reading.line.items a.watched.is_excess rest text → is_unended w.trail.reading.line.items ≡ false → StandsWhole sys form steps w a rest text
+      → a.text.items ≡ [] → BeginsText sys form w.trail.reading.line.items a.excess rest text → is_unended w.trail.reading.line.items ≡ false → StandsWhole sys form steps w a rest text
   whole_opens w a rest text look number next empty begins ended =
       let line = w.trail.reading.line.items in
       record {
         front = line;
         ended = ended;
         is = begins.is;
-        stands = λ left. well_opens sys form steps w a left (line ++ left) look number next empty (begins_so line rest text a.watched.is_excess begins ended left);
+        stands = λ left. well_opens sys form steps w a left (line ++ left) look number next empty (begins_so line rest text a.excess begins ended left);
       }
 
   pub whole_first :
-      (what : Selection) (w : Walk) (a : Ahead) (rest text : List ℕ) → Starts sys form what w → a.text.items ≡ [] → BeginsText sys form w.trail.reading.line.items a.watched.is_excess rest text
+      (what : Selection) (w : Walk) (a : Ahead) (rest text : List ℕ) → Starts sys form what w → a.text.items ≡ [] → BeginsText sys form w.trail.reading.line.items a.excess rest text
       → is_unended w.trail.reading.line.items ≡ false → StandsWhole sys form steps w a rest text
   whole_first what w a rest text starts empty begins ended =
       whole_opens w a rest text (record { are = starts.blocks; counts = starts.steps.all; lefts = λ r s at. sym (starts.steps.each r s at) }) starts.first starts.next empty begins ended
@@ -135,7 +135,7 @@ module _ (t : PortTable) (form : Form) (steps : ℕ) (w : Walk) (a b : Ahead) (l
   pub step_whole :
       left_after ≡ Some read.left.0
       → ((takings : List Taking) (left all : List ℕ) (rows : List Line) → StandsAt sys form takings w a.text.items a.last.items line (read.more ++ left) all → StandsAt sys form takings w b.text.items b.last.items line left all
-      → Watches sys form steps takings a.watched.number a.watched.text.items a.watched.is_excess → AreAhead sys form line rows b.text.items b.last.items left
+      → Watches sys steps takings a.excess → AreAhead sys form line rows b.text.items b.last.items left
       → GoesAfter sys form steps done c (Some left) all r)
       → GoesWhole sys form steps done c left_after text r
   step_whole known goes =

@@ -1,5 +1,5 @@
 -- A walk from its first line to the line that is refused.
-use Rattle.fb_inspect.proofs.lemmas.Common.{◌≡◌, ◌<◌, ℕ, ◌+◌, Bool, false, List, [], ◌∷◌, ◌++◌, length, map, Option, Some, None, refl, sym, ap, subst, ◌∙◌, inl, arith, IfSome, take_through, Consumes, All-nil, line_of, System, lines_text, BlockType, Form, ending_of, Outcome, Marks, last_tick, IsLineOf, Selection, IsNext, Taking, opening_look, BeginsText, IsLeft, StandsWell, Watches, IsLookOf, Starts, Ahead, Page, Trail, Walk, IsFirstLine, HasNames}
+use Rattle.fb_inspect.proofs.lemmas.Common.{◌≡◌, ◌<◌, ℕ, ◌+◌, List, [], ◌∷◌, ◌++◌, length, map, Option, Some, None, refl, sym, ap, subst, ◌∙◌, inl, arith, IfSome, take_through, Consumes, All-nil, line_of, System, lines_text, BlockType, Form, ending_of, Outcome, Marks, last_tick, IsLineOf, Selection, IsNext, Taking, opening_look, BeginsText, IsLeft, StandsWell, Watches, IsLookOf, Starts, Ahead, Page, Trail, Walk, IsFirstLine, HasNames}
 use Rattle.fb_inspect.specs.Refusals.{IsAfterLast}
 use Rattle.fb_inspect.specs.walk.Walking.{IsComplete}
 use Rattle.fb_inspect.specs.declared.walk.trail.PassedLines.{PassedLines}
@@ -9,7 +9,7 @@ use Rattle.fb_wave.proofs.lemmas.Forming.{ShowsForm, form_shown}
 -- the walk stands at the first line
 pub well_opens :
     (sys : System) (form : Form) (steps : ℕ) (w : Walk) (a : Ahead) (rest text : List ℕ) → IsLookOf sys w.blocks.items w.steps.items (opening_look sys) → w.trail.reading.number ≡ 1
-    → IsNext sys form 0 w.trail.reading.line.items w.trail.reading.next → a.text.items ≡ [] → BeginsText sys form w.trail.reading.line.items a.watched.is_excess rest text → StandsWell sys form steps w a rest text
+    → IsNext sys form 0 w.trail.reading.line.items w.trail.reading.next → a.text.items ≡ [] → BeginsText sys form w.trail.reading.line.items a.excess rest text → StandsWell sys form steps w a rest text
 well_opens sys form steps w a rest text look number next empty begins =
     let line = w.trail.reading.line.items in
     let whole : text ≡ line ++ (a.text.items ++ rest) = begins.is ∙ ap (λ (u : List ℕ). line ++ (u ++ rest)) (sym empty) in
@@ -27,12 +27,12 @@ well_opens sys form steps w a rest text look number next empty begins =
           is = whole;
           alone = begins.alone ∙ ap (take_through 10) whole;
           formed = begins.formed;
-          near = λ front x e. absurd (some front x e);
           after = λ m is. inl empty;
         };
         next = next;
       };
-      watched = subst (Watches sys form steps [] a.watched.number a.watched.text.items) (sym begins.unwatched) (λ r within. omega arith);
+      near = λ front x e. absurd (some front x e);
+      watched = subst (Watches sys steps []) (sym begins.unwatched) (λ r within. omega arith);
     }
   where
     some : (front : List Taking) (x : Taking) → [] ≡ front ++ x ∷ [] → ⊥
@@ -41,7 +41,7 @@ well_opens sys form steps w a rest text look number next empty begins =
 
 pub well_first :
     (sys : System) (form : Form) (what : Selection) (steps : ℕ) (w : Walk) (a : Ahead) (rest text : List ℕ) → Starts sys form what w → a.text.items ≡ []
-    → BeginsText sys form w.trail.reading.line.items a.watched.is_excess rest text → StandsWell sys form steps w a rest text
+    → BeginsText sys form w.trail.reading.line.items a.excess rest text → StandsWell sys form steps w a rest text
 well_first sys form what steps w a rest text starts empty begins =
     well_opens sys form steps w a rest text (record { are = starts.blocks; counts = starts.steps.all; lefts = λ r s at. sym (starts.steps.each r s at) }) starts.first starts.next empty begins
 
@@ -49,7 +49,7 @@ well_first sys form what steps w a rest text starts empty begins =
 pub well_flushed :
     (sys : System) (form : Form) (steps : ℕ) (w : Walk) (page : Page) (a : Ahead) (rest text : List ℕ) → StandsWell sys form steps w a rest text
     → StandsWell sys form steps (record w { trail = record (w.trail) { page = page } }) a rest text
-well_flushed sys form steps w page a rest text well = record { takings = well.takings; on = record { stands = well.on.stands; next = well.on.next }; watched = well.watched }
+well_flushed sys form steps w page a rest text well = record { takings = well.takings; on = record { stands = well.on.stands; next = well.on.next }; near = well.near; watched = well.watched }
 
 -- more than the last line is left
 pub after_last :
@@ -82,7 +82,7 @@ after_last types first sys form what steps w end text (Some rest) old mid n comp
 
 -- the first line of a text that is known
 pub text_begins :
-    (sys : System) (form : Form) (line : List ℕ) (e : Bool) (text : List ℕ) (input after : Option (List ℕ)) → HasNames sys → input ≡ Some text → Consumes input after line → IsFirstLine line input → ShowsForm form line → e ≡ false
+    (sys : System) (form : Form) (line : List ℕ) (e : Option ℕ) (text : List ℕ) (input after : Option (List ℕ)) → HasNames sys → input ≡ Some text → Consumes input after line → IsFirstLine line input → ShowsForm form line → e ≡ None
     → IsLeft after (λ rest. BeginsText sys form line e rest text)
 text_begins sys form line e text None after names known read first shows unwatched = absurd (cc)
 text_begins sys form line e text (Some t) None names known read first shows unwatched = absurd read
@@ -105,4 +105,4 @@ pub well_aside :
     → StandsWell sys form steps w a rest text → StandsWell sys form steps (record w { trail = t }) a rest text
 well_aside sys form steps w t passed marks a rest text is well =
     subst (λ (v : Trail). StandsWell sys form steps (record w { trail = v }) a rest text) (sym is)
-    (record { takings = well.takings; on = record { stands = well.on.stands; next = well.on.next }; watched = well.watched })
+    (record { takings = well.takings; on = record { stands = well.on.stands; next = well.on.next }; near = well.near; watched = well.watched })

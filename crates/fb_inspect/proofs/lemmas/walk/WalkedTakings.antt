@@ -5,8 +5,7 @@ use Rattle.fb_inspect.specs.Inspections.{all_text}
 use Rattle.fb_inspect.specs.Selections.{is_during, is_kept, is_shown, is_shown_at, is_wanted}
 use Rattle.fb_inspect.specs.walk.Looks.{taking_text}
 use Rattle.fb_inspect.specs.Markings.{TakingMarks, TakingsMark, lines_marked}
-use Rattle.fb_wave.specs.Pages.{IsFlushed}
-use Rattle.fb_inspect.specs.walk.Walking.{AreMarked, HasGone, IsGone, ShowsOf, shows}
+use Rattle.fb_inspect.specs.walk.Walking.{AreMarked, HasGone, IsGone, ShowsOf, shows, HasFlushed}
 use Rattle.fb_inspect.specs.declared.filter.EventFilter.{EventFilter}
 use Rattle.fb_inspect.specs.declared.filter.Shown.{Shown}
 use Rattle.fb_inspect.proofs.lemmas.lines.Moving.{lines-append, marked-append, next_line}
@@ -200,8 +199,8 @@ module _ (sys : System) (form : Form) (what : Selection) (steps : ℕ) where
   -- a part of what waited was sent
   pub flushed_on :
       (types : List BlockType) (first : Marks) (walk : Walk) (page : Page) (input remaining old mid out : Option (List ℕ)) → HasCovered types first sys form what steps walk input remaining old mid
-      → IsFlushed mid out walk.trail.page page → HasCovered types first sys form what steps (record walk { trail = record (walk.trail) { page = page } }) input remaining old out
-  flushed_on types first walk page input remaining old mid out covered flushed =
+      → (count : ℕ) → HasFlushed count mid out walk.trail.page.text.items page.text.items → HasCovered types first sys form what steps (record walk { trail = record (walk.trail) { page = page } }) input remaining old out
+  flushed_on types first walk page input remaining old mid out covered count flushed =
       let gone = covered.gone.gone in
       record {
         gone = record {

@@ -1,4 +1,4 @@
-use Rattle.fb_inspect.proofs.lemmas.Common.{◌≡◌, List, ℕ, Bool, true, false, sym, ◌∙◌, subst, system_of, is_unended, BeginsText, IfErr, IsWrongFor, Refuses}
+use Rattle.fb_inspect.proofs.lemmas.Common.{◌≡◌, List, ℕ, Option, true, false, sym, ◌∙◌, subst, system_of, is_unended, BeginsText, IfErr, IsWrongFor, Refuses}
 use Rattle.fb_wave.proofs.lemmas.Handing.{on_ok}
 use Rattle.fb_wave.proofs.lemmas.Severed.{cut_there, uncut_line}
 use Rattle.fb_inspect.proofs.lemmas.dump.Ending.{cut_done, cut_none, cut_part, front_none, shown_cut}
@@ -58,7 +58,7 @@ returns-clause-refused g c = λ rest text few names known told.
     let fixed = c.args.fixed.now in
     let sys = system_of fixed.table.now.system.now in
     let walk = c.args.wave.now.walk in
-    let own = subst (λ (e : Bool). BeginsText sys fixed.form walk.trail.reading.line.items e rest text) (sym c.in_ok-ahead.ensures.watched) told in
+    let own = subst (λ (e : Option ℕ). BeginsText sys fixed.form walk.trail.reading.line.items e rest text) (sym c.in_ok-ahead.ensures.excess) told in
     subst (λ (l : CurrentLine). IfErr c.go-gone.result (Refuses (λ n. IsWrongFor sys c.args.terms.steps n l.text.items text))) (sym c.lend.ensures.line)
     (c.go-gone.ensures.refused rest text few names known
     (well_opens sys fixed.form c.args.terms.steps walk c.in_ok-ahead.ahead rest text c.requires.begins.look c.requires.first c.requires.next c.in_ok-ahead.ensures.empty own) told.is)
@@ -74,8 +74,22 @@ returns-clause-uncut g c = λ rest text few names known told allowed.
     let sys = system_of fixed.table.now.system.now in
     let walk = c.args.wave.now.walk in
     let line = walk.trail.reading.line.items in
-    let own = subst (λ (e : Bool). BeginsText sys fixed.form line e rest text) (sym c.in_ok-ahead.ensures.watched) told in
+    let own = subst (λ (e : Option ℕ). BeginsText sys fixed.form line e rest text) (sym c.in_ok-ahead.ensures.excess) told in
     c.go-gone.ensures.uncut rest text few names known
     (whole_opens sys fixed.form c.args.terms.steps walk c.in_ok-ahead.ahead rest text c.requires.begins.look c.requires.first c.requires.next c.in_ok-ahead.ensures.empty own
     (subst (λ (l : List ℕ). is_unended l ≡ false) c.as_slice.ensures.value (uncut_line c.args.terms.cut c.as_slice.result.now (sym c.is_cut.ensures ∙ c.if-is_cut.false) allowed)))
     told.is allowed
+
+-- ---- What was written before a line is refused
+
+pub returns-then-is_cut-clause-before : goal.returns-then-is_cut-clause-before
+returns-then-is_cut-clause-before g c = λ rest text few names known told. err_none c.finish_cut.result _ c.finish_cut.ensures.none
+
+pub returns-clause-before : goal.returns-clause-before
+returns-clause-before g c = λ rest text few names known told.
+    let fixed = c.args.fixed.now in
+    let sys = system_of fixed.table.now.system.now in
+    let walk = c.args.wave.now.walk in
+    let own = subst (λ (e : Option ℕ). BeginsText sys fixed.form walk.trail.reading.line.items e rest text) (sym c.in_ok-ahead.ensures.excess) told in
+    c.go-gone.ensures.before rest text few names known
+    (well_opens sys fixed.form c.args.terms.steps walk c.in_ok-ahead.ahead rest text c.requires.begins.look c.requires.first c.requires.next c.in_ok-ahead.ensures.empty own) told.is

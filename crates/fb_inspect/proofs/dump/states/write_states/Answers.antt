@@ -5,7 +5,7 @@ use Rattle.fb_wave.specs.declared.current_line.CurrentLine.{CurrentLine}
 use Rattle.fb_inspect.specs.Refusals.{IsNamesFault}
 use Rattle.fb_inspect.specs.declared.error.InspectError.TheVariants as error
 use Rattle.fb_wave.proofs.lemmas.Handing.{on_passed}
-use Rattle.fb_inspect.specs.StateWaves.{IsShownWith, WritesFront, WritesRead}
+use Rattle.fb_inspect.specs.StateWaves.{IsShownWith, WritesFront, WritesRead, WritesBefore}
 use Rattle.fb_inspect.proofs.lemmas.dump.Ending.{front_none, front_nothing}
 use Rattle.fb_inspect.proofs.lemmas.results.Joined.{ok_passed}
 use Rattle.fb_inspect.proofs.lemmas.results.Refused.{found_wrong, memory_names, walk_found, walk_names, walk_paths, walk_refused}
@@ -137,3 +137,21 @@ returns-clause-uncut g c = λ names few allowed.
     let uncut = subst (λ (s : Inputs). HasNames (system_of s) → terms.steps ≤ most → terms.cut ≡ Allowed → Refuses (λ refusal. IfSome input (IsUncut (system_of s) refusal.number)) c.in-Err.error) (of_table _ c.in-Some.table _ c.in-Some.is c.in_ok-table.ensures.system ∙ c.in_ok-ports.ensures) c.in-Err.ensures.uncut in
     subst (OfRefusal (λ n. IfSome input (IsUncut (system_of c.args.system.now) n))) (sym c.keep.ensures.error)
     (walk_refused (λ n. IfSome input (IsUncut (system_of c.args.system.now) n)) c.in-Err.error (uncut names few allowed))
+
+-- ---- What was written before a line is refused
+
+pub returns-in_err-ports-clause-before : goal.returns-in_err-ports-clause-before
+returns-in_err-ports-clause-before g c = λ _ _. on_passed _ _ (OfRefusal _) c.from_residual.ensures.1 tt
+
+pub returns-in_err-table-clause-before : goal.returns-in_err-table-clause-before
+returns-in_err-table-clause-before g c = λ _ _. on_passed _ _ (OfRefusal _) c.from_residual-in_err-table.ensures.1 tt
+
+pub returns-clause-before : goal.returns-clause-before
+returns-clause-before g c = λ names few.
+    let terms = c.args.terms in
+    let input = g.R.Read.remaining c.args.input.now in
+    let old = g.W.Write.contents c.args.out.now in
+    let new = g.W.Write.contents c.write_with.new.out in
+    let before = subst (λ (s : Inputs). HasNames (system_of s) → terms.steps ≤ most → Refuses (λ refusal. IfSome input (λ text. WritesBefore (system_of s) refusal.number text old new)) c.in-Err.error) (of_table _ c.in-Some.table _ c.in-Some.is c.in_ok-table.ensures.system ∙ c.in_ok-ports.ensures) c.in-Err.ensures.before in
+    subst (OfRefusal (λ n. IfSome input (λ text. WritesBefore (system_of c.args.system.now) n text old new))) (sym c.keep.ensures.error)
+    (walk_refused (λ n. IfSome input (λ text. WritesBefore (system_of c.args.system.now) n text old new)) c.in-Err.error (before names few))

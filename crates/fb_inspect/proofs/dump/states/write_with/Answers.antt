@@ -1,4 +1,4 @@
-use Rattle.fb_inspect.proofs.lemmas.Common.{◌≡◌, List, ℕ, false, refl, sym, ap, subst, ◌∙◌, Consumes, system_of, IsFirstLine, IsNext, IsWrongFor, BeginsText, Reading}
+use Rattle.fb_inspect.proofs.lemmas.Common.{◌≡◌, List, ℕ, None, refl, sym, ap, subst, ◌∙◌, Consumes, system_of, IsFirstLine, IsNext, IsWrongFor, BeginsText, Reading}
 use Rattle.fb_inspect.specs.dump.Waving.{Begins}
 use Rattle.fb_inspect.proofs.lemmas.dump.Ending.{front_none}
 use Rattle.fb_inspect.proofs.lemmas.walk.UpToRefusal.{text_begins}
@@ -7,6 +7,7 @@ use Rattle.fb_inspect.proofs.lemmas.results.Refused.{none_passed}
 use Rattle.fb_inspect.proofs.lemmas.results.Refusing.{err_known}
 use Rattle.fb_inspect.proofs.lemmas.results.Joined.{ok_passed}
 use Rattle.fb_wave.specs.CutOff.{IsUncut}
+use Rattle.fb_inspect.specs.StateWaves.{WritesBefore}
 use Rattle.fb_inspect.proofs.dump.states.write_with.Goals as goal
 
 pub returns-in_err-form-clause-fault : goal.returns-in_err-form-clause-fault
@@ -51,9 +52,9 @@ returns-clause-refused g c = λ names few.
     let line_is : c.in_ok-form.reading.line.items ≡ c.in_ok-wave.wave.walk.trail.reading.line.items = sym (ap (λ (r : Reading). r.line.items) c.in_ok-wave.ensures.reading_is) in
     err_known c.go_through.result (g.R.Read.remaining c.args.input.now) (λ n. IsWrongFor sys steps n c.go_through.new.refused.current.text.items)
     (λ text known.
-    let begins = text_begins sys form c.in_ok-form.reading.line.items false text (g.R.Read.remaining c.args.input.now) (g.R.Read.remaining c.first_reading.new.input) names known
+    let begins = text_begins sys form c.in_ok-form.reading.line.items None text (g.R.Read.remaining c.args.input.now) (g.R.Read.remaining c.first_reading.new.input) names known
     c.in_ok-form.ensures.read c.in_ok-form.ensures.first c.in_ok-form.ensures.form refl in
-    c.go_through.ensures.refused begins.0 text few names begins.1 (subst (λ (u : List ℕ). BeginsText sys form u false begins.0 text) line_is begins.2))
+    c.go_through.ensures.refused begins.0 text few names begins.1 (subst (λ (u : List ℕ). BeginsText sys form u None begins.0 text) line_is begins.2))
 
 pub returns-in_err-form-clause-whole : goal.returns-in_err-form-clause-whole
 returns-in_err-form-clause-whole g c = ok_passed c.from_residual.result _ _ c.from_residual.ensures.1
@@ -76,12 +77,31 @@ returns-clause-uncut g c = λ names few allowed.
     let line_is : c.in_ok-form.reading.line.items ≡ c.in_ok-wave.wave.walk.trail.reading.line.items = sym (ap (λ (r : Reading). r.line.items) c.in_ok-wave.ensures.reading_is) in
     err_known c.go_through.result (g.R.Read.remaining c.args.input.now) (λ n. IsUncut sys n.number)
     (λ text known.
-    let begins = text_begins sys form c.in_ok-form.reading.line.items false text (g.R.Read.remaining c.args.input.now) (g.R.Read.remaining c.first_reading.new.input) names known
+    let begins = text_begins sys form c.in_ok-form.reading.line.items None text (g.R.Read.remaining c.args.input.now) (g.R.Read.remaining c.first_reading.new.input) names known
     c.in_ok-form.ensures.read c.in_ok-form.ensures.first c.in_ok-form.ensures.form refl in
-    c.go_through.ensures.uncut begins.0 text few names begins.1 (subst (λ (u : List ℕ). BeginsText sys form u false begins.0 text) line_is begins.2) allowed)
+    c.go_through.ensures.uncut begins.0 text few names begins.1 (subst (λ (u : List ℕ). BeginsText sys form u None begins.0 text) line_is begins.2) allowed)
 
 pub returns-in_err-form-clause-uncut : goal.returns-in_err-form-clause-uncut
 returns-in_err-form-clause-uncut g c = λ _ _ _. none_passed _ _ _ c.from_residual.ensures.1 c.in_err-form.ensures.fault
 
 pub returns-in_err-wave-clause-uncut : goal.returns-in_err-wave-clause-uncut
 returns-in_err-wave-clause-uncut g c = λ _ _ _. none_passed _ _ _ c.from_residual-in_err-wave.ensures.1 tt
+
+-- ---- What was written before a line is refused
+
+pub returns-clause-before : goal.returns-clause-before
+returns-clause-before g c = λ names few.
+    let sys = system_of c.args.table.now.system.now in
+    let form = c.in_ok-form.form in
+    let line_is : c.in_ok-form.reading.line.items ≡ c.in_ok-wave.wave.walk.trail.reading.line.items = sym (ap (λ (r : Reading). r.line.items) c.in_ok-wave.ensures.reading_is) in
+    err_known c.go_through.result (g.R.Read.remaining c.args.input.now) (λ n text. WritesBefore sys n.number text (g.W.Write.contents c.args.out.now) (g.W.Write.contents c.go_through.new.out))
+    (λ text known.
+    let begins = text_begins sys form c.in_ok-form.reading.line.items None text (g.R.Read.remaining c.args.input.now) (g.R.Read.remaining c.first_reading.new.input) names known
+    c.in_ok-form.ensures.read c.in_ok-form.ensures.first c.in_ok-form.ensures.form refl in
+    c.go_through.ensures.before begins.0 text few names begins.1 (subst (λ (u : List ℕ). BeginsText sys form u None begins.0 text) line_is begins.2))
+
+pub returns-in_err-form-clause-before : goal.returns-in_err-form-clause-before
+returns-in_err-form-clause-before g c = λ _ _. none_passed _ _ _ c.from_residual.ensures.1 c.in_err-form.ensures.fault
+
+pub returns-in_err-wave-clause-before : goal.returns-in_err-wave-clause-before
+returns-in_err-wave-clause-before g c = λ _ _. none_passed _ _ _ c.from_residual-in_err-wave.ensures.1 tt

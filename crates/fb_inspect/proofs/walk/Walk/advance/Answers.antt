@@ -1,4 +1,4 @@
-use Rattle.fb_inspect.proofs.lemmas.Common.{◌++◌, ap, inl, refl, subst, sym, ◌∙◌, Ok, Err, system_of, err_from_is_err_and, last_look, IsNextLine, opening_look, IsSevered, unread, Next, Reading, last_tick, IsWrongLine, GoesAfter, Step}
+use Rattle.fb_inspect.proofs.lemmas.Common.{◌++◌, ap, inl, refl, subst, sym, ◌∙◌, Ok, Err, system_of, err_from_is_err_and, last_look, IsNextLine, opening_look, IsSevered, unread, Next, Reading, last_tick, IsWrongLine, GoesAfter, Step, ℕ, ◌≡◌, ◌≤◌, arith}
 use Rattle.fb_inspect.specs.walk.Stepping.{LineGoes}
 use Rattle.fb_inspect.specs.walk.Walking.{HasAdvanced}
 use Rattle.fb_inspect.specs.declared.walk.reading.Next.TheVariants as next
@@ -11,6 +11,7 @@ use Rattle.fb_inspect.specs.walk.Standing.{GoesWhole}
 use Rattle.fb_inspect.proofs.lemmas.results.Errors.{of_refusal}
 use Rattle.fb_inspect.proofs.lemmas.results.Joined.{ok_passed}
 use Rattle.fb_inspect.specs.declared.refused.finding.Finding.TheVariants as why
+use Rattle.fb_inspect.proofs.lemmas.results.Refused.{refused_then}
 use Rattle.fb_inspect.proofs.walk.Walk.advance.Goals as goal
 
 pub returns-in-CutOff-clause-goes : goal.returns-in-CutOff-clause-goes
@@ -130,9 +131,7 @@ returns-in-End-2-clause-stands g c = λ rest text few names known well.
     let sys = system_of fixed.table.now.system.now in
     let seen = last_look (opening_look sys) well.takings in
     wrong_end sys fixed.form c.args.terms.steps c.args.self.now c.args.ahead.now rest text names well c.in-End.end c.in-End.ensures.value
-    (λ can may. c.may_end.ensures.other sys seen well.on.stands.look can c.if-may_end.false may) c.refusal_of_end.result c.refusal_of_end.new.self.trail.reading.line
-    (λ set stops. (c.refusal_of_end.ensures.back set stops, c.refusal_of_end.ensures.back_at set stops)) (λ none. (c.refusal_of_end.ensures.none none, c.refusal_of_end.ensures.here none))
-    (λ other. (c.refusal_of_end.ensures.other other, c.refusal_of_end.ensures.stays other))
+    (λ can may. c.may_end.ensures.other sys seen well.on.stands.look can c.if-may_end.false may) c.refusal_of_end.result c.refusal_of_end.ensures.excess c.refusal_of_end.ensures.none c.refusal_of_end.ensures.other
 
 pub returns-in-Bad-clause-stands : goal.returns-in-Bad-clause-stands
 returns-in-Bad-clause-stands g c = λ rest text few names known well.
@@ -176,13 +175,12 @@ returns-in-End-2-clause-uncut g c = λ rest text few names known whole allowed.
     let fixed = c.args.fixed.now in
     let sys = system_of fixed.table.now.system.now in
     let steps = c.args.terms.steps in
-    goes_whole sys fixed.form steps c.refusal_of_end.new.self c.refusal_of_end.new.ahead whole.front rest text (g.R.Read.remaining c.args.input.now) (Err c.refusal_of_end.result) names whole.ended whole.is known
+    goes_whole sys fixed.form steps c.args.self.now c.args.ahead.now whole.front rest text (g.R.Read.remaining c.args.input.now) (Err c.refusal_of_end.result) names whole.ended whole.is known
     (λ left.
     let well = whole.stands left in
     wrong_end sys fixed.form steps c.args.self.now c.args.ahead.now left (whole.front ++ left) names well c.in-End.end c.in-End.ensures.value
-    (λ can may. c.may_end.ensures.other sys (last_look (opening_look sys) well.takings) well.on.stands.look can c.if-may_end.false may) c.refusal_of_end.result c.refusal_of_end.new.self.trail.reading.line
-    (λ set stops. (c.refusal_of_end.ensures.back set stops, c.refusal_of_end.ensures.back_at set stops)) (λ none. (c.refusal_of_end.ensures.none none, c.refusal_of_end.ensures.here none))
-    (λ other. (c.refusal_of_end.ensures.other other, c.refusal_of_end.ensures.stays other)))
+    (λ can may. c.may_end.ensures.other sys (last_look (opening_look sys) well.takings) well.on.stands.look can c.if-may_end.false may) c.refusal_of_end.result c.refusal_of_end.ensures.excess c.refusal_of_end.ensures.none
+    c.refusal_of_end.ensures.other)
 
 pub returns-in-Bad-clause-uncut : goal.returns-in-Bad-clause-uncut
 returns-in-Bad-clause-uncut g c = λ rest text few names known whole allowed.
@@ -193,3 +191,25 @@ returns-in-Bad-clause-uncut g c = λ rest text few names known whole allowed.
     (λ left.
     of_refusal (λ n. IsWrongLine sys steps n c.args.self.now.trail.reading.line.items (whole.front ++ left)) c.refusal.result (record { number = c.args.self.now.trail.reading.number; finding = why.Line }) c.refusal.ensures
     (bad_line sys fixed.form steps c.args.self.now c.args.ahead.now left (whole.front ++ left) names (whole.stands left) c.in-Bad.ensures.value))
+
+-- ---- The number of a line that is refused
+
+pub returns-in_err-advance_by_event-in-Event-clause-later : goal.returns-in_err-advance_by_event-in-Event-clause-later
+returns-in_err-advance_by_event-in-Event-clause-later g c = λ rest text names known well.
+    let fixed = c.args.fixed.now in
+    let sys = system_of fixed.table.now.system.now in
+    let q = err_from_is_err_and c.from_residual.result c.from_residual.ensures.1 in
+    rw (q.1, q.2)
+    (c.in_err-advance_by_event-in-Event.ensures.later well.takings rest text known
+    (event_at sys fixed.form well.takings c.args.self.now c.replace.new.dest c.args.ahead.now.text.items c.args.ahead.now.last.items rest text names c.facts.ensures.numbered (names_apart fixed.table.now.system.now c.facts.ensures.accepted)
+    well.on c.in-Event.line c.in-Event.ensures.value))
+
+pub returns-in-End-2-clause-later : goal.returns-in-End-2-clause-later
+returns-in-End-2-clause-later g c = λ rest text names known well.
+    let here = c.args.self.now.trail.reading in
+    refused_then c.refusal_of_end.result (λ n. n.number ≡ here.number) (λ n. here.number ≤ n.number) c.refusal_of_end.ensures.number (λ n is. subst (λ (k : ℕ). here.number ≤ k) (sym is) (omega arith))
+
+pub returns-in-Bad-clause-later : goal.returns-in-Bad-clause-later
+returns-in-Bad-clause-later g c = λ rest text names known well.
+    let here = c.args.self.now.trail.reading in
+    of_refusal (λ n. here.number ≤ n.number) c.refusal.result (record { number = here.number; finding = why.Line }) c.refusal.ensures (omega arith)

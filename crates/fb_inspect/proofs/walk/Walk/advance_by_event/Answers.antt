@@ -4,8 +4,7 @@ use Rattle.fb_inspect.proofs.lemmas.lines.Moving.{shown_both}
 use Rattle.fb_inspect.proofs.lemmas.walk.OneStep.{line_reread, ok_both}
 use Rattle.fb_inspect.proofs.lemmas.reactions.Placed.{ok_then}
 use Rattle.fb_inspect.proofs.lemmas.walk.Stepped.{advanced_on, none_ahead, reread_on, severed_on}
-use Rattle.fb_inspect.specs.declared.walk.ahead.EventLine.{EventLine}
-use Rattle.fb_inspect.proofs.lemmas.results.Refused.{none_refused}
+use Rattle.fb_inspect.proofs.lemmas.results.Refused.{none_refused, none_passed}
 use Rattle.fb_inspect.proofs.lemmas.walk.StandsAfter.{at_look, goes_left, look_ahead, some_at}
 use Rattle.fb_inspect.proofs.lemmas.walk.UpToRead.{step_whole}
 use Rattle.fb_inspect.specs.walk.Standing.{ReadsWhole}
@@ -112,7 +111,7 @@ returns-then-is_near-clause-stands g c = λ takings rest text few known at watch
     (c.in_ok-is_cut.ensures.ahead at.names c.if-is_cut.false) (at.stands.after l at.is) in
     goes_left sys fixed.form c.args.terms.steps c.take_to_last_step.new.self c.take_to_last_step.new.ahead all.0 text (g.R.Read.remaining c.look.new.input) c.take_to_last_step.result all.1
     (c.take_to_last_step.ensures.stands takings all.0 text all.2.1.0 few (at_look fixed.table.now fixed.form takings c.args.self.now l a.text.items a.last.items rest text at all.2.1.0 b.text.items b.last.items all.0 all.2.0 all.2.1.1)
-    (subst (λ (e : EventLine). Watches sys fixed.form c.args.terms.steps takings e.number e.text.items e.is_excess) (sym c.in_ok-is_cut.ensures.watched) watches) all.2.1.1
+    all.2.1.1
     (c.is_near.ensures.near (last_look (opening_look sys) takings) at.stands.look.are c.if-is_near.true))
 
 pub returns-clause-stands : goal.returns-clause-stands
@@ -126,8 +125,8 @@ returns-clause-stands g c = λ takings rest text few known at watches.
     (c.in_ok-is_cut.ensures.ahead at.names c.if-is_cut.false) (at.stands.after l at.is) in
     goes_left sys fixed.form c.args.terms.steps c.take_counting_steps.new.self c.take_counting_steps.new.ahead all.0 text (g.R.Read.remaining c.look.new.input) c.take_counting_steps.result all.1
     (c.take_counting_steps.ensures.stands takings all.0 text all.2.1.0 (at_look fixed.table.now fixed.form takings c.args.self.now l a.text.items a.last.items rest text at all.2.1.0 b.text.items b.last.items all.0 all.2.0 all.2.1.1)
-    (subst (λ (e : EventLine). Watches sys fixed.form c.args.terms.steps takings e.number e.text.items e.is_excess) (sym c.in_ok-is_cut.ensures.watched) watches) all.2.1.1
-    (c.is_near.ensures.other (last_look (opening_look sys) takings) at.stands.look.are at.names at.apart at.is.line c.if-is_near.false))
+    (subst (Watches sys c.args.terms.steps takings) (sym c.in_ok-is_cut.ensures.excess) watches) all.2.1.1
+    (c.is_near.ensures.other (last_look (opening_look sys) takings) at.stands.look at.names at.apart at.is.line c.if-is_near.false))
 
 -- ---- Where a trace may be cut off
 
@@ -148,8 +147,7 @@ returns-then-is_near-clause-uncut g c = λ rest text few known whole allowed.
     (c.in_ok-is_cut.ensures.uncut (whole.stands []).1.names allowed c.if-is_cut.false) in
     step_whole fixed.table.now fixed.form steps c.args.self.now a b l rest text left whole read c.take_to_last_step.new.self c.take_to_last_step.new.ahead left c.take_to_last_step.result read.left.1
     (λ takings left all rows before at watches ahead.
-    c.take_to_last_step.ensures.stands takings left all rows few at
-    (subst (λ (e : EventLine). Watches sys fixed.form steps takings e.number e.text.items e.is_excess) (sym c.in_ok-is_cut.ensures.watched) watches) ahead
+    c.take_to_last_step.ensures.stands takings left all rows few at ahead
     (c.is_near.ensures.near (last_look (opening_look sys) takings) at.stands.look.are c.if-is_near.true))
 
 pub returns-clause-uncut : goal.returns-clause-uncut
@@ -166,5 +164,38 @@ returns-clause-uncut g c = λ rest text few known whole allowed.
     step_whole fixed.table.now fixed.form steps c.args.self.now a b l rest text left whole read c.take_counting_steps.new.self c.take_counting_steps.new.ahead left c.take_counting_steps.result read.left.1
     (λ takings left all rows before at watches ahead.
     c.take_counting_steps.ensures.stands takings left all rows at
-    (subst (λ (e : EventLine). Watches sys fixed.form steps takings e.number e.text.items e.is_excess) (sym c.in_ok-is_cut.ensures.watched) watches) ahead
-    (c.is_near.ensures.other (last_look (opening_look sys) takings) at.stands.look.are at.names at.apart at.is.line c.if-is_near.false))
+    (subst (Watches sys steps takings) (sym c.in_ok-is_cut.ensures.excess) watches) ahead
+    (c.is_near.ensures.other (last_look (opening_look sys) takings) at.stands.look at.names at.apart at.is.line c.if-is_near.false))
+
+-- no resource used too many steps before
+pub take_to_last_step-requires-clause-kept : goal.take_to_last_step-requires-clause-kept
+take_to_last_step-requires-clause-kept g c = λ look is. c.is_near.ensures.kept look is c.if-is_near.true
+
+-- ---- The number of a line that is refused
+
+pub returns-in_err-is_cut-clause-later : goal.returns-in_err-is_cut-clause-later
+returns-in_err-is_cut-clause-later g c = λ takings rest text known at. none_passed _ _ _ c.from_residual.ensures.1 c.in_err-is_cut.ensures.fault
+
+pub returns-then-is_near-clause-later : goal.returns-then-is_near-clause-later
+returns-then-is_near-clause-later g c = λ takings rest text known at.
+    let fixed = c.args.fixed.now in
+    let sys = system_of fixed.table.now.system.now in
+    let l = c.args.line.now in
+    let a = c.args.ahead.now in
+    let b = c.look.new.self in
+    let all = look_ahead sys fixed.form l a.text.items a.last.items b.text.items b.last.items rest (g.R.Read.remaining c.args.input.now) (g.R.Read.remaining c.look.new.input) known
+    (c.in_ok-is_cut.ensures.ahead at.names c.if-is_cut.false) (at.stands.after l at.is) in
+    c.take_to_last_step.ensures.later takings all.0 text
+    (at_look fixed.table.now fixed.form takings c.args.self.now l a.text.items a.last.items rest text at all.2.1.0 b.text.items b.last.items all.0 all.2.0 all.2.1.1)
+
+pub returns-clause-later : goal.returns-clause-later
+returns-clause-later g c = λ takings rest text known at.
+    let fixed = c.args.fixed.now in
+    let sys = system_of fixed.table.now.system.now in
+    let l = c.args.line.now in
+    let a = c.args.ahead.now in
+    let b = c.look.new.self in
+    let all = look_ahead sys fixed.form l a.text.items a.last.items b.text.items b.last.items rest (g.R.Read.remaining c.args.input.now) (g.R.Read.remaining c.look.new.input) known
+    (c.in_ok-is_cut.ensures.ahead at.names c.if-is_cut.false) (at.stands.after l at.is) in
+    c.take_counting_steps.ensures.later takings all.0 text
+    (at_look fixed.table.now fixed.form takings c.args.self.now l a.text.items a.last.items rest text at all.2.1.0 b.text.items b.last.items all.0 all.2.0 all.2.1.1)

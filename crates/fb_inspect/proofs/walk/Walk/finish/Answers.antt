@@ -1,6 +1,7 @@
-use Rattle.fb_inspect.proofs.lemmas.Common.{◌+◌, ◌++◌, ◌∙◌, ℕ, List, ap, subst, sym, Appends, err_from_is_err_and, Page}
+use Rattle.fb_inspect.proofs.lemmas.Common.{◌+◌, ◌++◌, ◌∙◌, ℕ, List, ap, subst, sym, Appends, err_from_is_err_and, Page, refl}
 use Rattle.fb_inspect.proofs.lemmas.walk.Ended.{nothing_sent, short_sent}
 use Rattle.fb_inspect.proofs.lemmas.reactions.Placed.{err_any}
+use Rattle.fb_inspect.proofs.lemmas.walk.Held.{refuses_any}
 use Rattle.fb_inspect.proofs.walk.Walk.finish.Goals as goal
 
 pub returns-in_err-put_line-clause-fault : goal.returns-in_err-put_line-clause-fault
@@ -35,3 +36,8 @@ pub returns-in_err-finish-clause-refused : goal.returns-in_err-finish-clause-ref
 returns-in_err-finish-clause-refused g c =
     let q = err_from_is_err_and c.from_residual-in_err-finish.result c.from_residual-in_err-finish.ensures.1 in
     rw (q.1, q.2) c.in_err-finish.ensures.refused
+
+pub returns-in_err-finish-clause-kept : goal.returns-in_err-finish-clause-kept
+returns-in_err-finish-clause-kept g c =
+    let q = err_from_is_err_and c.from_residual-in_err-finish.result c.from_residual-in_err-finish.ensures.1 in
+    rw (q.1, q.2) (refuses_any _ c.in_err-finish.field-0.0 (λ n. refl))

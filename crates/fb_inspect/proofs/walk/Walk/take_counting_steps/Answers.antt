@@ -1,16 +1,14 @@
-use Rattle.fb_inspect.proofs.lemmas.Common.{◌≡◌, ◌≤◌, ◌<◌, ◌+◌, ◌∷◌, ◌++◌, [], List, ℕ, Some, ap, inl, inr, length, refl, subst, sym, ◌∙◌, Vec, ◌||◌, not, length-map, err_from_is_err_and, system_of, line_of, line_text, all_lines, last_look, IsTaking, Left, most, opening_look, FailsBy, IsUnstarted, IsWrongLine, Watches, IsLookOf, unread, Ended}
+use Rattle.fb_inspect.proofs.lemmas.Common.{◌≡◌, ◌≤◌, ◌<◌, ◌+◌, [], ℕ, Option, Some, ap, inl, inr, length, refl, subst, sym, ◌∙◌, not, length-map, system_of, line_of, all_lines, last_look, IsTaking, Left, most, opening_look, FailsBy, IsUnstarted, IsLookOf, unread, Ended, Refuses, List}
 use Rattle.fb_types.specs.States as model
-use Rattle.fb_inspect.specs.declared.walk.ahead.EventLine.{EventLine}
 use Rattle.fb_inspect.specs.declared.walk.Step.TheVariants.{Taken}
-use Rattle.fb_inspect.proofs.lemmas.results.Errors.{of_refusal}
-use Rattle.fb_inspect.proofs.lemmas.results.Joined.{ok_passed}
+use Rattle.fb_inspect.specs.walk.Standing.{BlamesSteps}
 use Rattle.fb_inspect.proofs.lemmas.lines.NearStop.{not_kept, not_over}
 use Rattle.fb_inspect.proofs.lemmas.walk.OneStep.{free_ends, free_goes, line_watched}
 use Rattle.fb_inspect.proofs.lemmas.reactions.Placed.{item_is}
+use Rattle.fb_inspect.proofs.lemmas.walk.StandsAfter.{freely_on, freely_stop, watched_step, wrong_freely}
+use Rattle.fb_inspect.proofs.lemmas.walk.Watched.{watches_on}
+use Rattle.fb_inspect.proofs.lemmas.walk.Held.{below, fails_later, takes_later}
 use Rattle.fb_inspect.proofs.lemmas.results.Refused.{refused_then}
-use Rattle.fb_inspect.proofs.lemmas.walk.StandsAfter.{ahead_ahead, at_ahead, freely_on, freely_stop, watched_step, wrong_freely}
-use Rattle.fb_inspect.proofs.lemmas.walk.Watched.{watched_line, watches_on}
-use Rattle.fb_inspect.specs.declared.refused.finding.Finding.TheVariants as why
 use Rattle.fb_inspect.proofs.walk.Walk.take_counting_steps.Goals as goal
 
 pub returns-in_default-clause-takes : goal.returns-in_default-clause-takes
@@ -18,105 +16,80 @@ returns-in_default-clause-takes c = λ look remaining is.
     let fixed = c.args.fixed.now in
     let types = fixed.table.now.system.now.library.blocks in
     let sys = system_of fixed.table.now.system.now in
-    let w = c.watch.new.self in
-    line_watched types sys fixed.form c.args.steps look c.args.line.now c.args.self.now c.take_from_ahead.new.self c.args.ahead.now w c.take_from_ahead.new.ahead c.note.new.self remaining Taken c.watch.ensures.text
-    c.note.ensures.text c.note.ensures.rows
-    (free_goes types sys fixed.form c.args.steps look c.args.line.now c.args.self.now c.take_from_ahead.new.self (unread w remaining) (unread c.take_from_ahead.new.ahead remaining) fixed.limit c.in_ok-stop.stop
-    c.requires.limit c.in_default.is (c.in_ok-stop.ensures.goes look remaining is) c.in_ok-stop.ensures.next)
+    let a = c.args.ahead.now in
+    line_watched types sys fixed.form c.args.steps look c.args.line.now c.args.self.now c.take_from_ahead.new.self a a c.take_from_ahead.new.ahead c.note.new.self remaining Taken refl c.note.ensures.text c.note.ensures.rows
+    (free_goes types sys fixed.form c.args.steps look c.args.line.now c.args.self.now c.take_from_ahead.new.self (unread a remaining) (unread c.take_from_ahead.new.ahead remaining) fixed.limit c.in-Ok.stop
+    c.requires.limit c.in_default.is (c.in-Ok.ensures.goes look remaining is) c.in-Ok.ensures.next)
 
 pub returns-clause-takes : goal.returns-clause-takes
 returns-clause-takes c = λ look remaining is.
     let fixed = c.args.fixed.now in
     let types = fixed.table.now.system.now.library.blocks in
     let sys = system_of fixed.table.now.system.now in
-    let w = c.watch.new.self in
-    line_watched types sys fixed.form c.args.steps look c.args.line.now c.args.self.now c.take_from_ahead.new.self c.args.ahead.now w c.take_from_ahead.new.ahead c.note.new.self remaining (Ended c.stop_of.result)
-    c.watch.ensures.text c.note.ensures.text c.note.ensures.rows
-    (free_ends types sys fixed.form c.args.steps look c.args.line.now c.args.self.now c.take_from_ahead.new.self (unread w remaining) (unread c.take_from_ahead.new.ahead remaining) fixed.limit c.in_ok-stop.stop
-    c.in-Some.reason c.stop_of.result c.requires.limit c.in-Some.is (c.is_for_steps.ensures.other c.if-is_for_steps.false) (c.in_ok-stop.ensures.goes look remaining is) c.in_ok-stop.ensures.next
+    let a = c.args.ahead.now in
+    line_watched types sys fixed.form c.args.steps look c.args.line.now c.args.self.now c.take_from_ahead.new.self a a c.take_from_ahead.new.ahead c.note.new.self remaining (Ended c.stop_of.result) refl c.note.ensures.text
+    c.note.ensures.rows
+    (free_ends types sys fixed.form c.args.steps look c.args.line.now c.args.self.now c.take_from_ahead.new.self (unread a remaining) (unread c.take_from_ahead.new.ahead remaining) fixed.limit c.in-Ok.stop
+    c.in-Some.reason c.stop_of.result c.requires.limit c.in-Some.is (c.is_for_steps.ensures.other c.if-is_for_steps.false) (c.in-Ok.ensures.goes look remaining is) c.in-Ok.ensures.next
     (c.is_stop.ensures.stop c.if-not-is_stop.false) c.stop_of.ensures)
 
-pub returns-in_err-stop-clause-stands : goal.returns-in_err-stop-clause-stands
-returns-in_err-stop-clause-stands c = λ takings rest text rows at watches ahead far.
+pub returns-in-Err-Refused-clause-stands : goal.returns-in-Err-Refused-clause-stands
+returns-in-Err-Refused-clause-stands c = λ takings rest text rows at watches ahead free.
     let fixed = c.args.fixed.now in
     let sys = system_of fixed.table.now.system.now in
     let line = c.args.line.now in
-    let w = c.watch.new.self in
-    let at2 = at_ahead sys fixed.form takings c.args.self.now c.args.ahead.now w line rest text c.watch.ensures.text c.watch.ensures.last at in
-    let ahead2 = ahead_ahead sys fixed.form c.args.ahead.now w line rows rest c.watch.ensures.text c.watch.ensures.last ahead in
+    let a = c.args.ahead.now in
     let look = last_look (opening_look sys) takings in
     let old = c.args.self.now.trail.reading in
     let new = c.take_from_ahead.new.self.trail.reading in
-    let q = err_from_is_err_and c.from_residual-in_err-stop.result c.from_residual-in_err-stop.ensures.1 in
-    rw (q.1, q.2)
-    (refused_then c.in_err-stop.field-0.0 (λ n. (left : List ℕ) × FailsBy (IsTaking sys fixed.limit look) (IsUnstarted sys fixed.limit look line) sys fixed.form line old new (Some w.text.items) (Some left) n) (λ n. IsWrongLine sys c.args.steps n new.line.items text)
-    (c.in_err-stop.ensures.refused look at2.names at2.plain at2.stands.look)
-    (λ n fails.
-    wrong_freely fixed.table.now fixed.form takings c.args.self.now w line rest text at2 c.args.steps n rows new fails.0 ahead2
-    (λ basic kind is. far basic kind (ap (λ (v : Vec ℕ). v.items) (sym c.watch.ensures.last) ∙ is))
-    (subst (λ (limit : ℕ). FailsBy (IsTaking sys limit look) (IsUnstarted sys limit look line) sys fixed.form line old new (Some w.text.items) (Some fails.0) n) c.requires.limit fails.1)))
+    let refusal = c.in-Err-Refused.refusal in
+    let fails = subst
+    (Refuses (λ n. (left : List ℕ) × FailsBy (IsTaking sys fixed.limit look) (IsUnstarted sys fixed.limit look line) sys fixed.form line old new (Some a.text.items) (Some left) n)) c.in-Err-Refused.field-0-is
+    (c.in-Err-Refused.ensures.refused look at.names at.plain at.stands.look) in
+    wrong_freely fixed.table.now fixed.form takings c.args.self.now a line rest text at c.args.steps refusal rows new fails.0 a.excess c.refusal_after.result ahead watches free
+    (subst (λ (o : Option ℕ). BlamesSteps sys line o new refusal.finding c.refusal_after.result) c.take_from_ahead.ensures.excess (c.refusal_after.ensures.found at.names at.apart at.is.line))
+    (subst (λ (limit : ℕ). FailsBy (IsTaking sys limit look) (IsUnstarted sys limit look line) sys fixed.form line old new (Some a.text.items) (Some fails.0) refusal) c.requires.limit fails.1)
 
 pub returns-then-is_for_steps-clause-stands : goal.returns-then-is_for_steps-clause-stands
-returns-then-is_for_steps-clause-stands c = λ takings rest text rows at watches ahead far.
+returns-then-is_for_steps-clause-stands c = λ takings rest text rows at watches ahead free.
     let fixed = c.args.fixed.now in
     let sys = system_of fixed.table.now.system.now in
     let line = c.args.line.now in
-    let w = c.watch.new.self in
-    let at2 = at_ahead sys fixed.form takings c.args.self.now c.args.ahead.now w line rest text c.watch.ensures.text c.watch.ensures.last at in
-    let ahead2 = ahead_ahead sys fixed.form c.args.ahead.now w line rows rest c.watch.ensures.text c.watch.ensures.last ahead in
+    let a = c.args.ahead.now in
     let is = c.is_for_steps.ensures.steps c.if-is_for_steps.true in
-    of_refusal (λ n. IsWrongLine sys c.args.steps n c.take_from_ahead.new.self.trail.reading.line.items text) c.refusal.result (record { number = c.take_from_ahead.new.self.trail.reading.number; finding = why.Stops c.in-Some.reason }) c.refusal.ensures
-    (freely_stop fixed.table.now fixed.form takings c.args.self.now w line rest text at2 rows ahead2
-    (λ basic kind is. far basic kind (ap (λ (v : Vec ℕ). v.items) (sym c.watch.ensures.last) ∙ is))
-    fixed.table.now.system.now.library.blocks fixed.limit c.requires.limit c.take_from_ahead.new.self c.take_from_ahead.new.ahead c.in_ok-stop.stop
-    (c.in_ok-stop.ensures.goes (last_look (opening_look sys) takings) (Some []) at2.stands.look) c.in_ok-stop.ensures.alone c.in_ok-stop.ensures.last c.in_ok-stop.ensures.next c.args.steps
-    (record { number = c.take_from_ahead.new.self.trail.reading.number; finding = why.Stops c.in-Some.reason }) c.in-Some.reason refl c.in-Some.is (inl is) (λ not. absurd (not is)))
+    freely_stop fixed.table.now fixed.form takings c.args.self.now a line rest text at rows ahead c.args.steps free fixed.table.now.system.now.library.blocks fixed.limit c.requires.limit c.take_from_ahead.new.self
+    c.take_from_ahead.new.ahead c.in-Ok.stop (c.in-Ok.ensures.goes (last_look (opening_look sys) takings) (Some []) at.stands.look) c.in-Ok.ensures.alone c.in-Ok.ensures.last c.in-Ok.ensures.next c.in-Some.reason a.excess
+    c.note.new.self.excess c.refusal_after-then-is_for_steps.result watches (λ k e. c.note.ensures.first k (c.take_from_ahead.ensures.excess ∙ e))
+    (c.refusal_after-then-is_for_steps.ensures.found at.names at.apart at.is.line) c.in-Some.is (inl is) (λ not. absurd (not is))
 
 pub returns-then-not-is_stop-clause-stands : goal.returns-then-not-is_stop-clause-stands
-returns-then-not-is_stop-clause-stands c = λ takings rest text rows at watches ahead far.
+returns-then-not-is_stop-clause-stands c = λ takings rest text rows at watches ahead free.
     let fixed = c.args.fixed.now in
     let sys = system_of fixed.table.now.system.now in
     let line = c.args.line.now in
-    let w = c.watch.new.self in
-    let at2 = at_ahead sys fixed.form takings c.args.self.now c.args.ahead.now w line rest text c.watch.ensures.text c.watch.ensures.last at in
-    let ahead2 = ahead_ahead sys fixed.form c.args.ahead.now w line rows rest c.watch.ensures.text c.watch.ensures.last ahead in
-    of_refusal (λ n. IsWrongLine sys c.args.steps n c.take_from_ahead.new.self.trail.reading.line.items text) c.refusal-then-not-is_stop.result (record { number = c.take_from_ahead.new.self.trail.reading.number; finding = why.Stops c.in-Some.reason })
-    c.refusal-then-not-is_stop.ensures
-    (freely_stop fixed.table.now fixed.form takings c.args.self.now w line rest text at2 rows ahead2
-    (λ basic kind is. far basic kind (ap (λ (v : Vec ℕ). v.items) (sym c.watch.ensures.last) ∙ is))
-    fixed.table.now.system.now.library.blocks fixed.limit c.requires.limit c.take_from_ahead.new.self c.take_from_ahead.new.ahead c.in_ok-stop.stop
-    (c.in_ok-stop.ensures.goes (last_look (opening_look sys) takings) (Some []) at2.stands.look) c.in_ok-stop.ensures.alone c.in_ok-stop.ensures.last c.in_ok-stop.ensures.next c.args.steps
-    (record { number = c.take_from_ahead.new.self.trail.reading.number; finding = why.Stops c.in-Some.reason }) c.in-Some.reason refl c.in-Some.is (inr (c.is_for_steps.ensures.other c.if-is_for_steps.false)) (λ not. c.is_stop.ensures.other c.if-not-is_stop.true))
+    let a = c.args.ahead.now in
+    freely_stop fixed.table.now fixed.form takings c.args.self.now a line rest text at rows ahead c.args.steps free fixed.table.now.system.now.library.blocks fixed.limit c.requires.limit c.take_from_ahead.new.self
+    c.take_from_ahead.new.ahead c.in-Ok.stop (c.in-Ok.ensures.goes (last_look (opening_look sys) takings) (Some []) at.stands.look) c.in-Ok.ensures.alone c.in-Ok.ensures.last c.in-Ok.ensures.next c.in-Some.reason a.excess
+    c.note.new.self.excess c.refusal_after-then-not-is_stop.result watches (λ k e. c.note.ensures.first k (c.take_from_ahead.ensures.excess ∙ e))
+    (c.refusal_after-then-not-is_stop.ensures.found at.names at.apart at.is.line) c.in-Some.is (inr (c.is_for_steps.ensures.other c.if-is_for_steps.false)) (λ not. c.is_stop.ensures.other c.if-not-is_stop.true)
 
 pub returns-in_default-clause-stands : goal.returns-in_default-clause-stands
-returns-in_default-clause-stands c = λ takings rest text rows at watches ahead far.
+returns-in_default-clause-stands c = λ takings rest text rows at watches ahead free.
     let fixed = c.args.fixed.now in
     let sys = system_of fixed.table.now.system.now in
     let line = c.args.line.now in
-    let w = c.watch.new.self in
-    let at2 = at_ahead sys fixed.form takings c.args.self.now c.args.ahead.now w line rest text c.watch.ensures.text c.watch.ensures.last at in
-    let ahead2 = ahead_ahead sys fixed.form c.args.ahead.now w line rows rest c.watch.ensures.text c.watch.ensures.last ahead in
+    let a = c.args.ahead.now in
     let steps = c.args.steps in
-    let own = w.watched in
-    let w1 = watched_line sys fixed.form steps takings c.args.self.now c.args.ahead.now.watched own c.args.self.now.trail.reading.number c.args.self.now.trail.reading.line.items watches c.watch.ensures.kept
-    (c.in_ok-watch.ensures.watched) in
+    let same = c.take_from_ahead.ensures.excess in
     watched_step sys fixed.form steps takings c.take_from_ahead.new.self c.take_from_ahead.new.ahead c.note.new.self line rest text Taken c.note.ensures.text c.note.ensures.last
-    (freely_on fixed.table.now fixed.form takings c.args.self.now w line rest text at2 rows ahead2
-    (λ basic kind is. far basic kind (ap (λ (v : Vec ℕ). v.items) (sym c.watch.ensures.last) ∙ is))
-    fixed.table.now.system.now.library.blocks fixed.limit c.requires.limit c.take_from_ahead.new.self c.take_from_ahead.new.ahead c.in_ok-stop.stop
-    (c.in_ok-stop.ensures.goes (last_look (opening_look sys) takings) (Some []) at2.stands.look) c.in_ok-stop.ensures.alone c.in_ok-stop.ensures.last c.in_ok-stop.ensures.next c.in_default.is)
+    (freely_on fixed.table.now fixed.form takings c.args.self.now a line rest text at rows ahead steps free fixed.table.now.system.now.library.blocks fixed.limit c.requires.limit c.take_from_ahead.new.self
+    c.take_from_ahead.new.ahead c.in-Ok.stop (c.in-Ok.ensures.goes (last_look (opening_look sys) takings) (Some []) at.stands.look) c.in-Ok.ensures.alone c.in-Ok.ensures.last c.in-Ok.ensures.next c.in_default.is)
     (λ x first taking look.
     let there = λ (is : IsLookOf sys c.take_from_ahead.new.self.blocks.items c.take_from_ahead.new.self.steps.items x.after).
     item_is c.take_from_ahead.new.self.steps.items line.key.resource c.index-own.result.now (subst (λ (n : ℕ). line.key.resource < n) (sym is.counts) c.requires.is.line.belongs.resource) c.index-own.ensures in
-    let numbered = at.stands.numbered in
-    let lines = at.stands.lines in
-    let count : length lines ≡ length (all_lines takings) = sym (length-map lines (line_of sys)) ∙ ap length at.stands.lines_are in
-    let after : c.note.new.self.watched ≡ record own { is_excess = own.is_excess || not c.keeps.result } =
-    c.note.ensures.watched ∙ ap (λ (e : EventLine). record e { is_excess = e.is_excess || not c.keeps.result }) c.take_from_ahead.ensures.watched in
-    subst (λ (e : EventLine). Watches sys fixed.form steps (takings ++ x ∷ []) e.number e.text.items e.is_excess) (sym after)
-    (watches_on sys fixed.form steps takings x taking own.number own.text.items own.is_excess (not c.keeps.result) w1.0
-    (λ none. w1.1 none ∙ numbered ∙ ap (λ (n : ℕ). n + 1) count)
-    (λ none. w1.2 none ∙ at.is.is ∙ ap (line_text fixed.form sys) (sym first))
+    let count : length at.stands.lines ≡ length (all_lines takings) = sym (length-map at.stands.lines (line_of sys)) ∙ ap length at.stands.lines_are in
+    watches_on sys steps takings x taking c.args.self.now.trail.reading.number a.excess c.note.new.self.excess (not c.keeps.result) watches (at.stands.numbered ∙ ap (λ (n : ℕ). n + 1) count)
+    (λ k e. c.note.ensures.first k (same ∙ e)) (λ none over. c.note.ensures.over (same ∙ none) over) (λ none under. c.note.ensures.none (same ∙ none) under)
     (λ over.
     subst (λ (m : model.Line). (m.key.resource < length sys.resource_names) × (most ≤ (x.after.steps m.key.resource).least + steps → ⊥)) (sym first) (
       c.requires.is.line.belongs.resource,
@@ -124,24 +97,47 @@ returns-in_default-clause-stands c = λ takings rest text rows at watches ahead 
     ))
     (λ under within.
     subst (λ (m : model.Line). most ≤ (x.after.steps m.key.resource).least + steps) (sym first)
-    (subst (λ (l : Left). most ≤ l.least + steps) (sym (look.lefts line.key.resource c.index-own.result.now (there look))) (c.keeps.ensures.kept (not_over c.keeps.result under))))))
+    (subst (λ (l : Left). most ≤ l.least + steps) (sym (look.lefts line.key.resource c.index-own.result.now (there look))) (c.keeps.ensures.kept (not_over c.keeps.result under)))))
 
 pub index-own-requires : goal.index-own-requires
 index-own-requires c =
-    let takes = c.in_ok-stop.ensures.goes c.requires.look.0 (Some []) c.requires.look.1 in
+    let takes = c.in-Ok.ensures.goes c.requires.look.0 (Some []) c.requires.look.1 in
     subst (λ (n : ℕ). c.args.line.now.key.resource < n) (sym (c.take_from_ahead.new.self.steps.ok.0 ∙ takes.look_after.counts)) c.requires.is.line.belongs.resource
 
-pub returns-clause-stands : goal.returns-clause-stands
-returns-clause-stands c = λ takings rest text rows at watches ahead far. tt
+-- ---- The number of a line that is refused
 
-pub returns-in_err-watch-clause-takes : goal.returns-in_err-watch-clause-takes
-returns-in_err-watch-clause-takes c = λ _ _ _. ok_passed c.from_residual.result _ _ c.from_residual.ensures.1
+pub returns-in-Err-Refused-clause-later : goal.returns-in-Err-Refused-clause-later
+returns-in-Err-Refused-clause-later c = λ takings rest text at.
+    let fixed = c.args.fixed.now in
+    let sys = system_of fixed.table.now.system.now in
+    let look = last_look (opening_look sys) takings in
+    let old = c.args.self.now.trail.reading in
+    let new = c.take_from_ahead.new.self.trail.reading in
+    let line = c.args.line.now in
+    let fails = subst
+    (Refuses (λ n. (left : List ℕ) × FailsBy (IsTaking sys fixed.limit look) (IsUnstarted sys fixed.limit look line) sys fixed.form line old new (Some c.args.ahead.now.text.items) (Some left) n)) c.in-Err-Refused.field-0-is
+    (c.in-Err-Refused.ensures.refused look at.names at.plain at.stands.look) in
+    let less = (fails_later _ _ sys fixed.form c.args.line.now old new _ _ c.in-Err-Refused.refusal fails.1).0 in
+    refused_then c.refusal_after.result (λ n. n.number ≡ new.number) (λ n. old.number ≤ n.number) c.refusal_after.ensures.number (λ n is. subst (λ (k : ℕ). old.number ≤ k) (sym is) less)
 
-pub returns-in_err-watch-clause-whole : goal.returns-in_err-watch-clause-whole
-returns-in_err-watch-clause-whole c = ok_passed c.from_residual.result _ _ c.from_residual.ensures.1
+pub returns-then-is_for_steps-clause-later : goal.returns-then-is_for_steps-clause-later
+returns-then-is_for_steps-clause-later c = λ takings rest text at.
+    let fixed = c.args.fixed.now in
+    let sys = system_of fixed.table.now.system.now in
+    let look = last_look (opening_look sys) takings in
+    let old = c.args.self.now.trail.reading in
+    let new = c.take_from_ahead.new.self.trail.reading in
+    let less = takes_later fixed.table.now.system.now.library.blocks sys fixed.form fixed.limit look c.args.line.now c.in-Ok.stop c.args.self.now c.take_from_ahead.new.self _ _ (c.in-Ok.ensures.goes look (Some []) at.stands.look) in
+    refused_then c.refusal_after-then-is_for_steps.result (λ n. n.number ≡ new.number) (λ n. old.number ≤ n.number) c.refusal_after-then-is_for_steps.ensures.number
+    (λ n is. subst (λ (k : ℕ). old.number ≤ k) (sym is) (below less))
 
-pub returns-in_err-stop-clause-takes : goal.returns-in_err-stop-clause-takes
-returns-in_err-stop-clause-takes c = λ _ _ _. ok_passed c.from_residual-in_err-stop.result _ _ c.from_residual-in_err-stop.ensures.1
-
-pub returns-in_err-stop-clause-whole : goal.returns-in_err-stop-clause-whole
-returns-in_err-stop-clause-whole c = ok_passed c.from_residual-in_err-stop.result _ _ c.from_residual-in_err-stop.ensures.1
+pub returns-then-not-is_stop-clause-later : goal.returns-then-not-is_stop-clause-later
+returns-then-not-is_stop-clause-later c = λ takings rest text at.
+    let fixed = c.args.fixed.now in
+    let sys = system_of fixed.table.now.system.now in
+    let look = last_look (opening_look sys) takings in
+    let old = c.args.self.now.trail.reading in
+    let new = c.take_from_ahead.new.self.trail.reading in
+    let less = takes_later fixed.table.now.system.now.library.blocks sys fixed.form fixed.limit look c.args.line.now c.in-Ok.stop c.args.self.now c.take_from_ahead.new.self _ _ (c.in-Ok.ensures.goes look (Some []) at.stands.look) in
+    refused_then c.refusal_after-then-not-is_stop.result (λ n. n.number ≡ new.number) (λ n. old.number ≤ n.number) c.refusal_after-then-not-is_stop.ensures.number
+    (λ n is. subst (λ (k : ℕ). old.number ≤ k) (sym is) (below less))

@@ -1,13 +1,14 @@
-use Rattle.fb_inspect.proofs.lemmas.Common.{Vec, system_of, ◌≡◌, ◌<◌, ℕ, List, [], Some, ap, inl, inr, refl, subst, sym, line_of, steps_stop, IsNext, arith, err_from_is_err_and, Steps, limited, last_look, IsLookOf, unread, Remembered, IsTaking, Look, left_at, most, opening_look, FailsBy, IsUnstarted, IsWrongLine, Next, Trail, left_of, TickSteps}
+use Rattle.fb_inspect.proofs.lemmas.Common.{Vec, system_of, ◌≡◌, ◌<◌, ℕ, List, [], Some, ap, inl, inr, refl, subst, sym, line_of, steps_stop, IsNext, arith, err_from_is_err_and, Steps, limited, last_look, IsLookOf, unread, Remembered, IsTaking, Look, left_at, most, opening_look, FailsBy, IsUnstarted, IsWrongLine, Next, Trail, left_of, TickSteps, ◌≤◌}
 use Rattle.fb_inspect.proofs.lemmas.walk.OneStep.{limited_ends}
 use Rattle.fb_inspect.proofs.lemmas.walk.Stepped.{look_limited}
 use Rattle.fb_types.proofs.lemmas.lists.ByIndex.{element_at}
-use Rattle.fb_inspect.proofs.lemmas.walk.StepsStop.{end_found, stop_same, last_fails, last_goes, last_kept, last_limit}
+use Rattle.fb_inspect.proofs.lemmas.walk.StepsStop.{end_found, stop_same, last_fails, last_goes, last_limit}
 use Rattle.fb_inspect.proofs.lemmas.lines.OneEnd.{no_stop_text}
 use Rattle.fb_inspect.proofs.lemmas.results.Errors.{of_refusal}
 use Rattle.fb_inspect.proofs.lemmas.results.Refused.{refused_then}
 use Rattle.fb_inspect.proofs.lemmas.results.Joined.{ok_passed}
 use Rattle.fb_inspect.specs.declared.refused.finding.Finding.TheVariants as why
+use Rattle.fb_inspect.proofs.lemmas.walk.Held.{below, fails_later, takes_later}
 use Rattle.fb_inspect.proofs.walk.Walk.take_to_last_step.Goals as goal
 
 pub take_from_ahead-requires-clause-look : goal.take_from_ahead-requires-clause-look
@@ -26,20 +27,12 @@ returns-clause-takes c = λ look remaining is.
     let fixed = c.args.fixed.now in
     let sys = system_of fixed.table.now.system.now in
     limited_ends fixed.table.now.system.now.library.blocks sys fixed.form c.args.steps look c.args.line.now c.args.self.now c.limit.new.self c.take_from_ahead.new.self (unread c.args.ahead.now remaining)
-    (unread c.take_from_ahead.new.ahead remaining) c.in_ok-stop.stop c.stop_of.result (c.keep_steps.ensures.kept sys look is c.if-not-keep_steps.false) c.limit.ensures.shown c.limit.ensures.trail c.limit.ensures.blocks is (c.limit.ensures.limited c.if-not-limit.false)
+    (unread c.take_from_ahead.new.ahead remaining) c.in_ok-stop.stop c.stop_of.result (c.requires.kept look is) c.limit.ensures.shown c.limit.ensures.trail c.limit.ensures.blocks is (c.limit.ensures.limited c.if-not-limit.false)
     (λ l at. c.in_ok-stop.ensures.goes l remaining at) (λ l at. c.has_run_out.ensures.out sys l at c.if-not-has_run_out.false) c.in_ok-stop.ensures.next (c.is_stop.ensures.stop c.if-not-is_stop.false)
     c.stop_of.ensures
 
-pub returns-then-not-keep_steps-clause-stands : goal.returns-then-not-keep_steps-clause-stands
-returns-then-not-keep_steps-clause-stands c = λ takings rest text rows few at watches ahead near.
-    let fixed = c.args.fixed.now in
-    let sys = system_of fixed.table.now.system.now in
-    last_kept fixed.table.now fixed.form takings c.args.self.now c.args.ahead.now c.args.line.now rest text at rows ahead c.args.steps near c.args.ahead.now.watched.is_excess c.args.ahead.now.watched.number
-    c.args.ahead.now.watched.text.items watches (c.keep_steps.ensures.more sys (last_look (opening_look sys) takings) at.stands.look c.if-not-keep_steps.true) c.refusal_for_steps.result c.refusal_for_steps.ensures.back
-    c.refusal_for_steps.new.self.trail.reading.line.items (λ set. ap (λ (v : Vec ℕ). v.items) (c.refusal_for_steps.ensures.back_at set))
-
 pub returns-then-not-limit-clause-stands : goal.returns-then-not-limit-clause-stands
-returns-then-not-limit-clause-stands c = λ takings rest text rows few at watches ahead near.
+returns-then-not-limit-clause-stands c = λ takings rest text rows few at ahead near.
     let fixed = c.args.fixed.now in
     let sys = system_of fixed.table.now.system.now in
     let l = c.args.line.now in
@@ -55,7 +48,7 @@ returns-then-not-limit-clause-stands c = λ takings rest text rows few at watche
     (λ kept. absurd (omega (arith, less, same, kept)))))
 
 pub returns-in_err-stop-clause-stands : goal.returns-in_err-stop-clause-stands
-returns-in_err-stop-clause-stands c = λ takings rest text rows few at watches ahead near.
+returns-in_err-stop-clause-stands c = λ takings rest text rows few at ahead near.
     let fixed = c.args.fixed.now in
     let sys = system_of fixed.table.now.system.now in
     let l = c.args.line.now in
@@ -76,7 +69,7 @@ returns-in_err-stop-clause-stands c = λ takings rest text rows few at watches a
     (subst (λ (r : Trail). FailsBy T (IsUnstarted sys c.args.steps less l) sys fixed.form l r.reading new (Some c.args.ahead.now.text.items) (Some fails.0) n) c.limit.ensures.trail fails.1)))
 
 pub returns-then-not-is_stop-clause-stands : goal.returns-then-not-is_stop-clause-stands
-returns-then-not-is_stop-clause-stands c = λ takings rest text rows few at watches ahead near.
+returns-then-not-is_stop-clause-stands c = λ takings rest text rows few at ahead near.
     let fixed = c.args.fixed.now in
     let sys = system_of fixed.table.now.system.now in
     let l = c.args.line.now in
@@ -94,7 +87,7 @@ returns-then-not-is_stop-clause-stands c = λ takings rest text rows few at watc
     (end_found c.in_ok-stop.stop (read.line.items ≡ steps_stop sys (line_of sys l)) c.found_by.result why.Unmade c.found_by.ensures.stopped c.found_by.ensures.other (λ unmade. inr (unmade, other))) (λ is out. other is))
 
 pub returns-then-not-has_run_out-clause-stands : goal.returns-then-not-has_run_out-clause-stands
-returns-then-not-has_run_out-clause-stands c = λ takings rest text rows few at watches ahead near.
+returns-then-not-has_run_out-clause-stands c = λ takings rest text rows few at ahead near.
     let fixed = c.args.fixed.now in
     let sys = system_of fixed.table.now.system.now in
     let l = c.args.line.now in
@@ -121,3 +114,63 @@ returns-in_err-stop-clause-takes c = λ _ _ _. ok_passed c.from_residual.result 
 
 pub returns-in_err-stop-clause-whole : goal.returns-in_err-stop-clause-whole
 returns-in_err-stop-clause-whole c = ok_passed c.from_residual.result _ _ c.from_residual.ensures.1
+
+-- ---- The number of a line that is refused
+
+pub returns-then-not-limit-clause-later : goal.returns-then-not-limit-clause-later
+returns-then-not-limit-clause-later c = λ takings rest text at.
+    let old = c.args.self.now.trail.reading in
+    of_refusal (λ n. old.number ≤ n.number) c.refusal.result (record { number = c.limit.new.self.trail.reading.number; finding = why.NoStep }) c.refusal.ensures
+    (subst (λ (r : Trail). old.number ≤ r.reading.number) (sym c.limit.ensures.trail) (omega arith))
+
+pub returns-in_err-stop-clause-later : goal.returns-in_err-stop-clause-later
+returns-in_err-stop-clause-later c = λ takings rest text at.
+    let fixed = c.args.fixed.now in
+    let sys = system_of fixed.table.now.system.now in
+    let l = c.args.line.now in
+    let look = last_look (opening_look sys) takings in
+    let less : Look = limited c.args.steps l.key.tick l.key.resource look in
+    let is_look : IsLookOf sys c.limit.new.self.blocks.items c.limit.new.self.steps.items less =
+    subst (λ (b : Vec Remembered). IsLookOf sys b.items c.limit.new.self.steps.items less) (sym c.limit.ensures.blocks)
+    (look_limited sys c.args.steps l.key look c.args.self.now.blocks.items c.args.self.now.steps.items c.limit.new.self.steps.items at.stands.look (c.limit.ensures.limited c.if-not-limit.false)) in
+    let T = IsTaking sys c.args.steps less in
+    let old = c.args.self.now.trail.reading in
+    let mid = c.limit.new.self.trail.reading in
+    let new = c.take_from_ahead.new.self.trail.reading in
+    let q = err_from_is_err_and c.from_residual.result c.from_residual.ensures.1 in
+    rw (q.1, q.2)
+    (refused_then c.in_err-stop.field-0.0 (λ n. (left : List ℕ) × FailsBy T (IsUnstarted sys c.args.steps less l) sys fixed.form l mid new (Some c.args.ahead.now.text.items) (Some left) n) (λ n. old.number ≤ n.number)
+    (c.in_err-stop.ensures.refused less at.names at.plain is_look)
+    (λ n fails.
+    let all = fails_later T (IsUnstarted sys c.args.steps less l) sys fixed.form l mid new (Some c.args.ahead.now.text.items) (Some fails.0) n fails.1 in
+    subst (λ (r : Trail). r.reading.number ≤ n.number) c.limit.ensures.trail (subst (λ (k : ℕ). mid.number ≤ k) (sym all.1) all.0)))
+
+pub returns-then-not-is_stop-clause-later : goal.returns-then-not-is_stop-clause-later
+returns-then-not-is_stop-clause-later c = λ takings rest text at.
+    let read = c.take_from_ahead.new.self.trail.reading in
+    let old = c.args.self.now.trail.reading in
+    of_refusal (λ n. old.number ≤ n.number) c.refusal-then-not-is_stop.result (record { number = read.number; finding = c.found_by.result }) c.refusal-then-not-is_stop.ensures
+    (subst (λ (r : Trail). r.reading.number ≤ read.number) c.limit.ensures.trail (below (let fixed = c.args.fixed.now in
+    let sys = system_of fixed.table.now.system.now in
+    let l = c.args.line.now in
+    let look = last_look (opening_look sys) takings in
+    let less : Look = limited c.args.steps l.key.tick l.key.resource look in
+    let is_look : IsLookOf sys c.limit.new.self.blocks.items c.limit.new.self.steps.items less =
+    subst (λ (b : Vec Remembered). IsLookOf sys b.items c.limit.new.self.steps.items less) (sym c.limit.ensures.blocks)
+    (look_limited sys c.args.steps l.key look c.args.self.now.blocks.items c.args.self.now.steps.items c.limit.new.self.steps.items at.stands.look (c.limit.ensures.limited c.if-not-limit.false)) in
+    takes_later fixed.table.now.system.now.library.blocks sys fixed.form c.args.steps less l c.in_ok-stop.stop c.limit.new.self c.take_from_ahead.new.self _ _ (c.in_ok-stop.ensures.goes less (Some []) is_look))))
+
+pub returns-then-not-has_run_out-clause-later : goal.returns-then-not-has_run_out-clause-later
+returns-then-not-has_run_out-clause-later c = λ takings rest text at.
+    let read = c.take_from_ahead.new.self.trail.reading in
+    let old = c.args.self.now.trail.reading in
+    of_refusal (λ n. old.number ≤ n.number) c.refusal-then-not-has_run_out.result (record { number = read.number; finding = c.found_by-then-not-has_run_out.result }) c.refusal-then-not-has_run_out.ensures
+    (subst (λ (r : Trail). r.reading.number ≤ read.number) c.limit.ensures.trail (below (let fixed = c.args.fixed.now in
+    let sys = system_of fixed.table.now.system.now in
+    let l = c.args.line.now in
+    let look = last_look (opening_look sys) takings in
+    let less : Look = limited c.args.steps l.key.tick l.key.resource look in
+    let is_look : IsLookOf sys c.limit.new.self.blocks.items c.limit.new.self.steps.items less =
+    subst (λ (b : Vec Remembered). IsLookOf sys b.items c.limit.new.self.steps.items less) (sym c.limit.ensures.blocks)
+    (look_limited sys c.args.steps l.key look c.args.self.now.blocks.items c.args.self.now.steps.items c.limit.new.self.steps.items at.stands.look (c.limit.ensures.limited c.if-not-limit.false)) in
+    takes_later fixed.table.now.system.now.library.blocks sys fixed.form c.args.steps less l c.in_ok-stop.stop c.limit.new.self c.take_from_ahead.new.self _ _ (c.in_ok-stop.ensures.goes less (Some []) is_look))))

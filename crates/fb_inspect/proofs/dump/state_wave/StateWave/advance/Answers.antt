@@ -1,4 +1,4 @@
-use Rattle.fb_inspect.proofs.lemmas.Common.{sym, ap, subst, ◌∙◌, Ok, false, system_of, err_from_is_err_and, last_look, IsNext, IsNextLine, Look, opening_look, unread, Reading, Trail, Step, Walk, takings_of, GoesAfter}
+use Rattle.fb_inspect.proofs.lemmas.Common.{sym, ap, subst, ◌∙◌, Ok, false, system_of, err_from_is_err_and, last_look, IsNext, IsNextLine, Look, opening_look, unread, Reading, Trail, Step, Walk, takings_of, GoesAfter, ◌≡◌, ◌<◌, ◌≤◌, None, Refuses, most}
 use Rattle.fb_inspect.specs.walk.Stepping.{StepGoes}
 use Rattle.fb_inspect.specs.declared.walk.Step.TheVariants as step
 use Rattle.fb_inspect.specs.dump.Waving.{HasGoneOn, IsNextKept}
@@ -8,6 +8,7 @@ use Rattle.fb_inspect.proofs.lemmas.walk.UpToRead.{whole_aside}
 use Rattle.fb_inspect.specs.walk.Standing.{GoesWhole}
 use Rattle.fb_inspect.proofs.lemmas.lines.Moving.{next_line}
 use Rattle.fb_inspect.proofs.lemmas.results.Joined.{ok_passed}
+use Rattle.fb_inspect.proofs.lemmas.walk.Held.{end_later, takes_later}
 use Rattle.fb_inspect.proofs.dump.state_wave.StateWave.advance.Goals as goal
 
 pub keep_next-requires-clause-next : goal.keep_next-requires-clause-next
@@ -186,3 +187,67 @@ returns-clause-uncut g c = λ rest text few names known whole allowed.
     let w = c.args.self.now.walk in
     subst (λ (w : Walk). GoesWhole sys fixed.form c.args.terms.steps w c.advance.new.ahead (g.R.Read.remaining c.advance.new.input) text (Ok c.in_ok-step.step)) (sym c.in_ok-show.ensures.walk)
     (c.in_ok-step.ensures.uncut rest text few names known (whole_aside sys fixed.form c.args.terms.steps w c.forget.new.self _ _ c.args.ahead.now rest text c.forget.ensures.others whole) allowed)
+
+-- ---- What was added
+
+pub returns-then-is_cut_off-clause-grows : goal.returns-then-is_cut_off-clause-grows
+returns-then-is_cut_off-clause-grows g c = λ known old new have same. absurd (let clash : step.Taken ≡ step.CutOff = sym same ∙ c.is_cut_off.ensures.yes c.if-is_cut_off.true in cc)
+
+pub returns-in_default-clause-grows : goal.returns-in_default-clause-grows
+returns-in_default-clause-grows g c = λ known old new have same.
+    let fixed = c.args.fixed.now in
+    let types = fixed.table.now.system.now.library.blocks in
+    let sys = system_of fixed.table.now.system.now in
+    let seen : Look = last_look (opening_look sys) (takings_of have.takings) in
+    let x = subst (StepGoes types sys fixed.form c.args.terms.steps seen _ _ _ _ _) same (c.in_ok-step.ensures.takes seen have.look) in
+    absurd ((subst (IsNextKept sys c.args.self.now.walk c.keep_next.new.before) c.in_default.is c.in_ok-kept.ensures) x.line (sym (x.is ∙ ap (λ (t : Trail). t.reading.next) c.forget.ensures.others)))
+
+pub returns-clause-grows : goal.returns-clause-grows
+returns-clause-grows g c = λ known old new have same.
+    let fixed = c.args.fixed.now in
+    let types = fixed.table.now.system.now.library.blocks in
+    let sys = system_of fixed.table.now.system.now in
+    let seen : Look = last_look (opening_look sys) (takings_of have.takings) in
+    let x = subst (StepGoes types sys fixed.form c.args.terms.steps seen _ _ _ _ _) same (c.in_ok-step.ensures.takes seen have.look) in
+    let event = subst (IsNextKept sys c.args.self.now.walk c.keep_next.new.before) c.in-Some.is c.in_ok-kept.ensures in
+    let goes = x.goes.goes in
+    let less = takes_later types sys fixed.form most seen x.line None _ _ _ _ goes in
+    record {
+      line = x.line;
+      is = x.is ∙ ap (λ (t : Trail). t.reading.next) c.forget.ensures.others;
+      number = subst (λ (w : Walk). c.args.self.now.walk.trail.reading.number < w.trail.reading.number) (sym c.in_ok-show.ensures.walk)
+          (subst (λ (t : Trail). t.reading.number < c.advance.new.self.trail.reading.number) c.forget.ensures.others less);
+      text = (c.in_ok-show.ensures.shown seen goes.taking.after (event.saved seen have.look.are) goes.look_after.are).grows have.takings have.waved.sent have.waved.shown;
+    }
+
+pub returns-then-is_cut_off-clause-ends : goal.returns-then-is_cut_off-clause-ends
+returns-then-is_cut_off-clause-ends g c = λ known old new have end same. absurd (let clash : step.Ended end ≡ step.CutOff = sym same ∙ c.is_cut_off.ensures.yes c.if-is_cut_off.true in cc)
+
+pub returns-in_default-clause-ends : goal.returns-in_default-clause-ends
+returns-in_default-clause-ends g c = λ known old new have end same.
+    let fixed = c.args.fixed.now in
+    let types = fixed.table.now.system.now.library.blocks in
+    let sys = system_of fixed.table.now.system.now in
+    let seen : Look = last_look (opening_look sys) (takings_of have.takings) in
+    let x = subst (StepGoes types sys fixed.form c.args.terms.steps seen _ _ _ _ _) same (c.in_ok-step.ensures.takes seen have.look) in
+    subst (λ (t : Trail). t.reading.number ≤ c.advance.new.self.trail.reading.number) c.forget.ensures.others (end_later types sys fixed.form c.args.terms.steps seen _ _ _ _ _ end x)
+
+pub returns-clause-ends : goal.returns-clause-ends
+returns-clause-ends g c = λ known old new have end same.
+    let fixed = c.args.fixed.now in
+    let types = fixed.table.now.system.now.library.blocks in
+    let sys = system_of fixed.table.now.system.now in
+    let seen : Look = last_look (opening_look sys) (takings_of have.takings) in
+    let x = subst (StepGoes types sys fixed.form c.args.terms.steps seen _ _ _ _ _) same (c.in_ok-step.ensures.takes seen have.look) in
+    subst (λ (w : Walk). c.args.self.now.walk.trail.reading.number ≤ w.trail.reading.number) (sym c.in_ok-show.ensures.walk)
+    (subst (λ (t : Trail). t.reading.number ≤ c.advance.new.self.trail.reading.number) c.forget.ensures.others (end_later types sys fixed.form c.args.terms.steps seen _ _ _ _ _ end x))
+
+pub returns-in_err-step-clause-later : goal.returns-in_err-step-clause-later
+returns-in_err-step-clause-later g c = λ rest text names known well.
+    let fixed = c.args.fixed.now in
+    let sys = system_of fixed.table.now.system.now in
+    let w = c.args.self.now.walk in
+    let q = err_from_is_err_and c.from_residual-in_err-step.result c.from_residual-in_err-step.ensures.1 in
+    rw (q.1, q.2)
+    (subst (λ (t : Trail). Refuses (λ n. t.reading.number ≤ n.number) c.in_err-step.field-0.0) c.forget.ensures.others
+    (c.in_err-step.ensures.later rest text names known (well_aside sys fixed.form c.args.terms.steps w c.forget.new.self _ _ c.args.ahead.now rest text c.forget.ensures.others well)))

@@ -1,6 +1,7 @@
-use Rattle.fb_inspect.proofs.lemmas.Common.{system_of, err_from_is_err_and, Page}
+use Rattle.fb_inspect.proofs.lemmas.Common.{system_of, err_from_is_err_and, Page, refl}
 use Rattle.fb_inspect.proofs.lemmas.reactions.Placed.{err_any}
 use Rattle.fb_inspect.proofs.lemmas.dump.Ending.{none_sent, part_sent}
+use Rattle.fb_inspect.proofs.lemmas.walk.Held.{refuses_any}
 use Rattle.fb_inspect.proofs.dump.state_wave.StateWave.finish.Goals as goal
 
 pub returns-in_err-end-clause-fault : goal.returns-in_err-end-clause-fault
@@ -31,3 +32,8 @@ pub returns-in_err-finish-clause-refused : goal.returns-in_err-finish-clause-ref
 returns-in_err-finish-clause-refused g c =
     let q = err_from_is_err_and c.from_residual-in_err-finish.result c.from_residual-in_err-finish.ensures.1 in
     rw (q.1, q.2) c.in_err-finish.ensures.refused
+
+pub returns-in_err-finish-clause-kept : goal.returns-in_err-finish-clause-kept
+returns-in_err-finish-clause-kept g c =
+    let q = err_from_is_err_and c.from_residual-in_err-finish.result c.from_residual-in_err-finish.ensures.1 in
+    rw (q.1, q.2) (refuses_any _ c.in_err-finish.field-0.0 (λ n. refl))

@@ -1,4 +1,5 @@
-use Rattle.fb_inspect.proofs.lemmas.Common.{◌≡◌, ◌≤◌, ℕ, List, Option, Some, Consumes, system_of, HasNames, most, IsLeft, StandsWell, unread, HasWaved}
+use Rattle.fb_inspect.proofs.lemmas.Common.{◌≡◌, ◌≤◌, ◌++◌, ℕ, List, Option, Some, Consumes, system_of, HasNames, most, IsLeft, StandsWell, unread, HasWaved}
+use Rattle.fb_inspect.specs.StateWaves.{WritesBefore}
 use Rattle.fb_inspect.specs.walk.Standing.{StandsWhole}
 use Rattle.fb_wave.specs.declared.truncation.Cut.TheVariants.{Allowed}
 use Rattle.fb_inspect.proofs.dump.state_wave.StateWave.go.Given as goal
@@ -14,3 +15,6 @@ invariant-loop g l =
     × ((rest text : List ℕ) → l.terms.steps ≤ most → HasNames (system_of l.fixed.table.now.system.now) → g.R.Read.remaining l.fn.input ≡ Some rest
     → StandsWhole (system_of l.fixed.table.now.system.now) l.fixed.form l.terms.steps l.fn.self.walk l.fn.ahead rest text → l.terms.cut ≡ Allowed
     → IsLeft (g.R.Read.remaining l.input) (λ left. StandsWhole (system_of l.fixed.table.now.system.now) l.fixed.form l.terms.steps l.self.walk l.ahead left text))
+    × ((rest text : List ℕ) → l.terms.steps ≤ most → HasNames (system_of l.fixed.table.now.system.now) → g.R.Read.remaining l.fn.input ≡ Some rest
+    → StandsWell (system_of l.fixed.table.now.system.now) l.fixed.form l.terms.steps l.fn.self.walk l.fn.ahead rest text → text ≡ l.fn.self.walk.trail.reading.line.items ++ rest
+    → WritesBefore (system_of l.fixed.table.now.system.now) l.self.walk.trail.reading.number text (g.W.Write.contents l.fn.out) (g.W.Write.contents l.out))

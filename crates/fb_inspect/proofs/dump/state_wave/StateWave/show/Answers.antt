@@ -3,6 +3,7 @@ use Rattle.fb_wave.proofs.lemmas.Handing.{on_ok}
 use Rattle.fb_inspect.proofs.lemmas.dump.Changing.{taking_text}
 use Rattle.fb_inspect.proofs.lemmas.dump.Growing.{here, shows_more}
 use Rattle.fb_inspect.proofs.lemmas.dump.WithoutInside.{last_lines}
+use Rattle.fb_inspect.proofs.lemmas.walk.Held.{grown_twice}
 use Rattle.fb_inspect.proofs.dump.state_wave.StateWave.show.Goals as goal
 
 pub put_changes-requires-clause-instance : goal.put_changes-requires-clause-instance
@@ -28,6 +29,10 @@ returns-clause-shown c = λ look after before are.
     let p = path_at sys at.instance in
     on_ok c.show_lines.result _ _ c.show_lines.ensures.shown
     (λ lines. record {
+      grows = λ xs sent shows.
+          let first = c.in_ok-go_to.ensures.grows sys xs sent shows in
+          let second = c.in_ok-put_changes.ensures (look.blocks p) after before (subst (λ (bs : List Remembered). AreKept sys bs after) (sym c.as_slice-blocks.ensures.value) are) in
+          grown_twice _ _ _ _ first second;
       shown = λ xs y sent shows same first tick then own lost have.
           shows_more sys xs y sent c.go_to.new.text.items c.put_changes.new.text.items at.tick c.go_to.new.self c.show_lines.new.self (c.in_ok-go_to.ensures.shown sys xs sent shows) tick
           (c.in_ok-put_changes.ensures (look.blocks p) after before (subst (λ (bs : List Remembered). AreKept sys bs after) (sym c.as_slice-blocks.ensures.value) are)

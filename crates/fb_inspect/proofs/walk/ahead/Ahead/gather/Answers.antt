@@ -27,8 +27,8 @@ loop-preserved g c =
       c.loop.invariant.1,
     )
 
-pub returns-in_default-clause-watched : goal.returns-in_default-clause-watched
-returns-in_default-clause-watched g c = c.loop.invariant.1
+pub returns-in_default-clause-excess : goal.returns-in_default-clause-excess
+returns-in_default-clause-excess g c = c.loop.invariant.1
 
 pub returns-in_default-clause-other : goal.returns-in_default-clause-other
 returns-in_default-clause-other g c = λ names m is own.
