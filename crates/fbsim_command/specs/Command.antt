@@ -1,5 +1,5 @@
 -- What a call of the program does (this project's own).
-use Rattle.std.specs.Prelude.{◌≡◌, ◌⊎◌, ◌++◌, ℕ, Bool, true, false, List, [], map, Option, None, Result, Ok, Err, codes, string_bytes}
+use Rattle.std.specs.Prelude.{◌≡◌, ◌⊎◌, ◌++◌, ℕ, Bool, true, false, List, [], map, Option, None, Result, Ok, Err, IfOk, codes, string_bytes}
 use Rattle.std.specs.Borrow.{Bor}
 use Rattle.std.specs.Global.{Vec}
 use Rattle.std.specs.List.{list_any}
@@ -20,8 +20,8 @@ use Rattle.fb_sim.specs.Reports.{AreReports}
 use Rattle.fb_why.specs.Explained.{explained}
 use Rattle.fb_why.specs.declared.table.Explanation.{Explanation}
 use Rattle.fbsim_line.specs.Line.{AreCall, AreNoCall, AskHelp, IsTaken}
-use Rattle.fbsim_command.specs.Failures.{IsPartWritten, explained_text, failure_of, failure_of_source, no_refusal}
-use Rattle.fbsim_command.specs.Notes.{IsFileNote, Notes, NotesOf}
+use Rattle.fbsim_command.specs.Failures.{IsPartWritten, explained_text, failure_of, failure_of_source, no_refusal, reported_of}
+use Rattle.fbsim_command.specs.Notes.{Noted, NotesInput, NotesOf}
 use Rattle.fbsim_command.specs.Outcomes.{End, Held, IsRefused}
 use Rattle.fbsim_command.specs.OwnLines.{EndsIn}
 use Rattle.fbsim_command.specs.WarningLines.{AreWarnings, Naming, naming_in}
@@ -140,11 +140,16 @@ Reports n given (Check lint) s old new end reports = Warns lint n given s end re
 Reports n given (Run horizon steps workers serial form progress) s old new end reports =
     ReportsOn serial progress given (record { horizon = horizon; steps = steps; workers = workers; form = form }) old new end reports
 
+-- Of what is to be reported all was taken: these reports, and how a call ended, with its note.
+abbrev pub IsReported : (reports : Text) → End → Noted → (old new : Held) → Type 0
+IsReported reports end (Ok note) old new = Appends old new (reports ++ reported_of end note)
+IsReported reports end (Err e) old new = ⊥
+
 -- ---- The call
 
 -- The files are read, and what the task asks for is done with them; then it is reported which rows a run did not come to, and where it
 -- stopped. A syntax fault is one of the file that has it.
-pub record AreReadAndDone {S : Type 0} (reads : Reading S) (from to : S) (types : List Text) (c : Task) (s : Sorting) (old new : Held) (end : End) (reports : Text) (note : Option Text) : Type 0 where
+pub record AreReadAndDone {S : Type 0} (reads : Reading S) (from to : S) (types : List Text) (c : Task) (s : Sorting) (old new : Held) (end : End) (whole : Bool) (reports : Text) (note : Noted) : Type 0 where
   pub lines : List FileLines
   pub given : Given
   pub read : AreRead reads types c from to lines given
@@ -153,35 +158,35 @@ pub record AreReadAndDone {S : Type 0} (reads : Reading S) (from to : S) (types 
   pub first : Text
   pub reported : Reports (naming_in types c lines) given c.action s old new inner first
   pub rows : Text
-  pub late : ReportsRows c given.stimuli inner rows
+  pub late : ReportsRows c given.stimuli inner whole rows
   pub last : Text
-  pub located : ReportsStop types c lines given inner last
+  pub located : ReportsStop types c lines given inner whole last
   pub reports_are : reports ≡ (first ++ rows) ++ last
-  pub noted : NotesOf types c lines given inner note
+  pub noted : IfOk note (NotesOf types c lines given inner)
   pub ends : EndsIn types c.declaration.now lines inner end
 
 -- A file is not read.
-pub record IsFileFault {S : Type 0} (reads : Reading S) (from to : S) (types : List Text) (c : Task) (old new : Held) (end : End) (reports : Text) (note : Option Text) : Type 0 where
+pub record IsFileFault {S : Type 0} (reads : Reading S) (from to : S) (types : List Text) (c : Task) (old new : Held) (end : End) (reports : Text) (note : Noted) : Type 0 where
   pub part : Part
   pub fault : SourceFault
   pub unread : IsUnread reads types c from to part fault
   pub failed : end ≡ Err (failure_of_source fault)
   pub same : new ≡ old
   pub reported : reports ≡ []
-  pub noted : Notes c.why (IsFileNote types c part fault) note
+  pub noted : IfOk note (NotesInput types c part fault)
 
-abbrev pub Performs : {S : Type 0} → Reading S → (from to : S) → (types : List Text) → Task → Sorting → (old new : Held) → End → (reports : Text) → (note : Option Text) → Type 0
-Performs reads from to types c s old new end reports note =
-    AreReadAndDone reads from to types c s old new end reports note ⊎ IsFileFault reads from to types c old new end reports note
+abbrev pub Performs : {S : Type 0} → Reading S → (from to : S) → (types : List Text) → Task → Sorting → (old new : Held) → End → (whole : Bool) → (reports : Text) → (note : Noted) → Type 0
+Performs reads from to types c s old new end whole reports note =
+    AreReadAndDone reads from to types c s old new end whole reports note ⊎ IsFileFault reads from to types c old new end reports note
 
 -- nothing is read, and only the end is reported
-abbrev pub ReportsNoMore : {S : Type 0} → (from to : S) → (reports : Text) → (note : Option Text) → Type 0
-ReportsNoMore from to reports note = (to ≡ from) × (reports ≡ []) × (note ≡ None)
+abbrev pub ReportsNoMore : {S : Type 0} → (from to : S) → (reports : Text) → (note : Noted) → Type 0
+ReportsNoMore from to reports note = (to ≡ from) × (reports ≡ []) × (note ≡ Ok None)
 
 -- What is said of warnings names some that there are, and the task is performed; or it doesn't, and nothing is read.
-abbrev pub SortsAndPerforms : {S : Type 0} → Reading S → (from to : S) → (types : List Text) → Task → Levels → (old new : Held) → End → (reports : Text) → (note : Option Text) → Type 0
-SortsAndPerforms reads from to types c l old new end reports note =
-    ((s : Sorting) × IsSorting l s × Performs reads from to types c s old new end reports note)
+abbrev pub SortsAndPerforms : {S : Type 0} → Reading S → (from to : S) → (types : List Text) → Task → Levels → (old new : Held) → End → (whole : Bool) → (reports : Text) → (note : Noted) → Type 0
+SortsAndPerforms reads from to types c l old new end whole reports note =
+    ((s : Sorting) × IsSorting l s × Performs reads from to types c s old new end whole reports note)
     ⊎ ((failure : Failure) × IsUnsorted l failure × (end ≡ Err failure) × (new ≡ old) × ReportsNoMore from to reports note)
 
 -- whether a refusal or a reason has this name, in any letter case
@@ -240,9 +245,9 @@ names_of v = map (λ n. n.now) v.items
 
 -- The program does what the words call for: `run` or `check`, `wave`, `explain`, `expect`, `diff`, `draw`, `inspect`,
 -- `coverage` or `session`. Or they name no call.
-abbrev pub Does : {S : Type 0} → Reading S → Opening S → (from to : S) → List Text → (old new : Held) → End → (reports : Text) → (note : Option Text) → Type 0
-Does reads opens from to words old new end reports note =
-    ((c : Task) × (types : Vec (Bor Text)) × (l : Levels) × AreCall words (call.Task c types l) × IsTaken words × SortsAndPerforms reads from to (names_of types) c l old new end reports note)
+abbrev pub Does : {S : Type 0} → Reading S → Opening S → (from to : S) → List Text → (old new : Held) → End → (whole : Bool) → (reports : Text) → (note : Noted) → Type 0
+Does reads opens from to words old new end whole reports note =
+    ((c : Task) × (types : Vec (Bor Text)) × (l : Levels) × AreCall words (call.Task c types l) × IsTaken words × SortsAndPerforms reads from to (names_of types) c l old new end whole reports note)
     ⊎ ((w : Wave) × (types : Vec (Bor Text)) × AreCall words (call.Wave w types) × IsTaken words × Shows reads opens from to (names_of types) w old new end note × (reports ≡ []))
     ⊎ ((name : Bor Text) × AreCall words (call.Explain name) × IsTaken words × ExplainsRefusal name.now old new end × ReportsNoMore from to reports note)
     ⊎ ((x : Expect) × AreCall words (call.Expect x) × IsTaken words × Expects reads opens from to x old new end note × (reports ≡ []))
@@ -250,5 +255,5 @@ Does reads opens from to words old new end reports note =
     ⊎ ((d : Draw) × (types : Vec (Bor Text)) × AreCall words (call.Draw d types) × IsTaken words × Draws reads from to (names_of types) d old new end note × (reports ≡ []))
     ⊎ ((x : Inspect) × (types : Vec (Bor Text)) × AreCall words (call.Inspect x types) × IsTaken words × ShowsInsides reads opens from to (names_of types) x old new end note × (reports ≡ []))
     ⊎ ((x : Coverage) × (types : Vec (Bor Text)) × AreCall words (call.Coverage x types) × IsTaken words × ReportsCoverage reads opens from to (names_of types) x old new end note × (reports ≡ []))
-    ⊎ ((x : SessionCall) × (types : Vec (Bor Text)) × AreCall words (call.Session x types) × IsTaken words × TalksIn reads opens from to (names_of types) x old new end × (reports ≡ []) × (note ≡ None))
+    ⊎ ((x : SessionCall) × (types : Vec (Bor Text)) × AreCall words (call.Session x types) × IsTaken words × TalksIn reads opens from to (names_of types) x old new end × (reports ≡ []) × (note ≡ Ok None))
     ⊎ (Explains words old new end × ReportsNoMore from to reports note)

@@ -1,5 +1,5 @@
 -- What a call that reports what traces cover does (docs/FORMATS.md, "What traces cover"; this project's own).
-use Rattle.std.specs.Prelude.{◌≡◌, ◌⊎◌, ℕ, ◌+◌, Bool, true, false, nat_eq, nat_lt, if◌then◌else◌, List, [], ◌∷◌, ◌++◌, length, map, Option, Some, None, IfSome, IsTrue, Ok, Err, codes, decimal, string_bytes}
+use Rattle.std.specs.Prelude.{◌≡◌, ◌⊎◌, ℕ, ◌+◌, Bool, true, false, nat_eq, nat_lt, if◌then◌else◌, List, [], ◌∷◌, ◌++◌, length, map, Option, Some, None, IfOk, IfSome, IsTrue, Ok, Err, codes, decimal, string_bytes}
 use Rattle.std.specs.Io.KnownBytes.{Appends}
 use Rattle.clap.specs.Words.{Text}
 use Rattle.fb_types.specs.Headline.{Inputs, system_of}
@@ -18,7 +18,7 @@ use Rattle.fb_sim.specs.Serial.{Declares}
 use Rattle.fbsim_command.specs.Expecting.{IsNoTrace}
 use Rattle.fbsim_command.specs.Failures.{IsPartWritten, failure_of_source, refused_trace}
 use Rattle.fbsim_command.specs.InsideNotes.{SaysLine}
-use Rattle.fbsim_command.specs.Notes.{IsFileNote, IsNoteOfName, Notes, NotesOf, rest_note}
+use Rattle.fbsim_command.specs.Notes.{IsFirstOf, IsNoteOfName, Noted, NotesInput, NotesOf, rest_note}
 use Rattle.fbsim_command.specs.Outcomes.{End, Held, IsRefused}
 use Rattle.fbsim_command.specs.OwnLines.{EndsIn}
 use Rattle.fbsim_command.specs.Reading.{Reading, AreRead, IsUnread, checked}
@@ -219,32 +219,36 @@ IsTraceNote x name note =
 
 -- A note is given only where one is asked for, and then it is one to a trace.
 abbrev pub NotesTrace : Coverage → Option Text → Type 0
-NotesTrace x None = Unit {0}
-NotesTrace x (Some note) = IsTrue x.why × ((name : Text) × IsTraceNote x name note)
+NotesTrace x note = IfSome note (λ n. IsTrue x.why × ((name : Text) × IsTraceNote x name n))
+
+-- There is such a note where one is asked for and the file of a trace fails.
+abbrev pub NotesTraces : Coverage → End → Option Text → Type 0
+NotesTraces x end None = IsTrue x.why → end ≡ Err File → ⊥
+NotesTraces x end (Some note) = NotesTrace x (Some note)
 
 -- ---- What is read
 
 -- All is read that traces are of, and what they cover is reported. A syntax fault is one of the file that has it.
 -- A note is that of a check, or of a trace.
-pub record IsReadAndReported {S : Type 0} (reads : Reading S) (opens : Opening S) (from to : S) (types : List Text) (x : Coverage) (old new : Held) (end : End) (note : Option Text) : Type 0 where
+pub record IsReadAndReported {S : Type 0} (reads : Reading S) (opens : Opening S) (from to : S) (types : List Text) (x : Coverage) (old new : Held) (end : End) (note : Noted) : Type 0 where
   pub lines : List FileLines
   pub given : Given
   pub between : S
   pub read : AreRead reads types (files_of x) from between lines given
   pub inner : End
   pub done : WritesReport opens given x between to old new inner
-  pub noted : NotesOf types (files_of x) lines given inner note ⊎ NotesTrace x note
+  pub noted : IfOk note (IsFirstOf (NotesTraces x inner) (NotesOf types (files_of x) lines given inner))
   pub ends : EndsIn types x.declaration.now lines inner end
 
 -- A file is not read.
-pub record IsNotRead {S : Type 0} (reads : Reading S) (from to : S) (types : List Text) (x : Coverage) (old new : Held) (end : End) (note : Option Text) : Type 0 where
+pub record IsNotRead {S : Type 0} (reads : Reading S) (from to : S) (types : List Text) (x : Coverage) (old new : Held) (end : End) (note : Noted) : Type 0 where
   pub part : Part
   pub fault : SourceFault
   pub unread : IsUnread reads types (files_of x) from to part fault
   pub failed : end ≡ Err (failure_of_source fault)
-  pub noted : Notes x.why (IsFileNote types (files_of x) part fault) note
+  pub noted : IfOk note (NotesInput types (files_of x) part fault)
   pub same : new ≡ old
 
-abbrev pub ReportsCoverage : {S : Type 0} → Reading S → Opening S → (from to : S) → (types : List Text) → Coverage → (old new : Held) → End → Option Text → Type 0
+abbrev pub ReportsCoverage : {S : Type 0} → Reading S → Opening S → (from to : S) → (types : List Text) → Coverage → (old new : Held) → End → Noted → Type 0
 ReportsCoverage reads opens from to types x old new end note =
     IsReadAndReported reads opens from to types x old new end note ⊎ IsNotRead reads from to types x old new end note

@@ -1,5 +1,5 @@
 -- What a call that draws what is declared does (docs/FORMATS.md, "Pictures (DOT)"; this project's own).
-use Rattle.std.specs.Prelude.{◌≡◌, ◌⊎◌, ◌&&◌, ℕ, Bool, List, false, true, Option, Some, None, codes, option_and_then, option_map, Ok, Err}
+use Rattle.std.specs.Prelude.{◌≡◌, ◌⊎◌, ◌&&◌, ℕ, Bool, List, false, true, Option, Some, None, IfOk, codes, option_and_then, option_map, Ok, Err}
 use Rattle.std.specs.Io.KnownBytes.{Appends}
 use Rattle.clap.specs.Words.{Text}
 use Rattle.fb_types.specs.Headline.{Inputs}
@@ -10,8 +10,8 @@ use Rattle.fb_sim.specs.Serial.{Declares}
 use Rattle.fbsim_command.specs.Failures.{IsPartWritten, failure_of_source}
 use Rattle.fbsim_command.specs.Inspecting.{upper}
 use Rattle.fbsim_command.specs.Nearest.{IsNearestType}
-use Rattle.fbsim_command.specs.Notes.{IsFileNote, Notes, NotesOf}
-use Rattle.fbsim_command.specs.Outcomes.{End, Held, IsRefused}
+use Rattle.fbsim_command.specs.Notes.{IsFirstOf, Noted, NotesInput, NotesOf}
+use Rattle.fbsim_command.specs.Outcomes.{End, HasRefusal, Held, IsRefused}
 use Rattle.fbsim_command.specs.OwnLines.{EndsIn}
 use Rattle.fbsim_command.specs.Reading.{Reading, AreRead, IsUnread, checked}
 use Rattle.fbsim_command.specs.UnknownNames.{is_unknown, unknown_line}
@@ -97,9 +97,9 @@ SaysType i None line = line ≡ None
 SaysType i (Some text) None = (graph : Text) × (graph_of i (Some text) ≡ Some graph)
 SaysType i (Some text) (Some line) = IsTypeLine i text line
 
--- the same for what is declared
+-- the same for what is declared; there is no line where the inputs are refused
 abbrev pub SaysTypeOf : Given → (asked : Option Text) → (line : Option Text) → Type 0
-SaysTypeOf given asked line = (i : Inputs) × Declares given i × SaysType i asked line
+SaysTypeOf given asked line = ((i : Inputs) × Declares given i × SaysType i asked line) ⊎ (HasRefusal given × (line ≡ None))
 
 -- such a line is asked for: the call asks for locations, and ends because a name is unknown
 abbrev pub asks_line : Draw → End → Bool
@@ -112,25 +112,25 @@ NotesType d given end note =
 
 -- ---- What is read
 
--- The files are read, and the graph of what they declare is written. A syntax fault is one of the file that has it. A note is that of a
--- check, or says that the type is unknown.
-pub record IsReadAndDrawn {S : Type 0} (reads : Reading S) (from to : S) (types : List Text) (d : Draw) (old new : Held) (end : End) (note : Option Text) : Type 0 where
+-- The files are read, and the graph of what they declare is written. A syntax fault is one of the file that has it. The note says
+-- that the type is unknown, or it is that of a check.
+pub record IsReadAndDrawn {S : Type 0} (reads : Reading S) (from to : S) (types : List Text) (d : Draw) (old new : Held) (end : End) (note : Noted) : Type 0 where
   pub lines : List FileLines
   pub given : Given
   pub read : AreRead reads types (files_of d) from to lines given
   pub inner : End
   pub done : WritesGraph given (type_asked d) old new inner
-  pub noted : NotesOf types (files_of d) lines given inner note ⊎ NotesType d given inner note
+  pub noted : IfOk note (IsFirstOf (NotesType d given inner) (NotesOf types (files_of d) lines given inner))
   pub ends : EndsIn types d.declaration.now lines inner end
 
 -- A file is not read.
-pub record IsNotRead {S : Type 0} (reads : Reading S) (from to : S) (types : List Text) (d : Draw) (old new : Held) (end : End) (note : Option Text) : Type 0 where
+pub record IsNotRead {S : Type 0} (reads : Reading S) (from to : S) (types : List Text) (d : Draw) (old new : Held) (end : End) (note : Noted) : Type 0 where
   pub part : Part
   pub fault : SourceFault
   pub unread : IsUnread reads types (files_of d) from to part fault
   pub failed : end ≡ Err (failure_of_source fault)
   pub same : new ≡ old
-  pub noted : Notes d.why (IsFileNote types (files_of d) part fault) note
+  pub noted : IfOk note (NotesInput types (files_of d) part fault)
 
-abbrev pub Draws : {S : Type 0} → Reading S → (from to : S) → (types : List Text) → Draw → (old new : Held) → End → Option Text → Type 0
+abbrev pub Draws : {S : Type 0} → Reading S → (from to : S) → (types : List Text) → Draw → (old new : Held) → End → Noted → Type 0
 Draws reads from to types d old new end note = IsReadAndDrawn reads from to types d old new end note ⊎ IsNotRead reads from to types d old new end note

@@ -1,5 +1,5 @@
 -- What a call that holds rules against traces does (docs/FORMATS.md, "Rules over traces"; this project's own).
-use Rattle.std.specs.Prelude.{option_map, ◌≡◌, ◌⊎◌, ℕ, ◌+◌, ◌*◌, Bool, true, false, if◌then◌else◌, nat_lt, List, [], ◌∷◌, ◌++◌, length, map, IsTrue, Option, Some, None, IfSome, Ok, Err, codes, decimal, string_bytes}
+use Rattle.std.specs.Prelude.{option_map, ◌≡◌, ◌⊎◌, ℕ, ◌+◌, ◌*◌, ◌<◌, ◌≤◌, Bool, true, false, if◌then◌else◌, nat_lt, List, [], ◌∷◌, ◌++◌, length, map, IsTrue, Option, Some, None, IfOk, IfSome, Ok, Err, codes, decimal, string_bytes}
 use Rattle.std.specs.Borrow.{Bor}
 use Rattle.std.specs.List.{list_all}
 use Rattle.std.specs.Io.KnownBytes.{Appends}
@@ -9,7 +9,7 @@ use Rattle.fb_sim.specs.Given.{Given}
 use Rattle.fb_sim.specs.Serial.{Declares}
 use Rattle.fb_expect.specs.Judging as judging
 use Rattle.fb_expect.specs.Judging.{Judges}
-use Rattle.fb_expect.specs.Locations.{IsLocation, number_at}
+use Rattle.fb_expect.specs.Locations.{IsLocation, number_at, refusal_of}
 use Rattle.fb_expect.specs.Reading.{most_bytes, rules_of}
 use Rattle.fb_expect.specs.Reports.{are_well, plan, points}
 use Rattle.fb_expect.specs.Suites.{suite, suites_head, suites_tail}
@@ -23,9 +23,10 @@ use Rattle.fb_expect.specs.declared.location.RulesLocation.{RulesLocation}
 use Rattle.fb_expect.specs.declared.rule.Rule.{Rule}
 use Rattle.fbsim_command.specs.Failures.{IsPartWritten, failure_of_source, refused_trace}
 use Rattle.fbsim_command.specs.Known.{IsUnknownAt, has_names}
+use Rattle.fb_why.specs.Findings.{IsSilent}
 use Rattle.fbsim_command.specs.InputNotes.{FileNames}
-use Rattle.fbsim_command.specs.Notes.{IsFileNote, IsNoteOfName, IsNoteOfNumber, Notes, number_of, rest_note}
-use Rattle.fbsim_command.specs.Outcomes.{End, Held, IsRefused}
+use Rattle.fbsim_command.specs.Notes.{IsFirstOf, IsNoteOfName, IsNoteOfNumber, Noted, Notes, NotesInput, SaysUnread, number_of, rest_note}
+use Rattle.fbsim_command.specs.Outcomes.{End, HasRefusal, Held, IsRefused}
 use Rattle.fbsim_command.specs.OwnLines.{EndsIn, IsPlacedText}
 use Rattle.fbsim_command.specs.Reading.{Reading, AreRead, IsUnread, checked}
 use Rattle.fbsim_command.specs.Showing.{Opening}
@@ -88,20 +89,20 @@ pub record AreNamesUnread {S : Type 0} (reads : Reading S) (x : Expect) (old new
   pub rules : reads old x.rules.now asked_rules (Ok bytes) between
   pub declaration : IsUndeclared reads x x.declaration between new part fault
 
--- The note to the file of the rules, which is not read.
-abbrev pub IsRulesFileNote : Expect → SourceFault → (note : Text) → Type 0
-IsRulesFileNote x fault note = IsNoteOfName (codes "rules") x.rules.now fault note
+-- the note to the file of the rules, which is not read, where one is asked for
+abbrev pub NotesRulesFile : Expect → SourceFault → Option Text → Type 0
+NotesRulesFile x fault note = Notes x.why (SaysUnread (codes "rules") x.rules.now fault) note
 
--- the note to this file of the declaration, which is not read
-abbrev pub IsNamesFileNote : Expect → Option (Bor Text) → Part → SourceFault → Text → Type 0
-IsNamesFileNote x None part fault note = ⊥
-IsNamesFileNote x (Some name) part fault note = IsFileNote (types_of x) (files_of x name) part fault note
+-- the note to this file of the declaration, which is not read, where one is asked for
+abbrev pub NotesNamesFile : Expect → Option (Bor Text) → Part → SourceFault → Option Text → Type 0
+NotesNamesFile x None part fault note = note ≡ None
+NotesNamesFile x (Some name) part fault note = NotesInput (types_of x) (files_of x name) part fault note
 
 -- a file is not read, for this fault, and such a note is given
-abbrev pub AreUnread : {S : Type 0} → Reading S → Expect → (old new : S) → SourceFault → Option Text → Type 0
+abbrev pub AreUnread : {S : Type 0} → Reading S → Expect → (old new : S) → SourceFault → Noted → Type 0
 AreUnread reads x old new fault note =
-    (reads old x.rules.now asked_rules (Err fault) new × Notes x.why (IsRulesFileNote x fault) note)
-    ⊎ ((part : Part) × AreNamesUnread reads x old new part fault × Notes x.why (IsNamesFileNote x x.declaration part fault) note)
+    (reads old x.rules.now asked_rules (Err fault) new × IfOk note (NotesRulesFile x fault))
+    ⊎ ((part : Part) × AreNamesUnread reads x old new part fault × IfOk note (NotesNamesFile x x.declaration part fault))
 
 -- ---- Rules
 
@@ -355,16 +356,45 @@ pub record IsUnknownLocation (bytes : Text) (declared : Option Given) (rule : �
   pub declares : Declares given inputs
   pub unknown : IsUnknownAt (system_of inputs) rules rule key
 
+-- there is a note exactly if the bytes are refused with this number
+abbrev pub SaysLocation : (bytes : Text) → (number : ℕ) → Option Text → Type 0
+SaysLocation bytes number None = refusal_of (rules_of bytes) ≡ Some number → ⊥
+SaysLocation bytes number (Some note) = IsLocationOf bytes number
+
+-- what is declared has each pattern, or it is refused
+abbrev pub AreKnown : Given → List Rule → Type 0
+AreKnown given rules = HasRefusal given ⊎ Names given rules true
+
+-- there is a note exactly if the bytes are rules with a pattern that what is declared does not have
+abbrev pub SaysUnknown : (bytes : Text) → Given → Option Text → Type 0
+SaysUnknown bytes given None = (rules : List Rule) → rules_of bytes ≡ Ok rules → AreKnown given rules
+SaysUnknown bytes given (Some note) = (rule : ℕ) × (key : RuleKey) × IsUnknownLocation bytes (Some given) rule key
+
 -- The note is that of a place at which the refusal of this number applies.
 abbrev pub IsNoteAt : Expect → (bytes : Text) → (lines : List FileLines) → Option Given → (number : ℕ) → Text → Type 0
 IsNoteAt x bytes lines declared number note =
     IsLocationOf bytes number ⊎ IsPlanNote x lines declared number note ⊎ ((number ≡ 45) × ((rule : ℕ) × (key : RuleKey) × IsUnknownLocation bytes declared rule key))
 
+-- nothing is shown for this number of what is declared, or of the rules
+pub record HasNoNoteAt (bytes : Text) (declared : Option Given) (number : ℕ) : Type 0 where
+  pub plan : (given : Given) → declared ≡ Some given → number < 40 → IsSilent given.declaration given.deploy given.stimuli number
+  pub unknown : (given : Given) → declared ≡ Some given → number ≡ 45 → SaysUnknown bytes given None
+  pub rules : 40 ≤ number → (number ≡ 45 → ⊥) → SaysLocation bytes number None
+
+-- there is a note to a refusal of this number, unless nothing is shown for it
+abbrev pub SaysNumber : Expect → (bytes : Text) → (lines : List FileLines) → Option Given → (number : ℕ) → Option Text → Type 0
+SaysNumber x bytes lines declared number None = HasNoNoteAt bytes declared number
+SaysNumber x bytes lines declared number (Some note) = IsNoteAt x bytes lines declared number note
+
+-- there is a note to a failure that has a number, unless nothing is shown for it
+abbrev pub SaysAt : Expect → (bytes : Text) → (lines : List FileLines) → Option Given → Failure → Option Text → Type 0
+SaysAt x bytes lines declared failure None = IfSome (number_of failure) (HasNoNoteAt bytes declared)
+SaysAt x bytes lines declared failure (Some note) = (number : ℕ) × (number_of failure ≡ Some number) × IsNoteAt x bytes lines declared number note
+
 -- where a call that has read these files fails, such a note
 abbrev pub NotesRules : Expect → (bytes : Text) → (lines : List FileLines) → Option Given → End → Option Text → Type 0
 NotesRules x bytes lines declared (Ok d) note = note ≡ None
-NotesRules x bytes lines declared (Err failure) note =
-    Notes x.why (λ t. (number : ℕ) × (number_of failure ≡ Some number) × IsNoteAt x bytes lines declared number t) note
+NotesRules x bytes lines declared (Err failure) note = Notes x.why (SaysAt x bytes lines declared failure) note
 
 -- the note of a trace that is not opened, or that can't be read to its end
 abbrev pub IsTraceNote : (name note : Text) → Type 0
@@ -372,11 +402,15 @@ IsTraceNote name note = ((fault : SourceFault) × IsNoteOfName (codes "trace") n
 
 -- A note is given only where one is asked for, and then it is one to a trace.
 abbrev pub NotesTrace : Expect → Option Text → Type 0
-NotesTrace x None = Unit {0}
-NotesTrace x (Some note) = IsTrue x.why × ((name : Text) × IsTraceNote name note)
+NotesTrace x note = IfSome note (λ n. IsTrue x.why × ((name : Text) × IsTraceNote name n))
+
+-- There is such a note exactly where one is asked for and the file of a trace fails.
+abbrev pub NotesTraces : Expect → End → Option Text → Type 0
+NotesTraces x end None = IsTrue x.why → end ≡ Err File → ⊥
+NotesTraces x end (Some note) = NotesTrace x (Some note)
 
 -- All is read, and all traces are held against the rules. A syntax fault of the declaration is one of the file that has it.
-pub record IsReadAndHeld {S : Type 0} (reads : Reading S) (opens : Opening S) (old new : S) (x : Expect) (a b : Held) (end : End) (note : Option Text) : Type 0 where
+pub record IsReadAndHeld {S : Type 0} (reads : Reading S) (opens : Opening S) (old new : S) (x : Expect) (a b : Held) (end : End) (note : Noted) : Type 0 where
   pub between : S
   pub bytes : Text
   pub lines : List FileLines
@@ -384,11 +418,11 @@ pub record IsReadAndHeld {S : Type 0} (reads : Reading S) (opens : Opening S) (o
   pub read : AreRulesRead reads x old between bytes lines declared
   pub inner : End
   pub done : Holds opens x between new bytes declared a b inner
-  pub noted : NotesRules x bytes lines declared inner note ⊎ NotesTrace x note
+  pub noted : IfOk note (IsFirstOf (NotesTraces x inner) (NotesRules x bytes lines declared inner))
   pub ends : EndsIn (types_of x) (own_of x.declaration) lines inner end
 
 -- What a call that holds rules against traces does, from one state of the source to the next, and its note.
-abbrev pub Expects : {S : Type 0} → Reading S → Opening S → (old new : S) → Expect → (a b : Held) → End → Option Text → Type 0
+abbrev pub Expects : {S : Type 0} → Reading S → Opening S → (old new : S) → Expect → (a b : Held) → End → Noted → Type 0
 Expects reads opens old new x a b end note =
     IsReadAndHeld reads opens old new x a b end note
     ⊎ ((fault : SourceFault) × AreUnread reads x old new fault note × (end ≡ Err (failure_of_source fault)) × (b ≡ a))

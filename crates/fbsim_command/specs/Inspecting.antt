@@ -1,5 +1,5 @@
 -- What a call that inspects a trace does (docs/FORMATS.md, "Inside a trace"; this project's own).
-use Rattle.std.specs.Prelude.{◌≡◌, ◌⊎◌, ◌&&◌, ◌++◌, ◌∷◌, ℕ, Bool, true, false, List, All, map, Option, Some, None, IfSome, Ok, Err, codes}
+use Rattle.std.specs.Prelude.{◌≡◌, ◌⊎◌, ◌&&◌, ◌++◌, ◌∷◌, ℕ, Bool, true, false, List, All, map, Option, Some, None, IfOk, IfSome, Ok, Err, codes}
 use Rattle.std.specs.Char.{to_ascii_uppercase}
 use Rattle.clap.specs.Words.{Text}
 use Rattle.fb_types.specs.Headline.{Inputs, system_of}
@@ -13,10 +13,10 @@ use Rattle.fb_wave.specs.declared.truncation.Cut.{Cut}
 use Rattle.fb_sim.specs.Given.{Given}
 use Rattle.fb_sim.specs.Serial.{Declares}
 use Rattle.fbsim_command.specs.Failures.{failure_of_source}
-use Rattle.fbsim_command.specs.InsideNotes.{IsOpenNote, NotesInside}
+use Rattle.fbsim_command.specs.InsideNotes.{NotesInside}
 use Rattle.fbsim_command.specs.Nearest.{IsNearestPath}
-use Rattle.fbsim_command.specs.Notes.{IsFileNote, Notes, NotesOf, NotesRest}
-use Rattle.fbsim_command.specs.Outcomes.{End, Held, IsRefused}
+use Rattle.fbsim_command.specs.Notes.{IsFirstOf, Noted, Notes, NotesInput, NotesOf, NotesRest, SaysUnread}
+use Rattle.fbsim_command.specs.Outcomes.{End, HasRefusal, Held, IsRefused}
 use Rattle.fbsim_command.specs.OwnLines.{EndsIn}
 use Rattle.fbsim_command.specs.Reading.{Reading, AreRead, IsUnread, checked}
 use Rattle.fbsim_command.specs.Showing.{Opening}
@@ -124,9 +124,9 @@ abbrev pub SaysPaths : Inputs → (texts : List Text) → (line : Option Text) �
 SaysPaths i texts None = All (HasPath i) texts
 SaysPaths i texts (Some line) = IsFirstLine i texts line
 
--- the same for what is declared
+-- the same for what is declared; there is no line where the inputs are refused
 abbrev pub SaysPathsOf : Given → (texts : List Text) → (line : Option Text) → Type 0
-SaysPathsOf given texts line = (i : Inputs) × Declares given i × SaysPaths i texts line
+SaysPathsOf given texts line = ((i : Inputs) × Declares given i × SaysPaths i texts line) ⊎ (HasRefusal given × (line ≡ None))
 
 -- the paths as they are given
 abbrev pub texts_of : Inspect → List Text
@@ -144,9 +144,9 @@ NotesPaths x given end note =
 -- ---- What is read
 
 -- All is read that the trace is of, the trace is opened, and it is inspected. A syntax fault is one of the file that has it.
--- A note is that of a check, or of the line at which the trace is refused, or says that it can't be read to its end, or that a path is
--- unknown.
-pub record IsReadAndInspected {S : Type 0} (reads : Reading S) (opens : Opening S) (from to : S) (types : List Text) (x : Inspect) (old new : Held) (end : End) (note : Option Text) : Type 0 where
+-- The note says that a path is unknown, or that the trace can't be read to its end, or what is wrong with the line at which it is refused,
+-- or it is that of a check.
+pub record IsReadAndInspected {S : Type 0} (reads : Reading S) (opens : Opening S) (from to : S) (types : List Text) (x : Inspect) (old new : Held) (end : End) (note : Noted) : Type 0 where
   pub lines : List FileLines
   pub given : Given
   pub between : S
@@ -155,30 +155,30 @@ pub record IsReadAndInspected {S : Type 0} (reads : Reading S) (opens : Opening 
   pub opened : opens between x.trace.now (Ok trace) to
   pub inner : End
   pub done : Inspects given x trace old new inner
-  pub noted : NotesOf types (files_of x) lines given inner note ⊎ NotesInside x.why inner note ⊎ NotesRest x.why x.trace.now inner note ⊎ NotesPaths x given inner note
+  pub noted : IfOk note (IsFirstOf (IsFirstOf (NotesPaths x given inner) (IsFirstOf (NotesRest x.why x.trace.now inner) (NotesInside x.why given x.steps trace inner))) (NotesOf types (files_of x) lines given inner))
   pub ends : EndsIn types x.declaration.now lines inner end
 
 -- All is read that the trace is of, and the trace is not opened.
-pub record IsUnopened {S : Type 0} (reads : Reading S) (opens : Opening S) (from to : S) (types : List Text) (x : Inspect) (fault : SourceFault) (note : Option Text) : Type 0 where
+pub record IsUnopened {S : Type 0} (reads : Reading S) (opens : Opening S) (from to : S) (types : List Text) (x : Inspect) (fault : SourceFault) (note : Noted) : Type 0 where
   pub lines : List FileLines
   pub given : Given
   pub between : S
   pub read : AreRead reads types (files_of x) from between lines given
   pub unread : opens between x.trace.now (Err fault) to
-  pub noted : Notes x.why (IsOpenNote x.trace.now fault) note
+  pub noted : IfOk note (Notes x.why (SaysUnread (codes "trace") x.trace.now fault))
 
 -- A file is not read that the trace is of.
-pub record IsUnreadFor {S : Type 0} (reads : Reading S) (from to : S) (types : List Text) (x : Inspect) (fault : SourceFault) (note : Option Text) : Type 0 where
+pub record IsUnreadFor {S : Type 0} (reads : Reading S) (from to : S) (types : List Text) (x : Inspect) (fault : SourceFault) (note : Noted) : Type 0 where
   pub part : Part
   pub unread : IsUnread reads types (files_of x) from to part fault
-  pub noted : Notes x.why (IsFileNote types (files_of x) part fault) note
+  pub noted : IfOk note (NotesInput types (files_of x) part fault)
 
 -- this fault keeps a file from being read
-abbrev pub IsUninspected : {S : Type 0} → Reading S → Opening S → (from to : S) → (types : List Text) → Inspect → SourceFault → Option Text → Type 0
+abbrev pub IsUninspected : {S : Type 0} → Reading S → Opening S → (from to : S) → (types : List Text) → Inspect → SourceFault → Noted → Type 0
 IsUninspected reads opens from to types x fault note =
     IsUnreadFor reads from to types x fault note ⊎ IsUnopened reads opens from to types x fault note
 
-abbrev pub ShowsInsides : {S : Type 0} → Reading S → Opening S → (from to : S) → (types : List Text) → Inspect → (old new : Held) → End → Option Text → Type 0
+abbrev pub ShowsInsides : {S : Type 0} → Reading S → Opening S → (from to : S) → (types : List Text) → Inspect → (old new : Held) → End → Noted → Type 0
 ShowsInsides reads opens from to types x old new end note =
     IsReadAndInspected reads opens from to types x old new end note
     ⊎ ((fault : SourceFault) × IsUninspected reads opens from to types x fault note × (end ≡ Err (failure_of_source fault)) × (new ≡ old))

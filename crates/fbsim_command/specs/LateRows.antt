@@ -1,5 +1,5 @@
 -- Rows of stimuli that a run never comes to (docs/FORMATS.md, "What to look at"; this project's own).
-use Rattle.std.specs.Prelude.{◌≡◌, ◌⊎◌, ◌<◌, ◌++◌, ℕ, nat_le, List, [], length, count_by, IsTrue, Option, Some, None, Ok, codes, decimal}
+use Rattle.std.specs.Prelude.{◌≡◌, ◌⊎◌, ◌<◌, ◌++◌, ℕ, nat_le, Bool, List, [], length, count_by, IsTrue, IfSome, true, false, ◌&&◌, if◌then◌else◌, Option, Some, None, Ok, codes, decimal}
 use Rattle.clap.specs.Words.{Text}
 use Rattle.fb_inputs.specs.Stimuli.{stimuli_of}
 use Rattle.fb_types.specs.declared.deploy.Stimulus.{Stimulus}
@@ -35,26 +35,34 @@ abbrev pub SaysLate : (bytes : Text) → (horizon : ℕ) → (line : Option Text
 SaysLate bytes horizon None = HasNoLate bytes horizon
 SaysLate bytes horizon (Some line) = IsLateLine bytes horizon line
 
--- the horizon of a run
-abbrev pub IsHorizonOf : Action → (horizon : ℕ) → Type 0
-IsHorizonOf (Run n limit workers serial form progress) horizon = n ≡ horizon
-IsHorizonOf (Check lint) horizon = ⊥
+-- a run has ended or stopped
+abbrev pub has_run : End → Bool
+has_run (Ok Ended) = true
+has_run (Ok Stopped) = true
+has_run _ = false
 
--- It is asked how many rows a run did not come to, that has ended or stopped.
-abbrev pub AsksHowMany : Task → End → (horizon : ℕ) → Type 0
-AsksHowMany c (Ok Ended) horizon = IsTrue c.why × IsHorizonOf c.action horizon
-AsksHowMany c (Ok Stopped) horizon = IsTrue c.why × IsHorizonOf c.action horizon
-AsksHowMany c end horizon = ⊥
+-- the horizon of a run
+abbrev pub horizon_of : Action → Option ℕ
+horizon_of (Run n limit workers serial form progress) = Some n
+horizon_of (Check lint) = None
+
+-- the horizon of a run that has ended or stopped, if it is asked how many rows it did not come to
+abbrev pub asked_horizon : Task → End → Option ℕ
+asked_horizon c end = if c.why && has_run end then horizon_of c.action else None
 
 -- it is asked, and there are such rows
 pub record ReportsLate (c : Task) (stimuli : Option Text) (end : End) (report : Text) : Type 0 where
   pub horizon : ℕ
-  pub asks : AsksHowMany c end horizon
+  pub asks : asked_horizon c end ≡ Some horizon
   pub bytes : Text
   pub given : stimuli ≡ Some bytes
   pub is : IsLateLine bytes horizon report
 
--- What is reported after a run: the rows that it did not come to, if that is asked for, there are some and memory is there,
--- and else nothing.
-abbrev pub ReportsRows : Task → (stimuli : Option Text) → End → (report : Text) → Type 0
-ReportsRows c stimuli end report = (report ≡ []) ⊎ ReportsLate c stimuli end report
+-- it is not asked, or there are no such rows
+abbrev pub HasNoRows : Task → (stimuli : Option Text) → End → Type 0
+HasNoRows c stimuli end = (horizon : ℕ) → asked_horizon c end ≡ Some horizon → IfSome stimuli (λ bytes. HasNoLate bytes horizon)
+
+-- What is reported after a run: the rows that it did not come to, exactly if that is asked for and there are some, where all that is
+-- to be reported is.
+abbrev pub ReportsRows : Task → (stimuli : Option Text) → End → (is_whole : Bool) → (report : Text) → Type 0
+ReportsRows c stimuli end is_whole report = ((report ≡ []) × (IsTrue is_whole → HasNoRows c stimuli end)) ⊎ ReportsLate c stimuli end report

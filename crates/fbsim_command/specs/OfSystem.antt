@@ -1,5 +1,5 @@
 -- What contracts say of the names of rules and the lines of a trace in a system: its value is the accepted inputs, and each of these is of the flat system.
-use Rattle.std.specs.Prelude.{ℕ, Bool, List, Option}
+use Rattle.std.specs.Prelude.{ℕ, Bool, List, Option, Result}
 use Rattle.clap.specs.Words.{Text}
 use Rattle.fb_types.specs.Headline.{Inputs, system_of}
 use Rattle.fb_types.specs.declared.library.Ports.{Ports}
@@ -8,6 +8,7 @@ use Rattle.fb_expect.specs.declared.location.RuleKey.{RuleKey}
 use Rattle.fb_expect.specs.declared.pattern.Pattern.{Pattern}
 use Rattle.fb_expect.specs.declared.rule.Rule.{Rule}
 use Rattle.fb_wave.specs.declared.current_line.CurrentLine.{CurrentLine}
+use Rattle.fb_wave.specs.declared.error.WaveError.{WaveError}
 use Rattle.fbsim_command.specs.Known as known
 use Rattle.fbsim_command.specs.LineNotes as line_notes
 
@@ -31,6 +32,9 @@ has_port i = known.has_port (system_of i)
 abbrev pub may_have_port : Inputs → Option Pattern → Bool
 may_have_port i = known.may_have_port (system_of i)
 
+abbrev pub has_rule : Inputs → Rule → Bool
+has_rule i = known.has_rule (system_of i)
+
 abbrev pub has_names : Inputs → List Rule → Bool
 has_names i = known.has_names (system_of i)
 
@@ -42,8 +46,8 @@ IsUnknownAt i = known.IsUnknownAt (system_of i)
 
 -- ---- The lines of a trace
 
-abbrev pub SaysFault : Inputs → CurrentLine → (line : ℕ) → (note : Text) → Type 0
-SaysFault i = line_notes.SaysFault (system_of i)
+abbrev pub SaysWritten : Inputs → CurrentLine → Result (Unit {0}) WaveError → Option Text → Type 0
+SaysWritten i = line_notes.SaysWritten (system_of i)
 
 abbrev pub SaysLine : Inputs → CurrentLine → (line : ℕ) → Option Text → Type 0
 SaysLine i = line_notes.SaysLine (system_of i)

@@ -33,3 +33,7 @@ IsUndeclared given File = ⊥
 IsUndeclared given (Write n) = ⊥
 IsUndeclared given (Line message) = ⊥
 IsUndeclared given BadOption = ⊥
+
+-- the inputs are refused
+abbrev pub HasRefusal : Given → Type 0
+HasRefusal given = (refusal : RefusalLine) × IsRefused given refusal

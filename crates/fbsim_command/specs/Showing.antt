@@ -1,5 +1,5 @@
 -- What a call for the waveforms of a trace does (this project's own).
-use Rattle.std.specs.Prelude.{◌≡◌, ◌⊎◌, ℕ, Bool, true, false, List, Option, Result, Ok, Err, IfSome, codes}
+use Rattle.std.specs.Prelude.{◌≡◌, ◌⊎◌, ℕ, Bool, true, false, List, Option, Result, Ok, Err, IfOk, IfSome, codes}
 use Rattle.clap.specs.Words.{Text}
 use Rattle.fb_types.specs.Headline.{Inputs, system_of}
 use Rattle.fb_sim.specs.Given.{Given}
@@ -14,7 +14,7 @@ use Rattle.fbsim_line.specs.declared.line.Wave.{Wave}
 use Rattle.fbsim_command.specs.Failures.{failure_of_source}
 use Rattle.fbsim_command.specs.InsideNotes.{NotesInside}
 use Rattle.fbsim_command.specs.LineNotes.{NotesLine}
-use Rattle.fbsim_command.specs.Notes.{IsFileNote, IsNoteOfName, Notes, NotesOf, NotesRest}
+use Rattle.fbsim_command.specs.Notes.{IsFirstOf, Noted, Notes, NotesInput, NotesOf, NotesRest, SaysUnread}
 use Rattle.fbsim_command.specs.Outcomes.{End, Held, IsRefused}
 use Rattle.fbsim_command.specs.OwnLines.{EndsIn}
 use Rattle.fbsim_command.specs.Reading.{Reading, AreRead, IsUnread, checked}
@@ -89,19 +89,19 @@ DumpsAs true steps may given trace old new end = DumpsStates may steps given tra
 DumpsAs false steps may given trace old new end = Dumps may given trace old new end
 
 -- What is reported of the line at which a trace is refused, with the inside of basic blocks or without it.
-abbrev pub NotesAs : (has_states why : Bool) → Given → (trace : Held) → End → Option Text → Type 0
-NotesAs true why given trace end note = NotesInside why end note
-NotesAs false why given trace end note = NotesLine why given trace end note
+abbrev pub NotesAs : (has_states why : Bool) → (steps : ℕ) → Given → (trace : Held) → End → Option Text → Type 0
+NotesAs true why steps given trace end note = NotesInside why given steps trace end note
+NotesAs false why steps given trace end note = NotesLine why given trace end note
 
 -- ---- What is read
 
--- The note of a trace that can't be opened.
-abbrev pub IsTraceFileNote : Wave → SourceFault → (note : Text) → Type 0
-IsTraceFileNote w fault note = IsNoteOfName (codes "trace") w.trace.now fault note
+-- the note to a trace that can't be opened, where one is asked for
+abbrev pub NotesTraceFile : Wave → SourceFault → Option Text → Type 0
+NotesTraceFile w fault note = Notes w.why (SaysUnread (codes "trace") w.trace.now fault) note
 
 -- All is read that the trace is of, the trace is opened, and its dump is written. A syntax fault is one of the file that has it.
--- A note is that of a check, or says what is wrong with the line at which the trace is refused, or that it can't be read to its end.
-pub record IsReadAndShown {S : Type 0} (reads : Reading S) (opens : Opening S) (from to : S) (types : List Text) (w : Wave) (old new : Held) (end : End) (note : Option Text) : Type 0 where
+-- The note says that the trace can't be read to its end, or what is wrong with the line at which it is refused, or it is that of a check.
+pub record IsReadAndShown {S : Type 0} (reads : Reading S) (opens : Opening S) (from to : S) (types : List Text) (w : Wave) (old new : Held) (end : End) (note : Noted) : Type 0 where
   pub lines : List FileLines
   pub given : Given
   pub between : S
@@ -110,29 +110,29 @@ pub record IsReadAndShown {S : Type 0} (reads : Reading S) (opens : Opening S) (
   pub opened : opens between w.trace.now (Ok trace) to
   pub inner : End
   pub done : DumpsAs w.has_states w.steps (cut_of w) given trace old new inner
-  pub noted : NotesOf types (files_of w) lines given inner note ⊎ NotesAs w.has_states w.why given trace inner note ⊎ NotesRest w.why w.trace.now inner note
+  pub noted : IfOk note (IsFirstOf (IsFirstOf (NotesRest w.why w.trace.now inner) (NotesAs w.has_states w.why w.steps given trace inner)) (NotesOf types (files_of w) lines given inner))
   pub ends : EndsIn types w.declaration.now lines inner end
 
 -- All is read that the trace is of, and the trace is not opened.
-pub record IsUnopened {S : Type 0} (reads : Reading S) (opens : Opening S) (from to : S) (types : List Text) (w : Wave) (fault : SourceFault) (note : Option Text) : Type 0 where
+pub record IsUnopened {S : Type 0} (reads : Reading S) (opens : Opening S) (from to : S) (types : List Text) (w : Wave) (fault : SourceFault) (note : Noted) : Type 0 where
   pub lines : List FileLines
   pub given : Given
   pub between : S
   pub read : AreRead reads types (files_of w) from between lines given
   pub unread : opens between w.trace.now (Err fault) to
-  pub noted : Notes w.why (IsTraceFileNote w fault) note
+  pub noted : IfOk note (NotesTraceFile w fault)
 
 -- A file is not read that the trace is of.
-pub record IsUnreadFor {S : Type 0} (reads : Reading S) (from to : S) (types : List Text) (w : Wave) (fault : SourceFault) (note : Option Text) : Type 0 where
+pub record IsUnreadFor {S : Type 0} (reads : Reading S) (from to : S) (types : List Text) (w : Wave) (fault : SourceFault) (note : Noted) : Type 0 where
   pub part : Part
   pub unread : IsUnread reads types (files_of w) from to part fault
-  pub noted : Notes w.why (IsFileNote types (files_of w) part fault) note
+  pub noted : IfOk note (NotesInput types (files_of w) part fault)
 
 -- this fault keeps a file from being read
-abbrev pub IsUnshown : {S : Type 0} → Reading S → Opening S → (from to : S) → (types : List Text) → Wave → SourceFault → Option Text → Type 0
+abbrev pub IsUnshown : {S : Type 0} → Reading S → Opening S → (from to : S) → (types : List Text) → Wave → SourceFault → Noted → Type 0
 IsUnshown reads opens from to types w fault note = IsUnreadFor reads from to types w fault note ⊎ IsUnopened reads opens from to types w fault note
 
-abbrev pub Shows : {S : Type 0} → Reading S → Opening S → (from to : S) → (types : List Text) → Wave → (old new : Held) → End → Option Text → Type 0
+abbrev pub Shows : {S : Type 0} → Reading S → Opening S → (from to : S) → (types : List Text) → Wave → (old new : Held) → End → Noted → Type 0
 Shows reads opens from to types w old new end note =
     IsReadAndShown reads opens from to types w old new end note
     ⊎ ((fault : SourceFault) × IsUnshown reads opens from to types w fault note × (end ≡ Err (failure_of_source fault)) × (new ≡ old))

@@ -1,5 +1,5 @@
 -- Where a run stops, and how that is reported (this project's own).
-use Rattle.std.specs.Prelude.{◌≡◌, ◌⊎◌, ◌^◌, ◌≤◌, ℕ, List, [], ◌++◌, IsTrue, Option, Some, None, Ok, codes}
+use Rattle.std.specs.Prelude.{◌≡◌, ◌⊎◌, ◌^◌, ◌≤◌, ℕ, Bool, List, [], ◌++◌, IsTrue, true, false, ◌&&◌, if◌then◌else◌, Option, Some, None, Ok, codes}
 use Rattle.fb_types.specs.Headline.{Inputs}
 use Rattle.fb_read.specs.Blank.{Text}
 use Rattle.fb_read_positions.specs.declared.position.Position.{Position}
@@ -14,7 +14,7 @@ use Rattle.fb_read_positions.specs.Places.{IsPlaceAt}
 use Rattle.fb_read_positions.specs.Spans.{IsNowhere}
 use Rattle.fb_read_positions.specs.Places.{IsPlace, IsStretch}
 use Rattle.fb_read_positions.specs.declared.places.Place.{Place}
-use Rattle.fbsim_command.specs.Outcomes.{End}
+use Rattle.fbsim_command.specs.Outcomes.{End, HasRefusal}
 use Rattle.fbsim_command.specs.OwnLines.{IsPlaced}
 use Rattle.fbsim_line.specs.declared.line.Action.{Action}
 use Rattle.fbsim_line.specs.declared.line.Action.TheVariants.{Check, Run}
@@ -68,28 +68,39 @@ NotesRun types own lines given i horizon steps (Some note) = IsNoteOfRun types o
 
 -- the same of a run of what is given, whose numbers are in their ranges
 abbrev pub NotesStop : (types : List (List ℕ)) → (own : List ℕ) → (lines : List FileLines) → Given → (horizon steps : ℕ) → (note : Option (List ℕ)) → Type 0
-NotesStop types own lines given horizon steps None = horizon ≤ 10 ^ 12 → steps ≤ 10 ^ 7 → (i : Inputs) × Declares given i × NeverStops i horizon steps
+NotesStop types own lines given horizon steps None = horizon ≤ 10 ^ 12 → steps ≤ 10 ^ 7 → ((i : Inputs) × Declares given i × NeverStops i horizon steps) ⊎ HasRefusal given
 NotesStop types own lines given horizon steps (Some note) = IsStopNote types own lines given horizon steps note
 
--- the horizon and the steps of a run
-abbrev pub IsRunOf : Action → (horizon steps : ℕ) → Type 0
-IsRunOf (Run n limit workers serial form progress) horizon steps = (n ≡ horizon) × (limit ≡ steps)
-IsRunOf (Check lint) horizon steps = ⊥
+-- such a note on a line
+abbrev pub SaysStop : (types : List (List ℕ)) → (own : List ℕ) → (lines : List FileLines) → Given → (horizon steps : ℕ) → (line : Option (List ℕ)) → Type 0
+SaysStop types own lines given horizon steps None = NotesStop types own lines given horizon steps None
+SaysStop types own lines given horizon steps (Some line) = (note : List ℕ) × IsStopNote types own lines given horizon steps note × (line ≡ note ++ codes "\n")
 
--- It is asked where a run stopped, that has stopped.
-abbrev pub AsksWhere : Task → End → (horizon steps : ℕ) → Type 0
-AsksWhere c (Ok Stopped) horizon steps = IsTrue c.why × IsRunOf c.action horizon steps
-AsksWhere c end horizon steps = ⊥
+-- a run has stopped
+abbrev pub has_stopped : End → Bool
+has_stopped (Ok Stopped) = true
+has_stopped _ = false
+
+-- the horizon and the steps of a run
+abbrev pub run_of : Action → Option (ℕ × ℕ)
+run_of (Run n limit workers serial form progress) = Some (n, limit)
+run_of (Check lint) = None
+
+-- those of a run that has stopped, if it is asked where
+abbrev pub asked_run : Task → End → Option (ℕ × ℕ)
+asked_run c end = if c.why && has_stopped end then run_of c.action else None
 
 -- it is asked, and such a note is reported
 pub record ReportsNote (types : List (List ℕ)) (c : Task) (lines : List FileLines) (given : Given) (end : End) (report : List ℕ) : Type 0 where
   pub horizon : ℕ
   pub steps : ℕ
-  pub asks : AsksWhere c end horizon steps
-  pub note : List ℕ
-  pub is : IsStopNote types c.declaration.now lines given horizon steps note
-  pub line : report ≡ note ++ codes "\n"
+  pub asks : asked_run c end ≡ Some (horizon, steps)
+  pub is : SaysStop types c.declaration.now lines given horizon steps (Some report)
 
--- What is reported after a task: where it stopped, if that is asked for and memory is there, and else nothing.
-abbrev pub ReportsStop : (types : List (List ℕ)) → Task → (lines : List FileLines) → Given → End → (report : List ℕ) → Type 0
-ReportsStop types c lines given end report = (report ≡ []) ⊎ ReportsNote types c lines given end report
+-- it is not asked, or there is no such note
+abbrev pub HasNoStop : (types : List (List ℕ)) → Task → (lines : List FileLines) → Given → End → Type 0
+HasNoStop types c lines given end = (horizon steps : ℕ) → asked_run c end ≡ Some (horizon, steps) → NotesStop types c.declaration.now lines given horizon steps None
+
+-- What is reported after a task: where it stopped, exactly if that is asked for, where all that is to be reported is.
+abbrev pub ReportsStop : (types : List (List ℕ)) → Task → (lines : List FileLines) → Given → End → (is_whole : Bool) → (report : List ℕ) → Type 0
+ReportsStop types c lines given end is_whole report = ((report ≡ []) × (IsTrue is_whole → HasNoStop types c lines given end)) ⊎ ReportsNote types c lines given end report

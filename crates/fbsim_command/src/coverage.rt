@@ -1,18 +1,20 @@
 //! What traces cover.
 
-ghost use Rattle.std.specs.Prelude.{◌≡◌, ◌<◌, ◌+◌, ◌^◌, ◌++◌, IfErr, IfOk, IfSome, OnOk, codes, decimal, map, option_map, string_bytes, true};
+ghost use Rattle.std.specs.Prelude.{◌≡◌, ◌<◌, ◌+◌, ◌^◌, ◌++◌, IfErr, IfOk, OnOk, codes, decimal, map, string_bytes, true};
 ghost use Rattle.fb_inspect.specs.declared.error.InspectError.TheVariants as inspection;
 ghost use Rattle.fb_wave.specs.OfSystem.{HasNames};
 ghost use Rattle.fbsim_command.specs.declared.coverage.Gleaned.{Gleaned};
+ghost use Rattle.fbsim_command.specs.declared.failure.Failure.{Failure};
 ghost use Rattle.fbsim_command.specs.Covering as spec;
+ghost use Rattle.fbsim_command.specs.Notes.{NotesEnd, NotesFailing, noted_of};
 ghost use Rattle.fbsim_command.specs.WrongLines.{IsWrongIn};
 ghost use Rattle.fbsim_command.specs.Covering.{AreGoneThrough, AreStopped, GoesThrough, IsStopped, IsTraceFailure, NotesTrace, RefusesAt, ReportsCoverage, WritesReport, are_several, coverage_text, cut_line, cut_of, note_front};
 
 use crate::expect::refused_trace;
 use crate::failure::{Failure, RefusalLine};
-use crate::inside_notes::{note_of_inside, note_of_open};
+use crate::inside_notes::note_of_inside;
 use crate::line_notes::note_of_wave;
-use crate::notes::{note_of_file, note_of_rest};
+use crate::notes::{note_of_file, note_of_rest, note_where_asked};
 use crate::opening::open_inputs;
 use crate::output::write_text;
 use crate::own_lines::end_with;
@@ -79,17 +81,14 @@ fn named_front(alloc: Global, name: &str) -> Result<String, AllocError>
     Ok(format!(in alloc; "trace {name}")?)
 }
 
-/// How the note to a line begins, which names the trace where there are several. Without memory for it there is nothing.
-fn front_of(alloc: Global, is_named: bool, name: &str) -> Option<String>
-    ensures { IfSome result (λ front. string_bytes front ≡ note_front is_named name.now) }
+/// How the note to a line begins, which names the trace where there are several.
+fn front_of(alloc: Global, is_named: bool, name: &str) -> Result<String, AllocError>
+    ensures { IfOk result (λ front. string_bytes front ≡ note_front is_named name.now) }
 {
-    if !is_named {
-        return match String::from_str(alloc, "trace") {
-            Ok(front) => Some(front),
-            Err(_) => None,
-        };
+    if is_named {
+        return named_front(alloc, name);
     }
-    named_front(alloc, name).ok()
+    Ok(String::from_str(alloc, "trace")?)
 }
 
 /// The note to a line at which this trace is refused, where one is asked for.
@@ -100,21 +99,25 @@ fn note_of_refusal(
     system: &System,
     line: u64,
     refused: &RefusedLine,
-) -> Option<String>
-    ensures { NotesTrace coverage.now (option_map string_bytes result) }
+) -> Result<Option<String>, AllocError>
+    ensures { IfOk (noted_of result) (NotesTrace coverage.now) }
 {
     let front = front_of(alloc, are_several(coverage), name)?;
     note_of_inside(alloc, coverage.why, front.as_str(), system, line, refused)
 }
 
 /// The note to a trace that can't be read to its end, where one is asked for.
-fn note_of_unread(alloc: Global, coverage: &Coverage<'_>, name: &str) -> Option<String>
-    ensures { NotesTrace coverage.now (option_map string_bytes result) }
+fn note_of_unread(
+    alloc: Global,
+    coverage: &Coverage<'_>,
+    name: &str,
+) -> Result<Option<String>, AllocError>
+    ensures { IfOk (noted_of result) (NotesEnd coverage.now.why name.now) }
 {
     if !coverage.why {
-        return None;
+        return Ok(None);
     }
-    note_of_rest(alloc, "trace", name)
+    Ok(Some(note_of_rest(alloc, "trace", name)?))
 }
 
 /// The failure for which a trace is not gone through. Whatever was read has names, and no path is given.
@@ -140,15 +143,16 @@ fn note_of_fault(
     system: &System,
     error: &InspectError,
     refused: &RefusedLine,
-) -> Option<String>
-    ensures { NotesTrace coverage.now (option_map string_bytes result) }
+) -> Result<Option<String>, AllocError>
+    ensures noted { IfOk (noted_of result) (NotesTrace coverage.now) }
+    ensures failing { (failure : Failure) → IsTraceFailure (are_several coverage.now) name.now error.now failure → NotesFailing coverage.now.why (noted_of result) failure }
 {
     match error {
         InspectError::Refused(line) => {
             note_of_refusal(alloc, coverage, name, system, *line, refused)
         }
         InspectError::Read => note_of_unread(alloc, coverage, name),
-        _ => None,
+        _ => Ok(None),
     }
 }
 
@@ -183,19 +187,20 @@ fn cover_one<S: Streams>(
     coverage: &Coverage<'_>,
     name: &str,
     gleaned: Gleaned,
-    note: &mut Option<String>,
+    note: &mut Result<Option<String>, AllocError>,
     source: &mut S,
 ) -> Result<Gleaned, Failure>
     requires names { HasNames system.now }
     requires room { gleaned.cut + 1 < 2 ^ 64 }
     ensures covered { IfOk result (GoesThrough S.opens system.now coverage.now name.now source.old source.new gleaned) }
     ensures stopped { IfErr result (IsStopped S.opens (IsWrongIn (cut_of coverage.now) system.now coverage.now.steps) (are_several coverage.now) name.now source.old source.new) }
-    ensures noted { NotesTrace coverage.now (option_map string_bytes note.old) → NotesTrace coverage.now (option_map string_bytes note.new) }
+    ensures noted { IfOk (noted_of note.old) (NotesTrace coverage.now) → IfOk (noted_of note.new) (NotesTrace coverage.now) }
+    ensures failing { IfErr result (NotesFailing coverage.now.why (noted_of note.new)) }
 {
     let mut trace = match source.open(alloc, name) {
         Ok(trace) => trace,
         Err(fault) => {
-            *note = note_of_open(alloc, coverage.why, name, fault);
+            *note = note_where_asked(alloc, coverage.why, "trace", name, fault);
             return Err(Failure::from(fault));
         }
     };
@@ -219,13 +224,14 @@ fn cover_all<S: Streams>(
     alloc: Global,
     system: &System,
     coverage: &Coverage<'_>,
-    note: &mut Option<String>,
+    note: &mut Result<Option<String>, AllocError>,
     source: &mut S,
 ) -> Result<Gleaned, Failure>
     requires { HasNames system.now }
     ensures covered { IfOk result (AreGoneThrough S.opens system.now coverage.now source.old source.new) }
     ensures stopped { IfErr result (AreStopped S.opens system.now coverage.now source.old source.new) }
-    ensures noted { NotesTrace coverage.now (option_map string_bytes note.old) → NotesTrace coverage.now (option_map string_bytes note.new) }
+    ensures noted { IfOk (noted_of note.old) (NotesTrace coverage.now) → IfOk (noted_of note.new) (NotesTrace coverage.now) }
+    ensures failing { IfErr result (NotesFailing coverage.now.why (noted_of note.new)) }
 {
     let mut gleaned = Gleaned {
         marks: Marks::of(alloc, system)?,
@@ -270,14 +276,15 @@ fn report<S: Streams>(
     alloc: Global,
     system: &System,
     coverage: &Coverage<'_>,
-    note: &mut Option<String>,
+    note: &mut Result<Option<String>, AllocError>,
     source: &mut S,
 ) -> Result<(Vec<u8>, bool), Failure>
     requires { HasNames system.now }
     ensures report { IfOk result (λ r. (gleaned : Gleaned) × AreGoneThrough S.opens system.now coverage.now source.old source.new gleaned
         × (r.0.items ≡ coverage_text system.now coverage.now gleaned) × (r.1 ≡ spec.is_too_little system.now coverage.now.least gleaned.marks)) }
     ensures stopped { IfErr result (AreStopped S.opens system.now coverage.now source.old source.new) }
-    ensures noted { NotesTrace coverage.now (option_map string_bytes note.old) → NotesTrace coverage.now (option_map string_bytes note.new) }
+    ensures noted { IfOk (noted_of note.old) (NotesTrace coverage.now) → IfOk (noted_of note.new) (NotesTrace coverage.now) }
+    ensures failing { IfErr result (NotesFailing coverage.now.why (noted_of note.new)) }
 {
     let gleaned = cover_all(alloc, system, coverage, note, source)?;
     let mut text = report_of(alloc, system, &gleaned.marks)?;
@@ -302,12 +309,13 @@ fn write_report<S: Streams, W: Write>(
     alloc: Global,
     inputs: &Inputs<'_>,
     coverage: &Coverage<'_>,
-    note: &mut Option<String>,
+    note: &mut Result<Option<String>, AllocError>,
     source: &mut S,
     out: &mut W,
 ) -> Result<Done, Failure>
     ensures written { WritesReport S.opens inputs.now coverage.now source.old source.new (W.contents out.old) (W.contents out.new) result }
-    ensures noted { NotesTrace coverage.now (option_map string_bytes note.old) → NotesTrace coverage.now (option_map string_bytes note.new) }
+    ensures noted { IfOk (noted_of note.old) (NotesTrace coverage.now) → IfOk (noted_of note.new) (NotesTrace coverage.now) }
+    ensures failing { IfErr result (NotesFailing coverage.now.why (noted_of note.new)) }
 {
     let system = open_inputs(alloc, inputs)?;
     let reported = report(alloc, &system, coverage, note, source);
@@ -326,8 +334,8 @@ pub(crate) fn show_coverage<S: Source + Streams, W: Write>(
     coverage: &Coverage<'_>,
     source: &mut S,
     out: &mut W,
-) -> (Result<Done, Failure>, Option<String>)
-    ensures { ReportsCoverage S.gives S.opens source.old source.new (map (λ t. t.now) types.now) coverage.now (W.contents out.old) (W.contents out.new) result.0 (option_map string_bytes result.1) }
+) -> (Result<Done, Failure>, Result<Option<String>, AllocError>)
+    ensures { ReportsCoverage S.gives S.opens source.old source.new (map (λ t. t.now) types.now) coverage.now (W.contents out.old) (W.contents out.new) result.0 (noted_of result.1) }
 {
     let task = files_of(coverage.declaration, coverage.deploy, coverage.why);
     let texts = match read_files(alloc, types, &task, source) {
@@ -337,7 +345,7 @@ pub(crate) fn show_coverage<S: Source + Streams, W: Write>(
             return (Err(Failure::from(unread.fault)), note);
         }
     };
-    let mut line = None;
+    let mut line = Ok(None);
     let end = write_report(alloc, &texts.inputs(), coverage, &mut line, source, out);
     let note = note_of_wave(alloc, types, &task, &end, &texts, line);
     let end = end_with(alloc, types, coverage.declaration, &texts, end);

@@ -1,7 +1,8 @@
 //! Pictures of what is declared.
 
-ghost use Rattle.std.specs.Prelude.{◌≡◌, IfOk, IfSome, Some, map, option_map, string_bytes};
+ghost use Rattle.std.specs.Prelude.{◌≡◌, IfOk, Some, map, option_map};
 ghost use Rattle.fb_types.specs.Headline.{inputs};
+ghost use Rattle.fbsim_command.specs.Notes.{noted_of};
 ghost use Rattle.fbsim_command.specs.Drawing.{Draws, NotesType, SaysType, SaysTypeOf, WritesGraph, graph_of};
 
 use crate::failure::{Failure, RefusalLine};
@@ -9,7 +10,7 @@ use crate::inspect::path_of;
 use crate::line_notes::note_of_wave;
 use crate::near::nearest_type_name;
 use crate::notes::note_of_file;
-use crate::opening::open_inputs;
+use crate::opening::{open_accepted, open_inputs};
 use crate::output::write_text;
 use crate::own_lines::end_with;
 use crate::sources::Source;
@@ -62,7 +63,7 @@ fn write_graph<W: Write>(
 
 /// The line for a text that names no declared type: it names the nearest type. There is none for a declared type.
 fn type_line(alloc: Global, system: &System, text: &str) -> Result<Option<String>, AllocError>
-    ensures { IfOk result (λ line. SaysType system.now (Some text.now) (option_map string_bytes line)) }
+    ensures { IfOk (noted_of result) (SaysType system.now (Some text.now)) }
 {
     if graph(alloc, system, Some(text))?.is_some() {
         return Ok(None);
@@ -72,52 +73,39 @@ fn type_line(alloc: Global, system: &System, text: &str) -> Result<Option<String
     Ok(Some(unknown_line(alloc, "type", "declared type", text, near)?))
 }
 
-/// The same for what is declared, where a text names a type.
+/// The same for what is declared, where a text names a type. There is none where the inputs are refused.
 fn unknown_type(
     alloc: Global,
     inputs: &Inputs<'_>,
     block_type: Option<&str>,
-) -> Result<Option<String>, Failure>
-    ensures { IfOk result (λ line. SaysTypeOf inputs.now (option_map (λ t. t.now) block_type.entry) (option_map string_bytes line)) }
+) -> Result<Option<String>, AllocError>
+    ensures { IfOk (noted_of result) (SaysTypeOf inputs.now (option_map (λ t. t.now) block_type.entry)) }
 {
-    let system = open_inputs(alloc, inputs)?;
+    let Some(system) = open_accepted(alloc, inputs)? else {
+        return Ok(None);
+    };
     let line = match block_type {
         Some(text) => type_line(alloc, &system, text),
         None => Ok(None),
     };
     // Dropped by one call: the end of its scope would prove the drop part by part.
     discard(system);
-    Ok(line?)
+    line
 }
 
 /// The note to a call that ends so: the line for an unknown type, where it is asked for.
-fn type_note(
-    alloc: Global,
-    draw: &Draw<'_>,
-    inputs: &Inputs<'_>,
-    end: &Result<Done, Failure>,
-) -> Result<Option<String>, Failure>
-    ensures { IfOk result (λ note. NotesType draw.now inputs.now end.now (option_map string_bytes note)) }
-{
-    if draw.why && is_unknown(end) {
-        unknown_type(alloc, inputs, draw.block_type)
-    } else {
-        Ok(None)
-    }
-}
-
-/// The same, if there is memory for it.
 fn note_of_type(
     alloc: Global,
     draw: &Draw<'_>,
     inputs: &Inputs<'_>,
     end: &Result<Done, Failure>,
-) -> Option<String>
-    ensures { IfSome result (λ note. NotesType draw.now inputs.now end.now (Some (string_bytes note))) }
+) -> Result<Option<String>, AllocError>
+    ensures { IfOk (noted_of result) (NotesType draw.now inputs.now end.now) }
 {
-    match type_note(alloc, draw, inputs, end) {
-        Ok(note) => note,
-        Err(_) => None,
+    if draw.why && is_unknown(end) {
+        unknown_type(alloc, inputs, draw.block_type)
+    } else {
+        Ok(None)
     }
 }
 
@@ -129,8 +117,8 @@ pub(crate) fn show_graph<S: Source, W: Write>(
     draw: &Draw<'_>,
     source: &mut S,
     out: &mut W,
-) -> (Result<Done, Failure>, Option<String>)
-    ensures { Draws S.gives source.old source.new (map (λ t. t.now) types.now) draw.now (W.contents out.old) (W.contents out.new) result.0 (option_map string_bytes result.1) }
+) -> (Result<Done, Failure>, Result<Option<String>, AllocError>)
+    ensures { Draws S.gives source.old source.new (map (λ t. t.now) types.now) draw.now (W.contents out.old) (W.contents out.new) result.0 (noted_of result.1) }
 {
     let task = files_of(draw.declaration, draw.deploy, draw.why);
     let texts = match read_files(alloc, types, &task, source) {

@@ -5,22 +5,23 @@ ghost use Rattle.fb_expect.specs.Parting.{MayPart};
 ghost use Rattle.fbsim_command.specs.Comparing.{Compares, Differs, NotesEither, NotesUnread};
 ghost use Rattle.fbsim_command.specs.Failures.{refused_trace};
 ghost use Rattle.fbsim_command.specs.Expecting.{AreRules, AreUnheld, Expects, Holds, IsHeld, IsRefusedAt, IsTraceFailure, IsUndeclared, IsUnheld, MayDeclare, NotesTrace, PutsAll, PutsOne, RefusesFor, Reports, cut_of, head_of, own_of, part_of, tail_of, types_of};
-ghost use Rattle.fbsim_command.specs.Notes.{IsNoteOfName, Notes};
+ghost use Rattle.fbsim_command.specs.Notes.{NotesEnd, NotesFailing, noted_of};
 ghost use Rattle.fbsim_command.specs.Outcomes.{Held};
 ghost use Rattle.fbsim_command.specs.OwnLines.{EndsIn};
 ghost use Rattle.fbsim_command.specs.Texts.{given_of, may_lines_of};
+ghost use Rattle.fbsim_command.specs.declared.failure.Failure.{Failure};
+ghost use Rattle.fbsim_command.specs.declared.failure.Failure.TheVariants.{File};
 
 use crate::failure::{Failure, RefusalLine};
-use crate::inside_notes::note_of_open;
 use crate::join::FileLines;
 use crate::known::has_names;
-use crate::notes::{note_of_name, note_of_rest};
+use crate::notes::{note_of_rest, note_where_asked};
 use crate::opening::open_inputs;
 use crate::output::write_text;
 use crate::own_lines::end_in;
-use crate::rules_notes::{note_of_names, note_of_rules, note_to_held};
+use crate::rules_notes::{note_of_names, note_to_held};
 use crate::shown::shown_name;
-use crate::sources::{Source, SourceFault, Streams};
+use crate::sources::{Source, Streams};
 use crate::statuses::Done;
 use crate::texts::{Texts, Unread, files_of, lines_in, read_files};
 use fb_expect::{
@@ -48,13 +49,17 @@ fn cut_of(expect: &Expect<'_>) -> Cut
 }
 
 /// The note to a trace that can't be read to its end, where one is asked for.
-fn note_of_unread(alloc: Global, expect: &Expect<'_>, name: &str) -> Option<String>
-    ensures { NotesTrace expect.now (option_map string_bytes result) }
+fn note_of_unread(
+    alloc: Global,
+    expect: &Expect<'_>,
+    name: &str,
+) -> Result<Option<String>, AllocError>
+    ensures { IfOk (noted_of result) (NotesEnd expect.now.why name.now) }
 {
     if !expect.why {
-        return None;
+        return Ok(None);
     }
-    note_of_rest(alloc, "trace", name)
+    Ok(Some(note_of_rest(alloc, "trace", name)?))
 }
 
 /// The failure for which a trace is not held against rules.
@@ -74,12 +79,13 @@ fn note_of_fault(
     expect: &Expect<'_>,
     name: &str,
     error: &TraceError,
-) -> Option<String>
-    ensures { NotesTrace expect.now (option_map string_bytes result) }
+) -> Result<Option<String>, AllocError>
+    ensures noted { IfOk (noted_of result) (NotesTrace expect.now) }
+    ensures failing { (failure : Failure) → IsTraceFailure name.now error.now failure → NotesFailing expect.now.why (noted_of result) failure }
 {
     match error {
         TraceError::Read => note_of_unread(alloc, expect, name),
-        _ => None,
+        _ => Ok(None),
     }
 }
 
@@ -89,17 +95,18 @@ fn hold<S: Streams>(
     expect: &Expect<'_>,
     rules: &[Rule],
     name: &str,
-    note: &mut Option<String>,
+    note: &mut Result<Option<String>, AllocError>,
     source: &mut S,
 ) -> Result<Vec<Judged>, Failure>
     ensures held { IfOk result (λ js. IsHeld S.opens expect.now rules.now source.old source.new name.now js.items) }
     ensures unheld { IfErr result (IsUnheld S.opens expect.now source.old source.new name.now) }
-    ensures noted { NotesTrace expect.now (option_map string_bytes note.old) → NotesTrace expect.now (option_map string_bytes note.new) }
+    ensures noted { IfOk (noted_of note.old) (NotesTrace expect.now) → IfOk (noted_of note.new) (NotesTrace expect.now) }
+    ensures failing { IfErr result (NotesFailing expect.now.why (noted_of note.new)) }
 {
     let mut trace = match source.open(alloc, name) {
         Ok(trace) => trace,
         Err(fault) => {
-            *note = note_of_open(alloc, expect.why, name, fault);
+            *note = note_where_asked(alloc, expect.why, "trace", name, fault);
             return Err(Failure::from(fault));
         }
     };
@@ -174,12 +181,13 @@ fn put_one<S: Streams>(
     rules: &[Rule],
     at: (usize, &str),
     text: &mut Vec<u8>,
-    note: &mut Option<String>,
+    note: &mut Result<Option<String>, AllocError>,
     source: &mut S,
 ) -> Result<bool, Failure>
     ensures put { IfOk result (PutsOne S.opens expect.now rules.now at.entry.0 at.entry.1 source.old source.new text.old.items text.new.items) }
     ensures unheld { IfErr result (IsUnheld S.opens expect.now source.old source.new at.entry.1.now) }
-    ensures noted { NotesTrace expect.now (option_map string_bytes note.old) → NotesTrace expect.now (option_map string_bytes note.new) }
+    ensures noted { IfOk (noted_of note.old) (NotesTrace expect.now) → IfOk (noted_of note.new) (NotesTrace expect.now) }
+    ensures failing { IfErr result (NotesFailing expect.now.why (noted_of note.new)) }
 {
     let (_, trace) = at;
     let judged = hold(alloc, expect, rules, trace, note, source)?;
@@ -193,12 +201,13 @@ fn put_all<S: Streams>(
     expect: &Expect<'_>,
     rules: &[Rule],
     text: &mut Vec<u8>,
-    note: &mut Option<String>,
+    note: &mut Result<Option<String>, AllocError>,
     source: &mut S,
 ) -> Result<bool, Failure>
     ensures put { IfOk result (PutsAll S.opens expect.now rules.now source.old source.new text.old.items text.new.items) }
     ensures unheld { IfErr result (AreUnheld S.opens expect.now rules.now source.old source.new) }
-    ensures noted { NotesTrace expect.now (option_map string_bytes note.old) → NotesTrace expect.now (option_map string_bytes note.new) }
+    ensures noted { IfOk (noted_of note.old) (NotesTrace expect.now) → IfOk (noted_of note.new) (NotesTrace expect.now) }
+    ensures failing { IfErr result (NotesFailing expect.now.why (noted_of note.new)) }
 {
     let mut is_well = true;
     for (index, trace) in expect.traces.iter().enumerate() {
@@ -234,12 +243,13 @@ fn report<S: Streams>(
     alloc: Global,
     expect: &Expect<'_>,
     rules: &[Rule],
-    note: &mut Option<String>,
+    note: &mut Result<Option<String>, AllocError>,
     source: &mut S,
 ) -> Result<(Vec<u8>, bool), Failure>
     ensures reported { IfOk result (λ p. Reports S.opens expect.now rules.now source.old source.new p.1 p.0.items) }
     ensures unheld { IfErr result (AreUnheld S.opens expect.now rules.now source.old source.new) }
-    ensures noted { NotesTrace expect.now (option_map string_bytes note.old) → NotesTrace expect.now (option_map string_bytes note.new) }
+    ensures noted { IfOk (noted_of note.old) (NotesTrace expect.now) → IfOk (noted_of note.new) (NotesTrace expect.now) }
+    ensures failing { IfErr result (NotesFailing expect.now.why (noted_of note.new)) }
 {
     let mut text = head(alloc, expect, rules)?;
     let is_well = put_all(alloc, expect, rules, &mut text, note, source)?;
@@ -301,12 +311,13 @@ fn hold_rules<S: Streams, W: Write>(
     expect: &Expect<'_>,
     bytes: &[u8],
     declared: &Option<Texts>,
-    note: &mut Option<String>,
+    note: &mut Result<Option<String>, AllocError>,
     source: &mut S,
     out: &mut W,
 ) -> Result<Done, Failure>
     ensures held { Holds S.opens expect.now source.old source.new bytes.now (option_map given_of declared.now) (W.contents out.old) (W.contents out.new) result }
-    ensures noted { NotesTrace expect.now (option_map string_bytes note.old) → NotesTrace expect.now (option_map string_bytes note.new) }
+    ensures noted { IfOk (noted_of note.old) (NotesTrace expect.now) → IfOk (noted_of note.new) (NotesTrace expect.now) }
+    ensures failing { IfErr result (NotesFailing expect.now.why (noted_of note.new)) }
 {
     let rules = checked_rules(alloc, bytes, declared)?;
     let (text, is_well) = report(alloc, expect, rules.as_slice(), note, source)?;
@@ -350,13 +361,13 @@ pub(crate) fn expect<S: Source + Streams, W: Write>(
     expect: &Expect<'_>,
     source: &mut S,
     out: &mut W,
-) -> (Result<Done, Failure>, Option<String>)
-    ensures { Expects S.gives S.opens source.old source.new expect.now (W.contents out.old) (W.contents out.new) result.0 (option_map string_bytes result.1) }
+) -> (Result<Done, Failure>, Result<Option<String>, AllocError>)
+    ensures { Expects S.gives S.opens source.old source.new expect.now (W.contents out.old) (W.contents out.new) result.0 (noted_of result.1) }
 {
     let bytes = match source.read(alloc, expect.rules, RULES_BYTES) {
         Ok(bytes) => bytes,
         Err(fault) => {
-            let note = note_of_rules(alloc, expect, fault);
+            let note = note_where_asked(alloc, expect.why, "rules", expect.rules, fault);
             return (Err(Failure::from(fault)), note);
         }
     };
@@ -368,7 +379,7 @@ pub(crate) fn expect<S: Source + Streams, W: Write>(
         }
     };
     let bytes = bytes.as_slice();
-    let mut trace = None;
+    let mut trace = Ok(None);
     let end = hold_rules(alloc, expect, bytes, &declared, &mut trace, source, out);
     let note = note_to_held(alloc, expect, &end, bytes, &declared, trace);
     let end = end_of(alloc, expect, lines_in(&declared), end);
@@ -382,7 +393,8 @@ fn show_parted<W: Write>(
     found: Option<Difference>,
     out: &mut W,
 ) -> Result<Done, Failure>
-    ensures { (first second : Held) → MayPart diff.now.is_without_ticks first second found → Differs diff.now first second (W.contents out.old) (W.contents out.new) result }
+    ensures read { IfErr result (λ failure. failure ≡ File → ⊥) }
+    ensures shown { (first second : Held) → MayPart diff.now.is_without_ticks first second found → Differs diff.now first second (W.contents out.old) (W.contents out.new) result }
 {
     let Some(difference) = found else {
         return Ok(Done::Same);
@@ -398,27 +410,21 @@ fn show_parted<W: Write>(
     Ok(Done::Different)
 }
 
-/// The note to a file that is not read, where one is asked for.
-fn note_of_trace(alloc: Global, diff: &Diff<'_>, name: &str, fault: SourceFault) -> Option<String>
-    ensures { Notes diff.now.why (IsNoteOfName (codes "trace") name.now fault) (option_map string_bytes result) }
-{
-    if !diff.why {
-        return None;
-    }
-    note_of_name(alloc, "trace", name, fault)
-}
-
 /// The note to the one of two traces that can't be read to its end, where one is asked for.
-fn note_of_part(alloc: Global, diff: &Diff<'_>, fault: PartFault) -> Option<String>
-    ensures { NotesUnread diff.now fault (option_map string_bytes result) }
+fn note_of_part(
+    alloc: Global,
+    diff: &Diff<'_>,
+    fault: PartFault,
+) -> Result<Option<String>, AllocError>
+    ensures { IfOk (noted_of result) (NotesUnread diff.now fault) }
 {
     if !diff.why {
-        return None;
+        return Ok(None);
     }
     match fault {
-        PartFault::Memory => None,
-        PartFault::First => note_of_rest(alloc, "trace", diff.first),
-        PartFault::Second => note_of_rest(alloc, "trace", diff.second),
+        PartFault::Memory => Ok(None),
+        PartFault::First => Ok(Some(note_of_rest(alloc, "trace", diff.first)?)),
+        PartFault::Second => Ok(Some(note_of_rest(alloc, "trace", diff.second)?)),
     }
 }
 
@@ -430,9 +436,9 @@ fn compare<R: BufRead, T: BufRead, W: Write>(
     first: &mut R,
     second: &mut T,
     out: &mut W,
-) -> (Result<Done, Failure>, Option<String>)
+) -> (Result<Done, Failure>, Result<Option<String>, AllocError>)
     ensures done { Differs diff.now (R.remaining first.old) (T.remaining second.old) (W.contents out.old) (W.contents out.new) result.0 }
-    ensures noted { NotesEither diff.now (record { first = R.remaining first.old; second = T.remaining second.old }) (record { first = R.remaining first.new; second = T.remaining second.new }) result.0 (option_map string_bytes result.1) }
+    ensures noted { IfOk (noted_of result.1) (NotesEither diff.now (record { first = R.remaining first.old; second = T.remaining second.old }) (record { first = R.remaining first.new; second = T.remaining second.new }) result.0) }
 {
     let found = match part(alloc, diff.is_without_ticks, first, second) {
         Ok(found) => found,
@@ -442,7 +448,7 @@ fn compare<R: BufRead, T: BufRead, W: Write>(
         }
     };
     let end = show_parted(alloc, diff, found, out);
-    (end, None)
+    (end, Ok(None))
 }
 
 /// Reads two traces, and writes where they part first, if they do. It says how that ends, and what is reported after
@@ -452,20 +458,20 @@ pub(crate) fn diff<S: Streams, W: Write>(
     diff: &Diff<'_>,
     source: &mut S,
     out: &mut W,
-) -> (Result<Done, Failure>, Option<String>)
-    ensures { Compares S.opens source.old source.new diff.now (W.contents out.old) (W.contents out.new) result.0 (option_map string_bytes result.1) }
+) -> (Result<Done, Failure>, Result<Option<String>, AllocError>)
+    ensures { Compares S.opens source.old source.new diff.now (W.contents out.old) (W.contents out.new) result.0 (noted_of result.1) }
 {
     let mut first = match source.open(alloc, diff.first) {
         Ok(first) => first,
         Err(fault) => {
-            let note = note_of_trace(alloc, diff, diff.first, fault);
+            let note = note_where_asked(alloc, diff.why, "trace", diff.first, fault);
             return (Err(Failure::from(fault)), note);
         }
     };
     let mut second = match source.open(alloc, diff.second) {
         Ok(second) => second,
         Err(fault) => {
-            let note = note_of_trace(alloc, diff, diff.second, fault);
+            let note = note_where_asked(alloc, diff.why, "trace", diff.second, fault);
             return (Err(Failure::from(fault)), note);
         }
     };

@@ -1,13 +1,13 @@
 //! What is reported of a refusal whose place is in the deployment or in the stimuli.
 
-ghost use Rattle.std.specs.Prelude.{◌≡◌, IfSome, option_map, string_bytes};
+ghost use Rattle.std.specs.Prelude.{◌≡◌, IfOk, string_bytes};
 ghost use Rattle.fbsim_command.specs.InputNotes.{IsNotedAt, IsNoteWith, name_in, names_of};
 
 use crate::notes::matter_at;
 use crate::own_lines::placed;
 use crate::texts::Texts;
 use fb_why::{InputFile, InputPlace};
-use std::alloc::Global;
+use std::alloc::{AllocError, Global};
 
 /// The names that a call gives to its deployment and its stimuli, where it gives some.
 #[derive(Clone, Copy)]
@@ -28,21 +28,21 @@ pub(crate) struct RefusedInputs<'a> {
     pub(crate) texts: &'a Texts,
 }
 
-/// The name of an input.
-fn name_in<'a>(names: &InputNames<'a>, file: InputFile) -> Option<&'a str>
-    ensures { option_map (λ n. n.now) result ≡ name_in (names_of names.now) file }
+/// The name of an input. It is empty where the call names none.
+fn name_in<'a>(names: &InputNames<'a>, file: InputFile) -> &'a str
+    ensures { result.now ≡ name_in (names_of names.now) file }
 {
     match file {
-        InputFile::Deployment => names.deploy,
-        InputFile::Stimuli => names.stimuli,
+        InputFile::Deployment => names.deploy.unwrap_or(""),
+        InputFile::Stimuli => names.stimuli.unwrap_or(""),
     }
 }
 
-/// The bytes of an input.
-fn bytes_in(texts: &Texts, file: InputFile) -> Option<&[u8]> {
+/// The bytes of an input. There are none where the call names none.
+fn bytes_in(texts: &Texts, file: InputFile) -> &[u8] {
     match file {
-        InputFile::Deployment => texts.deployment(),
-        InputFile::Stimuli => texts.rows(),
+        InputFile::Deployment => texts.deployment().unwrap_or(b""),
+        InputFile::Stimuli => texts.rows().unwrap_or(b""),
     }
 }
 
@@ -52,18 +52,14 @@ fn note_at(
     refused: &RefusedInputs<'_>,
     place: InputPlace,
     words: &str,
-) -> Option<String>
-    ensures { IfSome result (λ note. IsNotedAt (names_of refused.now.names) place (string_bytes note)) }
+) -> Result<String, AllocError>
+    ensures { IfOk result (λ note. IsNotedAt (names_of refused.now.names) place (string_bytes note)) }
 {
-    let name = name_in(&refused.names, place.file)?;
-    let bytes = bytes_in(refused.texts, place.file)?;
-    match matter_at(alloc, refused.number, words, bytes, place.at) {
-        Ok(matter) => {
-            let column = place.at.column as u128;
-            placed(alloc, name, place.at.line, column, matter.as_str())
-        }
-        Err(_) => None,
-    }
+    let name = name_in(&refused.names, place.file);
+    let bytes = bytes_in(refused.texts, place.file);
+    let matter = matter_at(alloc, refused.number, words, bytes, place.at)?;
+    let column = place.at.column as u128;
+    placed(alloc, name, place.at.line, column, matter.as_str())
 }
 
 /// The note with the place, if there is one, and else the words.
@@ -72,11 +68,11 @@ pub(crate) fn note_there(
     refused: &RefusedInputs<'_>,
     place: Option<InputPlace>,
     words: String,
-) -> Option<String>
-    ensures { IfSome result (λ note. IsNoteWith (names_of refused.now.names) place (string_bytes words) (string_bytes note)) }
+) -> Result<String, AllocError>
+    ensures { IfOk result (λ note. IsNoteWith (names_of refused.now.names) place (string_bytes words) (string_bytes note)) }
 {
     match place {
         Some(place) => note_at(alloc, refused, place, words.as_str()),
-        None => Some(words),
+        None => Ok(words),
     }
 }

@@ -1,12 +1,10 @@
 //! What is reported after a walk through a trace has refused it: what is wrong with the line.
 
-ghost use Rattle.std.specs.Prelude.{◌≡◌, ℕ, Err, IfOk, IfSome, IsTrue, codes, option_map, string_bytes};
-ghost use Rattle.fb_inspect.specs.declared.error.InspectError.TheVariants as failed;
-ghost use Rattle.fbsim_command.specs.InsideNotes.{IsOpenNote, IsWordsOf, SaysInside, SaysLine};
-ghost use Rattle.fbsim_command.specs.Notes.{Notes};
+ghost use Rattle.std.specs.Prelude.{◌≡◌, IfOk, string_bytes};
+ghost use Rattle.fbsim_command.specs.InsideNotes as spec;
+ghost use Rattle.fbsim_command.specs.InsideNotes.{IsWordsOf, SaysGone, SaysInside};
+ghost use Rattle.fbsim_command.specs.Notes.{Notes, noted_of};
 
-use crate::notes::note_of_name;
-use crate::sources::SourceFault;
 use fb_inspect::{InspectError, RefusedLine, fault_of, finding_message, line_message};
 use fb_system::System;
 use std::alloc::{AllocError, Global};
@@ -31,7 +29,7 @@ fn inside_note(
     line: u64,
     refused: &RefusedLine,
 ) -> Result<Option<String>, AllocError>
-    ensures { IfOk result (λ note. SaysInside system.now refused.now front.now line (option_map string_bytes note)) }
+    ensures { IfOk (noted_of result) (SaysInside system.now refused.now front.now line) }
 {
     let words = words_of(alloc, system, refused)?;
     if words.is_empty() {
@@ -40,8 +38,8 @@ fn inside_note(
     Ok(Some(format!(in alloc; "{front}: line {line}: {words}")?))
 }
 
-/// The note to a line at which a trace is refused, which begins so, if that is asked for. Without memory for it, or
-/// where nothing is known, there is none.
+/// The note to a line at which a trace is refused, which begins so, if that is asked for. Where nothing is known there is
+/// none.
 pub(crate) fn note_of_inside(
     alloc: Global,
     why: bool,
@@ -49,15 +47,23 @@ pub(crate) fn note_of_inside(
     system: &System,
     line: u64,
     refused: &RefusedLine,
-) -> Option<String>
-    ensures { IfSome result (λ note. IsTrue why × SaysLine front.now line (string_bytes note)) }
+) -> Result<Option<String>, AllocError>
+    ensures { IfOk (noted_of result) (Notes why (SaysInside system.now refused.now front.now line)) }
 {
-    if !why {
-        return None;
+    if why {
+        inside_note(alloc, front, system, line, refused)
+    } else {
+        Ok(None)
     }
-    match inside_note(alloc, front, system, line, refused) {
-        Ok(note) => note,
-        Err(_) => None,
+}
+
+/// The line at which a walk has refused a trace, if it did.
+fn refused_at(gone: &Result<(), InspectError>) -> Option<u64>
+    ensures { result ≡ spec.refused_at gone.now }
+{
+    match gone {
+        Err(InspectError::Refused(line)) => Some(*line),
+        _ => None,
     }
 }
 
@@ -68,28 +74,11 @@ pub(crate) fn note_of_gone(
     system: &System,
     gone: &Result<(), InspectError>,
     refused: &RefusedLine,
-) -> Option<String>
-    ensures { IfSome result (λ note. IsTrue why × ((line : ℕ) × (gone.now ≡ Err (failed.Refused line)) × SaysLine (codes "trace") line (string_bytes note))) }
+) -> Result<Option<String>, AllocError>
+    ensures { IfOk (noted_of result) (Notes why (SaysGone system.now refused.now gone.now)) }
 {
-    match gone {
-        Err(InspectError::Refused(line)) => {
-            note_of_inside(alloc, why, "trace", system, *line, refused)
-        }
-        _ => None,
+    match refused_at(gone) {
+        Some(line) => note_of_inside(alloc, why, "trace", system, line, refused),
+        None => Ok(None),
     }
-}
-
-/// The note to the file of a trace, which is not opened, where one is asked for.
-pub(crate) fn note_of_open(
-    alloc: Global,
-    why: bool,
-    name: &str,
-    fault: SourceFault,
-) -> Option<String>
-    ensures { Notes why (IsOpenNote name.now fault) (option_map string_bytes result) }
-{
-    if !why {
-        return None;
-    }
-    note_of_name(alloc, "trace", name, fault)
 }

@@ -1,21 +1,22 @@
 //! What happens inside the blocks of a trace.
 
-ghost use Rattle.std.specs.Prelude.{◌≡◌, IfErr, IfOk, IfSome, OnErr, OnOk, Some, map, option_map, string_bytes};
+ghost use Rattle.std.specs.Prelude.{◌≡◌, IfErr, IfOk, IfSome, OnErr, OnOk, map};
 ghost use Rattle.fb_inspect.specs.OfSystem.{IsPathFault, IsShownBy, ShowsRead};
 ghost use Rattle.fb_inspect.specs.Refusals.{OfRefusal};
 ghost use Rattle.fb_inspect.specs.declared.error.InspectError.TheVariants as error;
 ghost use Rattle.fb_wave.specs.OfSystem.{HasNames};
 ghost use Rattle.fbsim_command.specs.WrongLines.{IsWrongIn};
-ghost use Rattle.fbsim_command.specs.InsideNotes.{NotesInside};
+ghost use Rattle.fbsim_command.specs.InsideNotes.{IsFoundAt, NotesInside};
+ghost use Rattle.fbsim_command.specs.Notes.{noted_of};
 ghost use Rattle.fbsim_command.specs.Inspecting.{Inspects, NotesPaths, SaysPath, SaysPaths, SaysPathsOf, ShowsInsides, cut_of, events_of, selection_of, upper};
 
 use crate::failure::{Failure, failure_of_inspection};
-use crate::inside_notes::{note_of_gone, note_of_open};
+use crate::inside_notes::note_of_gone;
 use crate::known::instance_at;
 use crate::line_notes::note_of_wave;
 use crate::near::nearest_path;
-use crate::notes::{note_of_file, note_of_trace_end, one_of};
-use crate::opening::open_inputs;
+use crate::notes::{note_of_file, note_of_trace_end, note_where_asked, one_of};
+use crate::opening::{open_accepted, open_inputs};
 use crate::own_lines::end_with;
 use crate::sources::{Source, Streams};
 use crate::statuses::Done;
@@ -76,6 +77,7 @@ fn go<R: BufRead, W: Write>(
     ensures refused { IfErr result (OfRefusal (IsWrongIn (cut_of inspect.now) system.now inspect.now.steps (R.remaining trace.old))) }
     ensures names { IfErr result (λ e. e ≡ error.Names → ⊥) }
     ensures paths { IfErr result (IsPathFault system.now (selection_of inspect.now).only) }
+    ensures found { IfErr result (OfRefusal (λ line. IsFoundAt system.now inspect.now.steps (R.remaining trace.old) line refused.new)) }
 {
     let only = paths_of(alloc, inspect.only.as_slice())?;
     let inspection = Inspection {
@@ -97,13 +99,13 @@ fn write_inspected<R: BufRead, W: Write>(
     inspect: &Inspect<'_>,
     trace: &mut R,
     out: &mut W,
-) -> (Result<Done, Failure>, Option<String>)
+) -> (Result<Done, Failure>, Result<Option<String>, AllocError>)
     ensures inspected { Inspects inputs.now inspect.now (R.remaining trace.old) (W.contents out.old) (W.contents out.new) result.0 }
-    ensures noted { NotesInside inspect.now.why result.0 (option_map string_bytes result.1) }
+    ensures noted { IfOk (noted_of result.1) (NotesInside inspect.now.why inputs.now inspect.now.steps (R.remaining trace.old) result.0) }
 {
     let system = match open_inputs(alloc, inputs) {
         Ok(system) => system,
-        Err(failure) => return (Err(failure), None),
+        Err(failure) => return (Err(failure), Ok(None)),
     };
     let mut refused = RefusedLine::new(alloc);
     let gone = go(alloc, &system, inspect, &mut refused, trace, out);
@@ -118,7 +120,7 @@ fn write_inspected<R: BufRead, W: Write>(
 
 /// The line for a path that no instance has: it names the nearest path. There is none for the path of an instance.
 fn path_line(alloc: Global, system: &System, text: &str) -> Result<Option<String>, AllocError>
-    ensures { IfOk result (λ line. SaysPath system.now text.now (option_map string_bytes line)) }
+    ensures { IfOk (noted_of result) (SaysPath system.now text.now) }
 {
     let path = path_of(alloc, text.as_bytes())?;
     if instance_at(system, path.as_bytes()).is_some() {
@@ -130,7 +132,7 @@ fn path_line(alloc: Global, system: &System, text: &str) -> Result<Option<String
 
 /// The line for the first of the paths that no instance has, if there is one.
 fn first_line(alloc: Global, system: &System, texts: &[&str]) -> Result<Option<String>, AllocError>
-    ensures { IfOk result (λ line. SaysPaths system.now (map (λ t. t.now) texts.now) (option_map string_bytes line)) }
+    ensures { IfOk (noted_of result) (SaysPaths system.now (map (λ t. t.now) texts.now)) }
 {
     for text in texts {
         if let Some(line) = path_line(alloc, system, text)? {
@@ -140,49 +142,36 @@ fn first_line(alloc: Global, system: &System, texts: &[&str]) -> Result<Option<S
     Ok(None)
 }
 
-/// The same for what is declared.
+/// The same for what is declared. There is none where the inputs are refused.
 fn unknown_path(
     alloc: Global,
     inputs: &Inputs<'_>,
     texts: &[&str],
-) -> Result<Option<String>, Failure>
-    ensures { IfOk result (λ line. SaysPathsOf inputs.now (map (λ t. t.now) texts.now) (option_map string_bytes line)) }
+) -> Result<Option<String>, AllocError>
+    ensures { IfOk (noted_of result) (SaysPathsOf inputs.now (map (λ t. t.now) texts.now)) }
 {
-    let system = open_inputs(alloc, inputs)?;
+    let Some(system) = open_accepted(alloc, inputs)? else {
+        return Ok(None);
+    };
     let line = first_line(alloc, &system, texts);
     // Dropped by one call: the end of its scope would prove the drop part by part.
     discard(system);
-    Ok(line?)
+    line
 }
 
 /// The note to a call that ends so: the line for an unknown path, where it is asked for.
-fn path_note(
-    alloc: Global,
-    inspect: &Inspect<'_>,
-    inputs: &Inputs<'_>,
-    end: &Result<Done, Failure>,
-) -> Result<Option<String>, Failure>
-    ensures { IfOk result (λ note. NotesPaths inspect.now inputs.now end.now (option_map string_bytes note)) }
-{
-    if inspect.why && is_unknown(end) {
-        unknown_path(alloc, inputs, inspect.only.as_slice())
-    } else {
-        Ok(None)
-    }
-}
-
-/// The same, if there is memory for it.
 fn note_of_path(
     alloc: Global,
     inspect: &Inspect<'_>,
     inputs: &Inputs<'_>,
     end: &Result<Done, Failure>,
-) -> Option<String>
-    ensures { IfSome result (λ note. NotesPaths inspect.now inputs.now end.now (Some (string_bytes note))) }
+) -> Result<Option<String>, AllocError>
+    ensures { IfOk (noted_of result) (NotesPaths inspect.now inputs.now end.now) }
 {
-    match path_note(alloc, inspect, inputs, end) {
-        Ok(note) => note,
-        Err(_) => None,
+    if inspect.why && is_unknown(end) {
+        unknown_path(alloc, inputs, inspect.only.as_slice())
+    } else {
+        Ok(None)
     }
 }
 
@@ -194,8 +183,8 @@ pub(crate) fn show_insides<S: Source + Streams, W: Write>(
     inspect: &Inspect<'_>,
     source: &mut S,
     out: &mut W,
-) -> (Result<Done, Failure>, Option<String>)
-    ensures { ShowsInsides S.gives S.opens source.old source.new (map (λ t. t.now) types.now) inspect.now (W.contents out.old) (W.contents out.new) result.0 (option_map string_bytes result.1) }
+) -> (Result<Done, Failure>, Result<Option<String>, AllocError>)
+    ensures { ShowsInsides S.gives S.opens source.old source.new (map (λ t. t.now) types.now) inspect.now (W.contents out.old) (W.contents out.new) result.0 (noted_of result.1) }
 {
     let task = files_of(inspect.declaration, inspect.deploy, inspect.why);
     let texts = match read_files(alloc, types, &task, source) {
@@ -208,15 +197,16 @@ pub(crate) fn show_insides<S: Source + Streams, W: Write>(
     let mut trace = match source.open(alloc, inspect.trace) {
         Ok(trace) => trace,
         Err(fault) => {
-            let note = note_of_open(alloc, inspect.why, inspect.trace, fault);
+            let note = note_where_asked(alloc, inspect.why, "trace", inspect.trace, fault);
             return (Err(Failure::from(fault)), note);
         }
     };
     let inputs = texts.inputs();
     let (end, line) = write_inspected(alloc, &inputs, inspect, &mut trace, out);
-    let line = note_of_trace_end(alloc, inspect.why, inspect.trace, &end, line);
+    let rest = note_of_trace_end(alloc, inspect.why, inspect.trace, &end);
     let path = note_of_path(alloc, inspect, &inputs, &end);
-    let note = note_of_wave(alloc, types, &task, &end, &texts, one_of(path, line));
+    let line = one_of(path, one_of(rest, line));
+    let note = note_of_wave(alloc, types, &task, &end, &texts, line);
     let end = end_with(alloc, types, inspect.declaration, &texts, end);
     (end, note)
 }

@@ -1,13 +1,13 @@
 //! Whether a declared system has the names of rules.
 
-ghost use Rattle.std.specs.Prelude.{◌≡◌, ◌<◌, ◌++◌, All, IfNone, IfOk, IfSome, codes, length, map};
+ghost use Rattle.std.specs.Prelude.{◌≡◌, ◌<◌, ◌++◌, All, IfNone, IfOk, IfSome, MatchOption, codes, length, map, true};
 ghost use Rattle.fb_inspect.specs.OfSystem.{IsNoInstance};
 ghost use Rattle.fb_system.specs.IndexLists.{AreIndexes, variable_at};
 ghost use Rattle.fb_types.specs.Numbers.{event_at};
 ghost use Rattle.fb_types.specs.OfSystem.{IsInstance, path_at};
 ghost use Rattle.fb_types.specs.Text.{path_text};
 ghost use Rattle.fbsim_command.specs.Known as spec;
-ghost use Rattle.fbsim_command.specs.OfSystem.{IsUnknownAt, IsUnknownKey, any_event, has_names, has_port, is_of, may_have_port, ports_of};
+ghost use Rattle.fbsim_command.specs.OfSystem.{IsUnknownAt, IsUnknownKey, any_event, has_names, has_port, has_rule, is_of, may_have_port, ports_of};
 
 use crate::possible::is_possible;
 use fb_expect::{Condition, Entry, Pattern, Rule, RuleKey, is_at, pattern_keys};
@@ -202,7 +202,7 @@ pub(crate) fn has_names(alloc: Global, system: &System, rules: &[Rule]) -> Resul
 
 /// The key of the first pattern of a rule that no port has.
 fn unknown_key(alloc: Global, system: &System, rule: &Rule) -> Result<Option<RuleKey>, AllocError>
-    ensures { IfOk result (λ o. IfSome o (IsUnknownKey system.now rule.now)) }
+    ensures { IfOk result (λ o. MatchOption o (has_rule system.now rule.now ≡ true) (IsUnknownKey system.now rule.now)) }
 {
     let (first, second) = pattern_keys(rule.need);
     if !has_port(alloc, system, &rule.first)? {
@@ -223,7 +223,7 @@ pub(crate) fn unknown_location(
     system: &System,
     rules: &[Rule],
 ) -> Result<Option<(usize, RuleKey)>, AllocError>
-    ensures { IfOk result (λ o. IfSome o (λ p. IsUnknownAt system.now rules.now p.0 p.1)) }
+    ensures { IfOk result (λ o. MatchOption o (has_names system.now rules.now ≡ true) (λ p. IsUnknownAt system.now rules.now p.0 p.1)) }
 {
     for (index, rule) in rules.iter().enumerate() {
         if let Some(key) = unknown_key(alloc, system, rule)? {

@@ -1,9 +1,9 @@
 //! Rows of stimuli that a run never comes to, which are reported after the run if that is asked for.
 
-ghost use Rattle.std.specs.Prelude.{◌≡◌, ◌++◌, ℕ, IfOk, IfSome, List, Option, length, option_map, string_bytes};
+ghost use Rattle.std.specs.Prelude.{◌≡◌, ◌++◌, ℕ, IfOk, List, Option, length, option_map, string_bytes};
 ghost use Rattle.fb_sim.specs.Reports.{Hears};
 ghost use Rattle.fbsim_command.specs.LateRows as spec;
-ghost use Rattle.fbsim_command.specs.LateRows.{AsksHowMany, ReportsRows, SaysLate};
+ghost use Rattle.fbsim_command.specs.LateRows.{ReportsRows, SaysLate};
 ghost use Rattle.fbsim_command.specs.Texts.{given_of};
 
 use crate::failure::Failure;
@@ -45,22 +45,40 @@ fn late_line(alloc: Global, bytes: &[u8], horizon: u64) -> Result<Option<String>
     Ok(Some(line_of(alloc, horizon, late, rows.len())?))
 }
 
-/// The horizon of a run that took place, if it is asked how many rows it does not come to.
-fn asked(task: &Task<'_>, end: &Result<Done, Failure>) -> Option<u64>
-    ensures { IfSome result (AsksHowMany task.now end.now) }
+/// Whether a run has ended or stopped.
+fn has_run(end: &Result<Done, Failure>) -> bool
+    ensures { result ≡ spec.has_run end.now }
 {
-    let Ok(Done::Ended | Done::Stopped) = end else {
-        return None;
-    };
-    match task.action {
-        Action::Run { horizon, .. } if task.why => Some(horizon),
-        _ => None,
+    match end {
+        Ok(Done::Ended | Done::Stopped) => true,
+        _ => false,
     }
 }
 
-/// Reports how many rows of the stimuli are at or beyond the horizon of a run, if that is asked for, there are such rows
-/// and memory is there, after other reports, of which standard error took all or not. It says whether it took all of
-/// them and this one.
+/// The horizon of a run.
+fn horizon_of(action: Action) -> Option<u64>
+    ensures { result ≡ spec.horizon_of action }
+{
+    match action {
+        Action::Run { horizon, .. } => Some(horizon),
+        Action::Check { .. } => None,
+    }
+}
+
+/// The horizon of a run that took place, if it is asked how many rows it does not come to.
+fn asked(task: &Task<'_>, end: &Result<Done, Failure>) -> Option<u64>
+    ensures { result ≡ spec.asked_horizon task.now end.now }
+{
+    if task.why && has_run(end) {
+        horizon_of(task.action)
+    } else {
+        None
+    }
+}
+
+/// Reports how many rows of the stimuli are at or beyond the horizon of a run, if that is asked for and there are such
+/// rows, after other reports, of which standard error took all or not. It says whether it took all of them and this one,
+/// for which there may be no memory.
 pub(crate) fn report_rows_after<E: Write>(
     alloc: Global,
     task: &Task<'_>,
@@ -69,17 +87,21 @@ pub(crate) fn report_rows_after<E: Write>(
     err: &mut E,
     is_heard: bool,
 ) -> bool
-    ensures { (report : List ℕ) × ReportsRows task.now (given_of texts.now).stimuli end.now report
+    ensures { (report : List ℕ) × ReportsRows task.now (given_of texts.now).stimuli end.now result report
         × ((old : Option (List ℕ)) (first : List ℕ) → Hears is_heard old (E.contents err.old) first → Hears result old (E.contents err.new) (first ++ report)) }
 {
     if !is_heard {
         return false;
     }
-    let (Some(horizon), Some(bytes)) = (asked(task, end), texts.rows()) else {
+    let Some(horizon) = asked(task, end) else {
+        return true;
+    };
+    let Some(bytes) = texts.rows() else {
         return true;
     };
     match late_line(alloc, bytes, horizon) {
         Ok(Some(line)) => report_lines(err, line.as_bytes()),
-        _ => true,
+        Ok(None) => true,
+        Err(_) => false,
     }
 }

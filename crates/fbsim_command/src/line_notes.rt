@@ -1,10 +1,10 @@
 //! What is reported after the refusal of a line of a trace: what is wrong with it.
 
-ghost use Rattle.std.specs.Prelude.{◌≡◌, ◌⊎◌, ℕ, Err, IfOk, IfSome, IsTrue, map, option_map, string_bytes};
-ghost use Rattle.fb_wave.specs.declared.error.WaveError.TheVariants as failed;
-ghost use Rattle.fbsim_command.specs.Notes.{NotesOf};
+ghost use Rattle.std.specs.Prelude.{◌≡◌, IfOk, map};
+ghost use Rattle.fbsim_command.specs.LineNotes as spec;
+ghost use Rattle.fbsim_command.specs.Notes.{Follows, Notes, NotesOf, noted_of};
 ghost use Rattle.fbsim_command.specs.Texts.{given_of, lines_of};
-ghost use Rattle.fbsim_command.specs.OfSystem.{SaysFault, SaysLine};
+ghost use Rattle.fbsim_command.specs.OfSystem.{SaysLine, SaysWritten};
 
 use crate::failure::Failure;
 use crate::program::note_to;
@@ -23,7 +23,7 @@ fn line_note(
     line: u64,
     current: &CurrentLine,
 ) -> Result<Option<String>, AllocError>
-    ensures { IfOk result (λ note. SaysLine system.now current.now line (option_map string_bytes note)) }
+    ensures { IfOk (noted_of result) (SaysLine system.now current.now line) }
 {
     match fault_of(system, current) {
         Some(fault) => {
@@ -34,27 +34,33 @@ fn line_note(
     }
 }
 
+/// The line at which a trace was refused, if it was.
+fn refused_at(written: &Result<(), WaveError>) -> Option<u64>
+    ensures { result ≡ spec.refused_at written.now }
+{
+    match written {
+        Err(WaveError::Refused(line)) => Some(*line),
+        _ => None,
+    }
+}
+
 /// The note to a trace of which this was written, where one is asked for: what is wrong with the line at which it is
-/// refused. Without memory for it there is none.
+/// refused.
 pub(crate) fn note_of_trace_line(
     alloc: Global,
     why: bool,
     system: &System,
     written: &Result<(), WaveError>,
     current: &CurrentLine,
-) -> Option<String>
-    ensures { IfSome result (λ note. IsTrue why × ((line : ℕ) × (written.now ≡ Err (failed.Refused line))
-        × SaysFault system.now current.now line (string_bytes note))) }
+) -> Result<Option<String>, AllocError>
+    ensures { IfOk (noted_of result) (Notes why (SaysWritten system.now current.now written.now)) }
 {
     if !why {
-        return None;
+        return Ok(None);
     }
-    let Err(WaveError::Refused(line)) = written else {
-        return None;
-    };
-    match line_note(alloc, system, *line, current) {
-        Ok(note) => note,
-        Err(_) => None,
+    match refused_at(written) {
+        Some(line) => line_note(alloc, system, line, current),
+        None => Ok(None),
     }
 }
 
@@ -65,13 +71,12 @@ pub(crate) fn note_of_wave(
     task: &Task<'_>,
     end: &Result<Done, Failure>,
     texts: &Texts,
-    line: Option<String>,
-) -> Option<String>
-    ensures { NotesOf (map (λ t. t.now) types.now) task.now (lines_of texts.now) (given_of texts.now) end.now (option_map string_bytes result)
-        ⊎ (option_map string_bytes result ≡ option_map string_bytes line) }
+    line: Result<Option<String>, AllocError>,
+) -> Result<Option<String>, AllocError>
+    ensures { Follows (noted_of line) (NotesOf (map (λ t. t.now) types.now) task.now (lines_of texts.now) (given_of texts.now) end.now) (noted_of result) }
 {
-    match line {
-        Some(note) => Some(note),
+    match line? {
+        Some(note) => Ok(Some(note)),
         None => note_to(alloc, types, task, end, texts),
     }
 }

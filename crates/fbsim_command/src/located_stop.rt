@@ -1,14 +1,16 @@
 //! Where a run stops, which is reported after the run if that is asked for.
 
-ghost use Rattle.std.specs.Prelude.{◌≡◌, ◌^◌, ◌≤◌, ◌++◌, ℕ, codes, List, Option, map, IfNone, IfOk, IfSome, option_map, string_bytes};
+ghost use Rattle.std.specs.Prelude.{◌≡◌, ◌^◌, ◌≤◌, ◌++◌, ℕ, IsTrue, List, Option, map, IfNone, IfOk, IfSome, string_bytes};
 ghost use Rattle.fb_sim.specs.Reports.{Hears};
 ghost use Rattle.fb_stop.specs.Shown.{IsStopShown};
-ghost use Rattle.fbsim_command.specs.Stops.{AsksWhere, IsNoteAtStop, IsPositionPlace, IsStopPlace, IsUnshownStop, NotesRun, NotesStop, ReportsStop};
+ghost use Rattle.fbsim_command.specs.Notes.{noted_of};
+ghost use Rattle.fbsim_command.specs.Stops as spec;
+ghost use Rattle.fbsim_command.specs.Stops.{IsNoteAtStop, IsPositionPlace, IsStopPlace, IsUnshownStop, NotesRun, NotesStop, ReportsStop, SaysStop};
 ghost use Rattle.fbsim_command.specs.Texts.{given_of, lines_of};
 
 use crate::failure::Failure;
 use crate::lint::report_lines;
-use crate::opening::open_inputs;
+use crate::opening::open_accepted;
 use crate::own_lines::note_at;
 use crate::statuses::Done;
 use crate::texts::Texts;
@@ -107,7 +109,7 @@ fn note_in(
 ) -> Result<Option<String>, AllocError>
     requires early { horizon ≤ 10 ^ 12 }
     requires few { steps ≤ 10 ^ 7 }
-    ensures { IfOk result (λ o. NotesRun (map (λ t. t.now) types.now) own.now (lines_of texts.now) (given_of texts.now) system.now horizon steps (option_map string_bytes o)) }
+    ensures { IfOk (noted_of result) (NotesRun (map (λ t. t.now) types.now) own.now (lines_of texts.now) (given_of texts.now) system.now horizon steps) }
 {
     match find_stop(alloc, system, horizon, steps)? {
         Some(stop) => {
@@ -131,46 +133,71 @@ fn note_of_stop(
     texts: &Texts,
     horizon: u64,
     steps: u64,
-) -> Result<Option<String>, Failure>
-    ensures { IfOk result (λ o. NotesStop (map (λ t. t.now) types.now) own.now (lines_of texts.now) (given_of texts.now) horizon steps (option_map string_bytes o)) }
+) -> Result<Option<String>, AllocError>
+    ensures { IfOk (noted_of result) (NotesStop (map (λ t. t.now) types.now) own.now (lines_of texts.now) (given_of texts.now) horizon steps) }
 {
     if horizon > LATEST_TICK || steps > MOST_STEPS {
         return Ok(None);
     }
-    let system = open_inputs(alloc, &texts.inputs())?;
+    let Some(system) = open_accepted(alloc, &texts.inputs())? else {
+        return Ok(None);
+    };
     let note = note_in(alloc, types, own, texts, &system, horizon, steps);
     // Dropped by one call: the end of its scope would prove the drop part by part.
     discard(system);
-    Ok(note?)
+    note
+}
+
+/// Whether a run has stopped.
+fn has_stopped(end: &Result<Done, Failure>) -> bool
+    ensures { result ≡ spec.has_stopped end.now }
+{
+    match end {
+        Ok(Done::Stopped) => true,
+        _ => false,
+    }
+}
+
+/// The horizon and the steps of a run.
+fn run_of(action: Action) -> Option<(u64, u64)>
+    ensures { result ≡ spec.run_of action }
+{
+    match action {
+        Action::Run { horizon, steps, .. } => Some((horizon, steps)),
+        Action::Check { .. } => None,
+    }
 }
 
 /// The horizon and the steps of a run that stopped, if it is asked where.
 fn asked(task: &Task<'_>, end: &Result<Done, Failure>) -> Option<(u64, u64)>
-    ensures { IfSome result (λ r. AsksWhere task.now end.now r.0 r.1) }
+    ensures { result ≡ spec.asked_run task.now end.now }
 {
-    match end {
-        Ok(Done::Stopped) => {
-            if !task.why {
-                return None;
-            }
-            match task.action {
-                Action::Run { horizon, steps, .. } => Some((horizon, steps)),
-                Action::Check { .. } => None,
-            }
-        }
-        _ => None,
+    if task.why && has_stopped(end) {
+        run_of(task.action)
+    } else {
+        None
     }
 }
 
-/// The line of a note.
-fn line_of(alloc: Global, note: &String) -> Result<String, AllocError>
-    ensures { IfOk result (λ line. string_bytes line ≡ string_bytes note.now ++ codes "\n") }
+/// The line of the note of the stop of a run, if it stops below the horizon.
+fn stop_line(
+    alloc: Global,
+    types: &[&str],
+    own: &str,
+    texts: &Texts,
+    horizon: u64,
+    steps: u64,
+) -> Result<Option<String>, AllocError>
+    ensures { IfOk (noted_of result) (SaysStop (map (λ t. t.now) types.now) own.now (lines_of texts.now) (given_of texts.now) horizon steps) }
 {
-    Ok(format!(in alloc; "{note}\n")?)
+    match note_of_stop(alloc, types, own, texts, horizon, steps)? {
+        Some(note) => Ok(Some(format!(in alloc; "{note}\n")?)),
+        None => Ok(None),
+    }
 }
 
 /// Reports where a run stopped, if that is asked for, after other reports, of which standard error took all or not. It
-/// says whether it took all of them and this one.
+/// says whether it took all of them and this one, for which there may be no memory.
 pub(crate) fn report_stop_after<E: Write>(
     alloc: Global,
     types: &[&str],
@@ -180,7 +207,8 @@ pub(crate) fn report_stop_after<E: Write>(
     err: &mut E,
     is_heard: bool,
 ) -> bool
-    ensures { (report : List ℕ) × ReportsStop (map (λ t. t.now) types.now) task.now (lines_of texts.now) (given_of texts.now) end.now report
+    ensures all { IsTrue result → IsTrue is_heard }
+    ensures reported { (report : List ℕ) × ReportsStop (map (λ t. t.now) types.now) task.now (lines_of texts.now) (given_of texts.now) end.now result report
         × ((old : Option (List ℕ)) (first : List ℕ) → Hears is_heard old (E.contents err.old) first → Hears result old (E.contents err.new) (first ++ report)) }
 {
     if !is_heard {
@@ -189,11 +217,9 @@ pub(crate) fn report_stop_after<E: Write>(
     let Some((horizon, steps)) = asked(task, end) else {
         return true;
     };
-    let Ok(Some(note)) = note_of_stop(alloc, types, task.declaration, texts, horizon, steps) else {
-        return true;
-    };
-    match line_of(alloc, &note) {
-        Ok(line) => report_lines(err, line.as_bytes()),
-        Err(_) => true,
+    match stop_line(alloc, types, task.declaration, texts, horizon, steps) {
+        Ok(Some(line)) => report_lines(err, line.as_bytes()),
+        Ok(None) => true,
+        Err(_) => false,
     }
 }

@@ -1,11 +1,12 @@
 //! What is reported after the line of a failure: its place.
 
-ghost use Rattle.std.specs.Prelude.{◌≡◌, ◌⊎◌, ◌++◌, IfNone, IfOk, IfSome, Some, map, option_map, string_bytes};
-ghost use Rattle.fbsim_command.specs.Notes.{AreNotesOfAll, IsFileNote, IsMatter, IsNote, IsNoteOfName, IsNoteOfNumber, IsNoteOfOne, IsNoteOfShown, IsPlaceIn, Notes, file_word, input_names, name_of, named_note, number_of, on_line, IsUnreadable, NotesRest, rest_note};
+ghost use Rattle.std.specs.Prelude.{◌≡◌, ◌++◌, IfOk, MatchOption, Ok, map, option_map, string_bytes};
+ghost use Rattle.fbsim_command.specs.Notes.{AreNotesOfAll, Follows, IsMatter, IsNoteOfOne, IsPlaceIn, IsUnreadable, Notes, NotesInput, NotesNumber, NotesRest, NotesShown, SaysRefusal, SaysUnread, file_word, input_names, name_of, named_note, noted_of, number_of, on_line, rest_note};
 ghost use Rattle.std.specs.List.{AllZip};
 ghost use Rattle.fbsim_command.specs.InputNotes.{IsNoteThere, names_of, types_in};
 ghost use Rattle.fbsim_command.specs.OwnLines.{IsPlaced};
 ghost use Rattle.fbsim_command.specs.Texts.{given_of, lines_of};
+ghost use Rattle.fbsim_command.specs.declared.sources.SourceFault.TheVariants as source;
 
 use crate::failure::{Failure, RefusalLine};
 use crate::input_notes::{InputNames, RefusedInputs, note_there};
@@ -47,9 +48,9 @@ fn words_of_name(name: &str) -> &'static str
     }
 }
 
-/// What is the matter with a file of this name. There are no words where memory ran out.
+/// What is the matter with a file of this name. There are no words where the source ran out of memory.
 fn words_for(name: &str, fault: SourceFault) -> Option<&'static str>
-    ensures { IfSome result (λ words. IsMatter fault name.now words.now) }
+    ensures { MatchOption result (fault ≡ source.Memory) (λ words. IsMatter fault name.now words.now) }
 {
     match fault {
         SourceFault::File => Some(words_of_name(name)),
@@ -78,49 +79,74 @@ fn named(alloc: Global, word: &str, name: &str, matter: &str) -> Result<String, 
     Ok(format!(in alloc; "{word} {name}: {matter}")?)
 }
 
-/// The note to a file of this name, which is called so and is not read. Without memory there is none.
+/// The note to a file of this name, which is called so and is not read. There is none where the source ran out of
+/// memory.
 pub(crate) fn note_of_name(
     alloc: Global,
     word: &str,
     name: &str,
     fault: SourceFault,
-) -> Option<String>
-    ensures { IfSome result (λ note. IsNoteOfName word.now name.now fault (string_bytes note)) }
+) -> Result<Option<String>, AllocError>
+    ensures { IfOk (noted_of result) (SaysUnread word.now name.now fault) }
 {
-    let matter = words_for(name, fault)?;
-    named(alloc, word, name, matter).ok()
+    match words_for(name, fault) {
+        Some(matter) => Ok(Some(named(alloc, word, name, matter)?)),
+        None => Ok(None),
+    }
 }
 
-/// The note to a file of this name, which is called so and can't be read to its end. Without memory there is none.
-pub(crate) fn note_of_rest(alloc: Global, word: &str, name: &str) -> Option<String>
-    ensures { IfSome result (λ note. string_bytes note ≡ rest_note word.now name.now) }
+/// The note to a file of this name, which is called so and is not read, where one is asked for.
+pub(crate) fn note_where_asked(
+    alloc: Global,
+    why: bool,
+    word: &str,
+    name: &str,
+    fault: SourceFault,
+) -> Result<Option<String>, AllocError>
+    ensures { IfOk (noted_of result) (Notes why (SaysUnread word.now name.now fault)) }
 {
-    named(alloc, word, name, "this file can't be read to its end").ok()
+    if why {
+        note_of_name(alloc, word, name, fault)
+    } else {
+        Ok(None)
+    }
+}
+
+/// The note to a file of this name, which is called so and can't be read to its end.
+pub(crate) fn note_of_rest(alloc: Global, word: &str, name: &str) -> Result<String, AllocError>
+    ensures { IfOk result (λ note. string_bytes note ≡ rest_note word.now name.now) }
+{
+    named(alloc, word, name, "this file can't be read to its end")
 }
 
 /// The note to the end of a call that reads a trace of this name to its end: that of the file, if that can't be read,
-/// where one is asked for, or else this one.
+/// where one is asked for.
 pub(crate) fn note_of_trace_end(
     alloc: Global,
     why: bool,
     name: &str,
     end: &Result<Done, Failure>,
-    line: Option<String>,
-) -> Option<String>
-    ensures { (option_map string_bytes result ≡ option_map string_bytes line) ⊎ NotesRest why name.now end.now (option_map string_bytes result) }
+) -> Result<Option<String>, AllocError>
+    ensures { IfOk (noted_of result) (NotesRest why name.now end.now) }
 {
+    if !why {
+        return Ok(None);
+    }
     match end {
-        Err(Failure::File) if why => note_of_rest(alloc, "trace", name),
-        _ => line,
+        Err(Failure::File) => Ok(Some(note_of_rest(alloc, "trace", name)?)),
+        _ => Ok(None),
     }
 }
 
 /// One of two notes: the first, if there is one, or else the second.
-pub(crate) fn one_of(first: Option<String>, second: Option<String>) -> Option<String>
-    ensures { IfSome first (λ note. option_map string_bytes result ≡ Some (string_bytes note)) × IfNone first (option_map string_bytes result ≡ option_map string_bytes second) }
+pub(crate) fn one_of(
+    first: Result<Option<String>, AllocError>,
+    second: Result<Option<String>, AllocError>,
+) -> Result<Option<String>, AllocError>
+    ensures { Follows (noted_of first) (λ note. noted_of second ≡ Ok note) (noted_of result) }
 {
-    match first {
-        Some(note) => Some(note),
+    match first? {
+        Some(note) => Ok(Some(note)),
         None => second,
     }
 }
@@ -131,14 +157,16 @@ pub fn note_of_file(
     types: &[&str],
     task: &Task<'_>,
     unread: Unread,
-) -> Option<String>
-    ensures { Notes task.now.why (IsFileNote (map (λ t. t.now) types.now) task.now unread.part unread.fault) (option_map string_bytes result) }
+) -> Result<Option<String>, AllocError>
+    ensures { IfOk (noted_of result) (NotesInput (map (λ t. t.now) types.now) task.now unread.part unread.fault) }
 {
     if !task.why {
-        return None;
+        return Ok(None);
     }
-    let name = name_of(types, task, unread.part)?;
-    note_of_name(alloc, word_for(unread.part), name, unread.fault)
+    match name_of(types, task, unread.part) {
+        Some(name) => note_of_name(alloc, word_for(unread.part), name, unread.fault),
+        None => Ok(None),
+    }
 }
 
 /// The number of a refusal of the inputs.
@@ -172,28 +200,20 @@ fn note_at_place(
     refused: &RefusedInputs<'_>,
     at: Place,
     words: &str,
-) -> Option<String>
-    ensures { IfSome result (λ note. IsPlaced (types_in refused.now) refused.now.own.now (lines_of refused.now.texts.now) at.line at.column (string_bytes note)) }
+) -> Result<String, AllocError>
+    ensures { IfOk result (λ note. IsPlaced (types_in refused.now) refused.now.own.now (lines_of refused.now.texts.now) at.line at.column (string_bytes note)) }
 {
     let declaration = refused.texts.declaration.as_slice();
     let lines = refused.texts.lines.as_slice();
-    match matter_at(alloc, refused.number, words, declaration, at) {
-        Ok(matter) => {
-            let matter = matter.as_str();
-            note_at(alloc, refused.types, refused.own, lines, at, matter).ok()
-        }
-        Err(_) => None,
-    }
-}
-
-/// A text of its own, if there is memory for it.
-fn copied(text: &String) -> Option<String>
-    ensures { IfSome result (λ copy. string_bytes copy ≡ string_bytes text.now) }
-{
-    match text.clone() {
-        Ok(copy) => Some(copy),
-        Err(_) => None,
-    }
+    let matter = matter_at(alloc, refused.number, words, declaration, at)?;
+    note_at(
+        alloc,
+        refused.types,
+        refused.own,
+        lines,
+        at,
+        matter.as_str(),
+    )
 }
 
 /// The note for what was found elsewhere than in the declaration: at this place, if it has one.
@@ -202,11 +222,11 @@ fn note_elsewhere(
     refused: &RefusedInputs<'_>,
     found: &PlacedFinding,
     place: Option<InputPlace>,
-) -> Option<String>
+) -> Result<String, AllocError>
     requires { IsPlaceIn refused.now found.now place }
-    ensures { IfSome result (λ note. IsNoteThere (names_of refused.now.names) (given_of refused.now.texts.now) found.now.finding.location (string_bytes found.now.finding.text) (string_bytes note)) }
+    ensures { IfOk result (λ note. IsNoteThere (names_of refused.now.names) (given_of refused.now.texts.now) found.now.finding.location (string_bytes found.now.finding.text) (string_bytes note)) }
 {
-    let words = copied(&found.finding.text)?;
+    let words = found.finding.text.clone()?;
     note_there(alloc, refused, place, words)
 }
 
@@ -216,9 +236,9 @@ fn note_of_finding(
     refused: &RefusedInputs<'_>,
     found: &PlacedFinding,
     place: Option<InputPlace>,
-) -> Option<String>
+) -> Result<String, AllocError>
     requires { IsPlaceIn refused.now found.now place }
-    ensures { IfSome result (λ note. IsNoteOfOne refused.now found.now (string_bytes note)) }
+    ensures { IfOk result (λ note. IsNoteOfOne refused.now found.now (string_bytes note)) }
 {
     match found.place {
         Some(at) => note_at_place(alloc, refused, at, found.finding.text.as_str()),
@@ -236,14 +256,12 @@ fn push_note(text: &mut String, is_first: bool, note: &str) -> Result<(), AllocE
     text.push_str(note)
 }
 
-/// The text with a note more, if there is memory for it.
-fn with_note(mut text: String, is_first: bool, note: &str) -> Option<String>
-    ensures { IfSome result (λ all. string_bytes all ≡ string_bytes text ++ on_line is_first note.now) }
+/// The text with a note more.
+fn with_note(mut text: String, is_first: bool, note: &str) -> Result<String, AllocError>
+    ensures { IfOk result (λ all. string_bytes all ≡ string_bytes text ++ on_line is_first note.now) }
 {
-    match push_note(&mut text, is_first, note) {
-        Ok(()) => Some(text),
-        Err(_) => None,
-    }
+    push_note(&mut text, is_first, note)?;
+    Ok(text)
 }
 
 /// The notes of all that was found, each on a line of its own. The place at the index of a finding is that in another
@@ -253,27 +271,29 @@ fn notes_at(
     refused: &RefusedInputs<'_>,
     shown: &[PlacedFinding],
     places: &[Option<InputPlace>],
-) -> Option<String>
+) -> Result<String, AllocError>
     requires { AllZip (IsPlaceIn refused.now) shown.now places.now }
-    ensures { IfSome result (λ note. AreNotesOfAll refused.now shown.now (string_bytes note)) }
+    ensures { IfOk result (λ note. AreNotesOfAll refused.now shown.now (string_bytes note)) }
 {
     let mut text = String::new(alloc);
     for (index, found) in shown.iter().enumerate() {
         let note = note_of_finding(alloc, refused, found, places[index])?;
         text = with_note(text, index == 0, note.as_str())?;
     }
-    Some(text)
+    Ok(text)
 }
 
 /// The notes of all that was found, each on a line of its own.
-fn notes_of(alloc: Global, refused: &RefusedInputs<'_>, shown: &[PlacedFinding]) -> Option<String>
-    ensures { IfSome result (λ note. AreNotesOfAll refused.now shown.now (string_bytes note)) }
+fn notes_of(
+    alloc: Global,
+    refused: &RefusedInputs<'_>,
+    shown: &[PlacedFinding],
+) -> Result<String, AllocError>
+    ensures { IfOk result (λ note. AreNotesOfAll refused.now shown.now (string_bytes note)) }
 {
     let texts = refused.texts;
-    match places_in_inputs(alloc, texts.deployment(), texts.rows(), shown) {
-        Ok(places) => notes_at(alloc, refused, shown, places.as_slice()),
-        Err(_) => None,
-    }
+    let places = places_in_inputs(alloc, texts.deployment(), texts.rows(), shown)?;
+    notes_at(alloc, refused, shown, places.as_slice())
 }
 
 /// The notes of the findings, and whether there are more. If nothing was found, there is none.
@@ -281,22 +301,21 @@ fn note_of_findings(
     alloc: Global,
     refused: &RefusedInputs<'_>,
     findings: &Findings,
-) -> Option<String>
-    ensures { IfSome result (λ note. IsNoteOfShown refused.now findings.now (string_bytes note)) }
+) -> Result<Option<String>, AllocError>
+    ensures { IfOk (noted_of result) (NotesShown refused.now findings.now) }
 {
     let shown = findings.shown.as_slice();
     if shown.is_empty() {
-        return None;
+        return Ok(None);
     }
     let text = notes_of(alloc, refused, shown)?;
     if findings.more {
-        with_note(text, false, "and more")
-    } else {
-        Some(text)
+        return Ok(Some(with_note(text, false, "and more")?));
     }
+    Ok(Some(text))
 }
 
-/// The places at which the refusal of this number applies. Without memory for them there is none.
+/// The places at which the refusal of this number applies. There is none only if none is known.
 pub(crate) fn note_of_number(
     alloc: Global,
     types: &[&str],
@@ -304,8 +323,8 @@ pub(crate) fn note_of_number(
     names: &InputNames<'_>,
     number: u8,
     texts: &Texts,
-) -> Option<String>
-    ensures { IfSome result (λ note. IsNoteOfNumber (map (λ t. t.now) types.now) own.now (names_of names.now) (lines_of texts.now) (given_of texts.now) number (string_bytes note)) }
+) -> Result<Option<String>, AllocError>
+    ensures { IfOk (noted_of result) (NotesNumber (map (λ t. t.now) types.now) own.now (names_of names.now) (lines_of texts.now) (given_of texts.now) number) }
 {
     let refused = RefusedInputs {
         number,
@@ -315,14 +334,10 @@ pub(crate) fn note_of_number(
         texts,
     };
     let declaration = texts.declaration.as_slice();
-    match findings_of(alloc, number, declaration, texts.deployment(), texts.rows()) {
-        Ok(findings) => {
-            let note = note_of_findings(alloc, &refused, &findings);
-            discard_findings(findings);
-            note
-        }
-        Err(_) => None,
-    }
+    let findings = findings_of(alloc, number, declaration, texts.deployment(), texts.rows())?;
+    let note = note_of_findings(alloc, &refused, &findings);
+    discard_findings(findings);
+    note
 }
 
 /// The location of a failure, if it is known and asked for.
@@ -332,13 +347,15 @@ pub fn note_of(
     task: &Task<'_>,
     failure: &Failure,
     texts: &Texts,
-) -> Option<String>
-    ensures { Notes task.now.why (IsNote (map (λ t. t.now) types.now) task.now.declaration.now (input_names task.now) (lines_of texts.now) (given_of texts.now) failure.now) (option_map string_bytes result) }
+) -> Result<Option<String>, AllocError>
+    ensures { IfOk (noted_of result) (Notes task.now.why (SaysRefusal (map (λ t. t.now) types.now) task.now.declaration.now (input_names task.now) (lines_of texts.now) (given_of texts.now) failure.now)) }
 {
     if !task.why {
-        return None;
+        return Ok(None);
     }
-    let number = number_of(failure)?;
+    let Some(number) = number_of(failure) else {
+        return Ok(None);
+    };
     let names = InputNames {
         deploy: task.deploy,
         stimuli: task.stimuli,

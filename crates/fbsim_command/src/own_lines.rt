@@ -1,7 +1,7 @@
 //! Refusals of a declaration in several files: the name of the file and the line in it, in place of the line of the
 //! whole.
 
-ghost use Rattle.std.specs.Prelude.{◌≡◌, IfOk, IfSome, map, string_bytes};
+ghost use Rattle.std.specs.Prelude.{◌≡◌, IfOk, map, string_bytes};
 ghost use Rattle.fbsim_command.specs.OwnLines as spec;
 ghost use Rattle.fbsim_command.specs.OwnLines.{EndsIn, IsPlaced, IsPlacedText, IsSyntaxIn, IsSyntaxText};
 ghost use Rattle.fbsim_command.specs.Texts.{lines_of};
@@ -103,10 +103,10 @@ pub(crate) fn placed(
     line: usize,
     column: u128,
     matter: &str,
-) -> Option<String>
-    ensures { IfSome result (λ note. IsPlacedText name.now line column (string_bytes note)) }
+) -> Result<String, AllocError>
+    ensures { IfOk result (λ note. IsPlacedText name.now line column (string_bytes note)) }
 {
-    placed_text(alloc, name, line, column, matter).ok()
+    Ok(placed_text(alloc, name, line, column, matter)?)
 }
 
 /// The note for a place in the text of a declaration in files of these names, with these lines each. Without lines it is

@@ -1,15 +1,15 @@
 //! One call of the program, over any files and any outputs.
 
 ghost use Rattle.std.specs.Io.KnownBytes.{Appends};
-ghost use Rattle.std.specs.Prelude.{◌≡◌, ◌++◌, ℕ, List, [], Option, None, false, true, map, option_map, Result, IfOk, IfErr, IsTrue, OnOk, string_bytes};
+ghost use Rattle.std.specs.Prelude.{◌≡◌, ℕ, Bool, List, [], None, Ok, false, true, map, option_map, Result, IfOk, IfErr, IsTrue, OnOk, string_bytes};
 ghost use Rattle.fb_sim.specs.Reports.{Hears};
 ghost use Rattle.fb_sim.specs.declared.outcome.RunError.TheVariants as run;
-ghost use Rattle.fbsim_command.specs.Command.{Checks, Does, Explains, ExplainsRefusal, IsDoneOf, IsEndOf, Meets, Performs, Reports, ReportsOn, Runs};
+ghost use Rattle.fbsim_command.specs.Command.{Checks, Does, Explains, ExplainsRefusal, IsDoneOf, IsEndOf, IsReported, Meets, Performs, Reports, ReportsOn, Runs};
 ghost use Rattle.fbsim_line.specs.Line.{AreCall, AreNoCall, AskHelp, IsFault, IsHelp, IsTaken};
-ghost use Rattle.fbsim_command.specs.Notes.{NotesOf};
+ghost use Rattle.fbsim_command.specs.Notes.{Noted, NotesOf, noted_of};
 ghost use Rattle.fbsim_command.specs.WarningLines.{naming_of};
 ghost use Rattle.fbsim_command.specs.Texts.{given_of, lines_of};
-ghost use Rattle.fbsim_command.specs.Failures.{WritesPart, explained_text, status_of, reported, reported_of};
+ghost use Rattle.fbsim_command.specs.Failures.{WritesPart, explained_text, status_of, reported};
 ghost use Rattle.fbsim_command.specs.declared.failure.Failure.{Failure};
 ghost use Rattle.fbsim_command.specs.declared.statuses.Done.{Done};
 ghost use Rattle.fbsim_command.specs.declared.statuses.Done.TheVariants.{Helped};
@@ -115,25 +115,25 @@ fn run_and_report<R: Threads + Wait + Sync, W: Write, E: Write>(
 #[derive(Drop)]
 struct Answer {
     end: Result<Done, Failure>,
-    /// Whether standard error took all that was reported before the end.
+    /// Whether standard error took all that is to be reported before the end.
     is_heard: bool,
     /// What is reported after the line of the failure.
-    note: Option<String>,
+    note: Result<Option<String>, AllocError>,
 }
 
 /// The answer of what ended so, with nothing else to report.
 fn ended(end: Result<Done, Failure>) -> Answer
-    ensures { result ≡ record { end = end; is_heard = true; note = None } }
+    ensures { result ≡ record { end = end; is_heard = true; note = Ok None } }
 {
     Answer {
         end,
         is_heard: true,
-        note: None,
+        note: Ok(None),
     }
 }
 
 /// The answer of what ended so, with this note and nothing reported before.
-fn ended_with(ended: (Result<Done, Failure>, Option<String>)) -> Answer
+fn ended_with(ended: (Result<Done, Failure>, Result<Option<String>, AllocError>)) -> Answer
     ensures { result ≡ record { end = ended.0; is_heard = true; note = ended.1 } }
 {
     let (end, note) = ended;
@@ -204,11 +204,11 @@ pub(crate) fn note_to(
     task: &Task<'_>,
     end: &Result<Done, Failure>,
     texts: &Texts,
-) -> Option<String>
-    ensures { NotesOf (map (λ t. t.now) types.now) task.now (lines_of texts.now) (given_of texts.now) end.now (option_map string_bytes result) }
+) -> Result<Option<String>, AllocError>
+    ensures { IfOk (noted_of result) (NotesOf (map (λ t. t.now) types.now) task.now (lines_of texts.now) (given_of texts.now) end.now) }
 {
     match end {
-        Ok(_) => None,
+        Ok(_) => Ok(None),
         Err(failure) => note_of(alloc, types, task, failure, texts),
     }
 }
@@ -224,7 +224,7 @@ fn perform<R: Threads + Wait + Sync, C: Clock + CpuClock, S: Source, W: Write, E
     err: &mut E,
 ) -> Answer
     ensures { (reports : List ℕ) × Hears result.is_heard (E.contents err.old) (E.contents err.new) reports
-        × Performs S.gives source.old source.new (map (λ t. t.now) asked.now.types.now) asked.now.task.now asked.now.sorting.now (W.contents out.old) (W.contents out.new) result.end reports (option_map string_bytes result.note) }
+        × Performs S.gives source.old source.new (map (λ t. t.now) asked.now.types.now) asked.now.task.now asked.now.sorting.now (W.contents out.old) (W.contents out.new) result.end result.is_heard reports (noted_of result.note) }
 {
     let Asked { types, task, .. } = *asked;
     match read_files(alloc, types, task, source) {
@@ -318,7 +318,7 @@ fn answer_to<
     err: &mut E,
 ) -> Answer
     ensures { (words : List (List ℕ)) → AreCall words call.now → IsTaken words → (reports : List ℕ) × Hears result.is_heard (E.contents err.old) (E.contents err.new) reports
-        × Does S.gives S.opens source.old source.new words (W.contents out.old) (W.contents out.new) result.end reports (option_map string_bytes result.note) }
+        × Does S.gives S.opens source.old source.new words (W.contents out.old) (W.contents out.new) result.end result.is_heard reports (noted_of result.note) }
 {
     match call {
         Call::Task(task, types, levels) => match sorting_of(alloc, levels) {
@@ -371,7 +371,7 @@ fn obey<'w, R: Threads + Wait + Sync, C: Clock + CpuClock, S: Source + Streams, 
     err: &mut E,
 ) -> Answer
     ensures { (reports : List ℕ) × Hears result.is_heard (E.contents err.old) (E.contents err.new) reports
-        × Does S.gives S.opens source.old source.new (map (λ w. w.now) words.entry.now) (W.contents out.old) (W.contents out.new) result.end reports (option_map string_bytes result.note) }
+        × Does S.gives S.opens source.old source.new (map (λ w. w.now) words.entry.now) (W.contents out.old) (W.contents out.new) result.end result.is_heard reports (noted_of result.note) }
 {
     match parse(alloc, words) {
         Ok(call) => {
@@ -398,20 +398,25 @@ fn report<E: Write>(err: &mut E, failure: &Failure) -> io::Result<()>
 }
 
 /// Reports how a call ends, if it failed: the line of its failure, and then the note. It says whether standard error
-/// took it all.
-fn report_end<E: Write>(err: &mut E, end: &Result<Done, Failure>, note: &Option<String>) -> bool
-    ensures reported { IsTrue result → Appends (E.contents err.old) (E.contents err.new) (reported_of end.now (option_map string_bytes note.now)) }
+/// took it all, and memory was there for the note.
+fn report_end<E: Write>(
+    err: &mut E,
+    end: &Result<Done, Failure>,
+    note: &Result<Option<String>, AllocError>,
+) -> bool
+    ensures reported { IsTrue result → IsReported [] end.now (noted_of note.now) (E.contents err.old) (E.contents err.new) }
     ensures quiet { OnOk end.now (E.contents err.new ≡ E.contents err.old) }
 {
     let Err(failure) = end else {
-        return true;
+        return note.is_ok();
     };
     if report(err, failure).is_err() {
         return false;
     }
     match note {
-        Some(note) => writeln!(err, "{note}").is_ok(),
-        None => true,
+        Ok(Some(note)) => writeln!(err, "{note}").is_ok(),
+        Ok(None) => true,
+        Err(_) => false,
     }
 }
 
@@ -432,9 +437,9 @@ pub fn command_with_clock<
     out: &mut W,
     err: &mut E,
 ) -> ExitStatus
-    ensures { (end : Result Done Failure) × (reports : List ℕ) × (note : Option (List ℕ)) × (result.status ≡ status_of end)
-        × Does S.gives S.opens source.old source.new (map (λ w. w.now) words.entry.now) (W.contents out.old) (W.contents out.new) end reports note
-        × (IsTrue result.is_reported → Appends (E.contents err.old) (E.contents err.new) (reports ++ reported_of end note))
+    ensures { (end : Result Done Failure) × (is_whole : Bool) × (reports : List ℕ) × (note : Noted) × (result.status ≡ status_of end)
+        × Does S.gives S.opens source.old source.new (map (λ w. w.now) words.entry.now) (W.contents out.old) (W.contents out.new) end is_whole reports note
+        × (IsTrue result.is_reported → IsTrue is_whole × IsReported reports end note (E.contents err.old) (E.contents err.new))
         × OnOk end (reports ≡ [] → E.contents err.new ≡ E.contents err.old) }
 {
     let answer = obey(rt, clock, alloc, words, source, out, err);
@@ -456,9 +461,9 @@ pub fn command_exit<'w, R: Threads + Wait + Sync, S: Source + Streams, W: Write,
     out: &mut W,
     err: &mut E,
 ) -> ExitStatus
-    ensures { (end : Result Done Failure) × (reports : List ℕ) × (note : Option (List ℕ)) × (result.status ≡ status_of end)
-        × Does S.gives S.opens source.old source.new (map (λ w. w.now) words.entry.now) (W.contents out.old) (W.contents out.new) end reports note
-        × (IsTrue result.is_reported → Appends (E.contents err.old) (E.contents err.new) (reports ++ reported_of end note))
+    ensures { (end : Result Done Failure) × (is_whole : Bool) × (reports : List ℕ) × (note : Noted) × (result.status ≡ status_of end)
+        × Does S.gives S.opens source.old source.new (map (λ w. w.now) words.entry.now) (W.contents out.old) (W.contents out.new) end is_whole reports note
+        × (IsTrue result.is_reported → IsTrue is_whole × IsReported reports end note (E.contents err.old) (E.contents err.new))
         × OnOk end (reports ≡ [] → E.contents err.new ≡ E.contents err.old) }
 {
     command_with_clock(rt, &NoClock, alloc, words, source, out, err)
@@ -475,8 +480,8 @@ pub fn command<'w, R: Threads + Wait + Sync, S: Source + Streams, W: Write, E: W
     out: &mut W,
     err: &mut E,
 ) -> u8
-    ensures { (end : Result Done Failure) × (reports : List ℕ) × (note : Option (List ℕ)) × (result ≡ status_of end)
-        × Does S.gives S.opens source.old source.new (map (λ w. w.now) words.entry.now) (W.contents out.old) (W.contents out.new) end reports note
+    ensures { (end : Result Done Failure) × (is_whole : Bool) × (reports : List ℕ) × (note : Noted) × (result ≡ status_of end)
+        × Does S.gives S.opens source.old source.new (map (λ w. w.now) words.entry.now) (W.contents out.old) (W.contents out.new) end is_whole reports note
         × OnOk end (reports ≡ [] → E.contents err.new ≡ E.contents err.old) }
 {
     command_exit(rt, alloc, words, source, out, err).status

@@ -1,28 +1,26 @@
 //! What is reported after the line of a call that holds rules against traces and fails: its location.
 
-ghost use Rattle.std.specs.Prelude.{◌≡◌, ◌⊎◌, ℕ, IfOk, IfSome, Some, option_map, string_bytes};
+ghost use Rattle.std.specs.Prelude.{◌≡◌, IfOk, MatchOption, option_map, string_bytes, true};
 ghost use Rattle.fb_types.specs.Headline.{Inputs};
-ghost use Rattle.fb_expect.specs.declared.location.RuleKey.{RuleKey};
 ghost use Rattle.fb_sim.specs.Serial.{Declares};
-ghost use Rattle.fbsim_command.specs.Expecting.{IsNamesFileNote, IsNoteAt, IsLocationOf, IsPlacedNote, IsRulesFileNote, IsUnknownLocation, NotesRules, input_names_of, own_of, types_of};
-ghost use Rattle.fbsim_command.specs.Notes.{IsNoteOfNumber, Notes};
+ghost use Rattle.fbsim_command.specs.Expecting.{AreKnown, IsPlacedNote, NotesNamesFile, NotesRules, SaysLocation, SaysNumber, SaysUnknown, input_names_of, own_of, types_of};
+ghost use Rattle.fbsim_command.specs.Notes.{Follows, NotesNumber, noted_of};
 ghost use Rattle.fbsim_command.specs.Texts.{given_of, lines_of, may_lines_of};
-ghost use Rattle.fbsim_command.specs.OfSystem.{IsUnknownAt};
+ghost use Rattle.fbsim_command.specs.OfSystem.{IsUnknownAt, has_names};
 
 use crate::expect::own_name;
 use crate::failure::Failure;
 use crate::input_notes::InputNames;
 use crate::known::unknown_location;
-use crate::notes::{matter_at, note_of_file, note_of_name, note_of_number, number_of};
-use crate::opening::open_inputs;
+use crate::notes::{matter_at, note_of_file, note_of_number, number_of};
+use crate::opening::open_accepted;
 use crate::own_lines::placed;
-use crate::sources::SourceFault;
 use crate::statuses::Done;
 use crate::texts::{Texts, Unread, files_of};
 use crate::unknown_pattern::push_why_unknown;
 use fb_expect::{
-    Pattern, Rule, RuleKey, RulesLocation, UNKNOWN_NAME, key_text, pattern_keys, read_rules,
-    rules_location,
+    Pattern, Rule, RuleKey, RulesError, RulesLocation, UNKNOWN_NAME, key_text, pattern_keys,
+    read_rules, rules_location,
 };
 use fb_read_positions::{Text, place_between};
 use fb_sim::discard;
@@ -34,23 +32,13 @@ use std::alloc::{AllocError, Global};
 /// The first number of a refusal of rules. Those below are of declarations, deployments and stimuli.
 const FIRST_OF_RULES: u8 = 40;
 
-/// The note to the file of the rules, which is not read, where one is asked for.
-pub(crate) fn note_of_rules(
+/// The note to a file of the declaration, which is not read, where one is asked for.
+pub(crate) fn note_of_names(
     alloc: Global,
     expect: &Expect<'_>,
-    fault: SourceFault,
-) -> Option<String>
-    ensures { Notes expect.now.why (IsRulesFileNote expect.now fault) (option_map string_bytes result) }
-{
-    if !expect.why {
-        return None;
-    }
-    note_of_name(alloc, "rules", expect.rules, fault)
-}
-
-/// The note to a file of the declaration, which is not read, where one is asked for.
-pub(crate) fn note_of_names(alloc: Global, expect: &Expect<'_>, unread: Unread) -> Option<String>
-    ensures { Notes expect.now.why (IsNamesFileNote expect.now expect.now.declaration unread.part unread.fault) (option_map string_bytes result) }
+    unread: Unread,
+) -> Result<Option<String>, AllocError>
+    ensures { IfOk (noted_of result) (NotesNamesFile expect.now expect.now.declaration unread.part unread.fault) }
 {
     match expect.declaration {
         Some(declaration) => {
@@ -62,7 +50,7 @@ pub(crate) fn note_of_names(alloc: Global, expect: &Expect<'_>, unread: Unread) 
                 unread,
             )
         }
-        None => None,
+        None => Ok(None),
     }
 }
 
@@ -74,20 +62,18 @@ fn note_at_key(
     bytes: &[u8],
     at: (usize, RuleKey),
     words: &str,
-) -> Option<String>
-    ensures { IfSome result (λ note. IsPlacedNote expect.now.rules.now (string_bytes note)) }
+) -> Result<String, AllocError>
+    ensures { IfOk result (λ note. IsPlacedNote expect.now.rules.now (string_bytes note)) }
 {
     let (start, end) = rule_span(bytes, at.0, at.1);
-    let place = place_between(bytes, start, end)?;
-    match matter_at(alloc, number, words, bytes, place) {
-        Ok(matter) => placed(
-            alloc,
-            expect.rules,
-            place.line,
-            place.column as u128,
-            matter.as_str(),
-        ),
-        Err(_) => None,
+    match place_between(bytes, start, end) {
+        Some(place) => {
+            let matter = matter_at(alloc, number, words, bytes, place)?;
+            let column = place.column as u128;
+            placed(alloc, expect.rules, place.line, column, matter.as_str())
+        }
+        // Nothing of the rules is nearer.
+        None => placed(alloc, expect.rules, 1, 1, words),
     }
 }
 
@@ -98,30 +84,42 @@ fn note_of_pattern(
     number: u8,
     bytes: &[u8],
     at: (usize, RuleKey),
-) -> Option<String> {
-    match pattern_message(alloc, bytes, at.0, at.1) {
-        Ok(words) => note_at_key(alloc, expect, number, bytes, at, words.as_str()),
-        Err(_) => None,
+) -> Result<String, AllocError> {
+    let words = pattern_message(alloc, bytes, at.0, at.1)?;
+    note_at_key(alloc, expect, number, bytes, at, words.as_str())
+}
+
+/// What is wrong at this location of rules.
+fn note_of_fault(
+    alloc: Global,
+    expect: &Expect<'_>,
+    bytes: &[u8],
+    location: RulesLocation,
+) -> Result<String, AllocError> {
+    match location {
+        RulesLocation::Pattern { rule, key } => {
+            note_of_pattern(alloc, expect, location.number(), bytes, (rule, key))
+        }
+        _ => rules_message(alloc, bytes, location),
     }
 }
 
 /// Where rules are refused with this number.
-fn note_of_location(alloc: Global, expect: &Expect<'_>, number: u8, bytes: &[u8]) -> Option<String>
-    ensures { IfSome result (λ note. IsLocationOf bytes.now number) }
+fn note_of_location(
+    alloc: Global,
+    expect: &Expect<'_>,
+    number: u8,
+    bytes: &[u8],
+) -> Result<Option<String>, AllocError>
+    ensures { IfOk (noted_of result) (SaysLocation bytes.now number) }
 {
-    let Ok(Some(location)) = rules_location(alloc, bytes) else {
-        return None;
+    let Some(location) = rules_location(alloc, bytes)? else {
+        return Ok(None);
     };
     if location.number() != number {
-        return None;
+        return Ok(None);
     }
-    if let RulesLocation::Pattern { rule, key } = location {
-        return note_of_pattern(alloc, expect, number, bytes, (rule, key));
-    }
-    match rules_message(alloc, bytes, location) {
-        Ok(note) => Some(note),
-        Err(_) => None,
-    }
+    Ok(Some(note_of_fault(alloc, expect, bytes, location)?))
 }
 
 /// The pattern at a key of a rule.
@@ -141,14 +139,16 @@ fn unknown_of(
     expect: &Expect<'_>,
     texts: &Texts,
     rules: &[Rule],
-) -> Result<Option<(usize, RuleKey, String)>, Failure>
-    ensures { IfOk result (λ o. IfSome o (λ p. (i : Inputs) × Declares (given_of texts.now) i × IsUnknownAt i rules.now p.0 p.1)) }
+) -> Result<Option<(usize, RuleKey, String)>, AllocError>
+    ensures { IfOk result (λ o. MatchOption o (AreKnown (given_of texts.now) rules.now) (λ p. (i : Inputs) × Declares (given_of texts.now) i × IsUnknownAt i rules.now p.0 p.1)) }
 {
-    let system = open_inputs(alloc, &texts.inputs())?;
+    let Some(system) = open_accepted(alloc, &texts.inputs())? else {
+        return Ok(None);
+    };
     let found = why_unknown(alloc, &system, rules, expect.deploy.is_some());
     // Dropped by one call: the end of its scope would prove the drop part by part.
     discard(system);
-    Ok(found?)
+    found
 }
 
 /// The same of a system.
@@ -158,7 +158,7 @@ fn why_unknown(
     rules: &[Rule],
     has_deployment: bool,
 ) -> Result<Option<(usize, RuleKey, String)>, AllocError>
-    ensures { IfOk result (λ o. IfSome o (λ p. IsUnknownAt system.now rules.now p.0 p.1)) }
+    ensures { IfOk result (λ o. MatchOption o (has_names system.now rules.now ≡ true) (λ p. IsUnknownAt system.now rules.now p.0 p.1)) }
 {
     let Some((rule, key)) = unknown_location(alloc, system, rules)? else {
         return Ok(None);
@@ -176,48 +176,58 @@ fn why_unknown(
     Ok(Some((rule, key, text.into_string()?)))
 }
 
+/// The note to a key of this rule, whose pattern is unknown for this reason.
+fn note_of_key(
+    alloc: Global,
+    expect: &Expect<'_>,
+    bytes: &[u8],
+    rule: &Rule,
+    at: (usize, RuleKey),
+    why: &str,
+) -> Result<String, AllocError> {
+    let pattern = pattern_at(rule, at.1).text.as_slice();
+    let name = rule.name.as_slice();
+    let words = unknown_key_message(alloc, at.0, name, at.1, pattern, why)?;
+    note_at_key(alloc, expect, UNKNOWN_NAME, bytes, at, words.as_str())
+}
+
 /// Which pattern of the rules is unknown to what is declared.
 fn note_of_unknown(
     alloc: Global,
     expect: &Expect<'_>,
     bytes: &[u8],
     texts: &Texts,
-) -> Option<String>
-    ensures { IfSome result (λ note. (rule : ℕ) × (key : RuleKey) × IsUnknownLocation bytes.now (Some (given_of texts.now)) rule key) }
+) -> Result<Option<String>, AllocError>
+    ensures { IfOk (noted_of result) (SaysUnknown bytes.now (given_of texts.now)) }
 {
-    let Ok(rules) = read_rules(alloc, bytes) else {
-        return None;
-    };
-    let Ok(Some((rule, key, why))) = unknown_of(alloc, expect, texts, rules.as_slice()) else {
-        return None;
-    };
-    let found = rules.as_slice().get(rule)?;
-    let pattern = pattern_at(found, key).text.as_slice();
-    match unknown_key_message(
-        alloc,
-        rule,
-        found.name.as_slice(),
-        key,
-        pattern,
-        why.as_str(),
-    ) {
-        Ok(words) => {
-            note_at_key(
-                alloc,
-                expect,
-                UNKNOWN_NAME,
-                bytes,
-                (rule, key),
-                words.as_str(),
-            )
+    let rules = match read_rules(alloc, bytes) {
+        Ok(rules) => rules,
+        Err(error) => {
+            return match error {
+                RulesError::Memory => Err(AllocError),
+                _ => Ok(None),
+            };
         }
-        Err(_) => None,
+    };
+    let rules = rules.as_slice();
+    match unknown_of(alloc, expect, texts, rules)? {
+        Some((rule, key, why)) => {
+            let at = (rule, key);
+            let note = note_of_key(alloc, expect, bytes, &rules[rule], at, why.as_str())?;
+            Ok(Some(note))
+        }
+        None => Ok(None),
     }
 }
 
 /// Where the declaration of a call is refused with this number.
-fn note_of_plan(alloc: Global, expect: &Expect<'_>, number: u8, texts: &Texts) -> Option<String>
-    ensures { IfSome result (λ note. IsNoteOfNumber (types_of expect.now) (own_of expect.now.declaration) (input_names_of expect.now) (lines_of texts.now) (given_of texts.now) number (string_bytes note)) }
+fn note_of_plan(
+    alloc: Global,
+    expect: &Expect<'_>,
+    number: u8,
+    texts: &Texts,
+) -> Result<Option<String>, AllocError>
+    ensures { IfOk (noted_of result) (NotesNumber (types_of expect.now) (own_of expect.now.declaration) (input_names_of expect.now) (lines_of texts.now) (given_of texts.now) number) }
 {
     let own = own_name(expect.declaration);
     let names = InputNames {
@@ -234,16 +244,17 @@ fn note_at(
     number: u8,
     bytes: &[u8],
     declared: &Option<Texts>,
-) -> Option<String>
-    ensures { IfSome result (λ note. IsNoteAt expect.now bytes.now (may_lines_of declared.now) (option_map given_of declared.now) number (string_bytes note)) }
+) -> Result<Option<String>, AllocError>
+    ensures { IfOk (noted_of result) (SaysNumber expect.now bytes.now (may_lines_of declared.now) (option_map given_of declared.now) number) }
 {
-    if let Some(texts) = declared {
-        if number == UNKNOWN_NAME {
-            return note_of_unknown(alloc, expect, bytes, texts);
-        }
-        if number < FIRST_OF_RULES {
-            return note_of_plan(alloc, expect, number, texts);
-        }
+    let Some(texts) = declared else {
+        return note_of_location(alloc, expect, number, bytes);
+    };
+    if number == UNKNOWN_NAME {
+        return note_of_unknown(alloc, expect, bytes, texts);
+    }
+    if number < FIRST_OF_RULES {
+        return note_of_plan(alloc, expect, number, texts);
     }
     note_of_location(alloc, expect, number, bytes)
 }
@@ -255,17 +266,18 @@ fn note_to_rules(
     end: &Result<Done, Failure>,
     bytes: &[u8],
     declared: &Option<Texts>,
-) -> Option<String>
-    ensures { NotesRules expect.now bytes.now (may_lines_of declared.now) (option_map given_of declared.now) end.now (option_map string_bytes result) }
+) -> Result<Option<String>, AllocError>
+    ensures { IfOk (noted_of result) (NotesRules expect.now bytes.now (may_lines_of declared.now) (option_map given_of declared.now) end.now) }
 {
     let Err(failure) = end else {
-        return None;
+        return Ok(None);
     };
-    let number = number_of(failure)?;
-    if expect.why {
-        note_at(alloc, expect, number, bytes, declared)
-    } else {
-        None
+    if !expect.why {
+        return Ok(None);
+    }
+    match number_of(failure) {
+        Some(number) => note_at(alloc, expect, number, bytes, declared),
+        None => Ok(None),
     }
 }
 
@@ -277,12 +289,12 @@ pub(crate) fn note_to_held(
     end: &Result<Done, Failure>,
     bytes: &[u8],
     declared: &Option<Texts>,
-    trace: Option<String>,
-) -> Option<String>
-    ensures { NotesRules expect.now bytes.now (may_lines_of declared.now) (option_map given_of declared.now) end.now (option_map string_bytes result) ⊎ (option_map string_bytes result ≡ option_map string_bytes trace) }
+    trace: Result<Option<String>, AllocError>,
+) -> Result<Option<String>, AllocError>
+    ensures { Follows (noted_of trace) (NotesRules expect.now bytes.now (may_lines_of declared.now) (option_map given_of declared.now) end.now) (noted_of result) }
 {
-    match trace {
-        Some(note) => Some(note),
+    match trace? {
+        Some(note) => Ok(Some(note)),
         None => note_to_rules(alloc, expect, end, bytes, declared),
     }
 }

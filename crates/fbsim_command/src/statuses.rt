@@ -35,7 +35,7 @@ pub enum Done {
 pub struct ExitStatus {
     /// The status of the program.
     pub status: u8,
-    /// Whether standard error took all that was reported.
+    /// Whether all that is to be reported was: standard error took it, and memory was there for it.
     pub is_reported: bool,
 }
 

@@ -1,15 +1,15 @@
 //! The waveforms of a trace.
 
-ghost use Rattle.std.specs.Prelude.{map, option_map, string_bytes};
-ghost use Rattle.fbsim_command.specs.Notes.{Notes};
-ghost use Rattle.fbsim_command.specs.Showing.{DumpsAs, IsTraceFileNote, NotesAs, Shows, cut_of};
+ghost use Rattle.std.specs.Prelude.{IfOk, map};
+ghost use Rattle.fbsim_command.specs.Notes.{noted_of};
+ghost use Rattle.fbsim_command.specs.Showing.{DumpsAs, NotesAs, Shows, cut_of};
 
 use crate::failure::{Failure, failure_of_wave};
 use crate::line_notes::{note_of_trace_line, note_of_wave};
-use crate::notes::{note_of_file, note_of_name, note_of_trace_end};
+use crate::notes::{note_of_file, note_of_trace_end, note_where_asked, one_of};
 use crate::opening::open_inputs;
 use crate::own_lines::end_with;
-use crate::sources::{Source, SourceFault, Streams};
+use crate::sources::{Source, Streams};
 use crate::state_dump::dump_states;
 use crate::statuses::Done;
 use crate::texts::{cut_of, files_of, read_files};
@@ -17,7 +17,7 @@ use fb_inspect::Terms;
 use fb_sim::{Inputs, discard};
 use fb_wave::{CurrentLine, write_wave_with};
 use fbsim_line::Wave;
-use std::alloc::Global;
+use std::alloc::{AllocError, Global};
 use std::io::{BufRead, Write};
 
 /// Reads a trace of what is declared, and writes its waveforms, with the inside of basic blocks where that is asked for.
@@ -28,9 +28,9 @@ fn dump<R: BufRead, W: Write>(
     inputs: &Inputs<'_>,
     trace: &mut R,
     out: &mut W,
-) -> (Result<Done, Failure>, Option<String>)
+) -> (Result<Done, Failure>, Result<Option<String>, AllocError>)
     ensures dumped { DumpsAs wave.now.has_states wave.now.steps (cut_of wave.now) inputs.now (R.remaining trace.old) (W.contents out.old) (W.contents out.new) result.0 }
-    ensures noted { NotesAs wave.now.has_states wave.now.why inputs.now (R.remaining trace.old) result.0 (option_map string_bytes result.1) }
+    ensures noted { IfOk (noted_of result.1) (NotesAs wave.now.has_states wave.now.why wave.now.steps inputs.now (R.remaining trace.old) result.0) }
 {
     let cut = cut_of(wave.is_cut);
     if wave.has_states {
@@ -42,7 +42,7 @@ fn dump<R: BufRead, W: Write>(
     }
     let system = match open_inputs(alloc, inputs) {
         Ok(system) => system,
-        Err(failure) => return (Err(failure), None),
+        Err(failure) => return (Err(failure), Ok(None)),
     };
     let mut current = CurrentLine::new(alloc);
     let written = write_wave_with(alloc, &system, cut, &mut current, trace, out);
@@ -55,16 +55,6 @@ fn dump<R: BufRead, W: Write>(
     }
 }
 
-/// The note to the file of the trace, which is not opened, where one is asked for.
-fn note_of_trace(alloc: Global, wave: &Wave<'_>, fault: SourceFault) -> Option<String>
-    ensures { Notes wave.now.why (IsTraceFileNote wave.now fault) (option_map string_bytes result) }
-{
-    if !wave.why {
-        return None;
-    }
-    note_of_name(alloc, "trace", wave.trace, fault)
-}
-
 /// Reads what a trace is of, and the trace, and writes its waveforms. It says how that ends, and what is reported after
 /// the line of a failure.
 pub fn show<S: Source + Streams, W: Write>(
@@ -73,8 +63,8 @@ pub fn show<S: Source + Streams, W: Write>(
     wave: &Wave<'_>,
     source: &mut S,
     out: &mut W,
-) -> (Result<Done, Failure>, Option<String>)
-    ensures { Shows S.gives S.opens source.old source.new (map (λ t. t.now) types.now) wave.now (W.contents out.old) (W.contents out.new) result.0 (option_map string_bytes result.1) }
+) -> (Result<Done, Failure>, Result<Option<String>, AllocError>)
+    ensures { Shows S.gives S.opens source.old source.new (map (λ t. t.now) types.now) wave.now (W.contents out.old) (W.contents out.new) result.0 (noted_of result.1) }
 {
     let task = files_of(wave.declaration, wave.deploy, wave.why);
     let texts = match read_files(alloc, types, &task, source) {
@@ -87,13 +77,13 @@ pub fn show<S: Source + Streams, W: Write>(
     let mut trace = match source.open(alloc, wave.trace) {
         Ok(trace) => trace,
         Err(fault) => {
-            let note = note_of_trace(alloc, wave, fault);
+            let note = note_where_asked(alloc, wave.why, "trace", wave.trace, fault);
             return (Err(Failure::from(fault)), note);
         }
     };
     let (end, line) = dump(alloc, wave, &texts.inputs(), &mut trace, out);
-    let line = note_of_trace_end(alloc, wave.why, wave.trace, &end, line);
-    let note = note_of_wave(alloc, types, &task, &end, &texts, line);
+    let rest = note_of_trace_end(alloc, wave.why, wave.trace, &end);
+    let note = note_of_wave(alloc, types, &task, &end, &texts, one_of(rest, line));
     let end = end_with(alloc, types, wave.declaration, &texts, end);
     (end, note)
 }

@@ -12,7 +12,7 @@ pub use Rattle.fb_wave.specs.declared.truncation.Cut.{Cut}
 pub use Rattle.fbsim_command.specs.Expecting.{AreUnheld, Holds, IsUnheld, types_of}
 pub use Rattle.fbsim_command.specs.Failures.{WritesPart, failure_of, failure_of_source, numbered_input}
 pub use Rattle.fbsim_command.specs.InputNotes.{names_of}
-pub use Rattle.fbsim_command.specs.Notes.{Notes, NotesOf}
+pub use Rattle.fbsim_command.specs.Notes.{IsFirstOf, Noted, Notes, NotesInput, NotesOf, SaysUnread, noted_of}
 pub use Rattle.fbsim_command.specs.Outcomes.{End, Held}
 pub use Rattle.fbsim_command.specs.OwnLines.{EndsIn}
 pub use Rattle.fbsim_command.specs.Reading.{AreRead, IsUnread, Reading}

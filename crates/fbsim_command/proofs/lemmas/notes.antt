@@ -1,3 +1,4 @@
 pub mod NotedLines
 pub mod Noting
 pub mod Located
+pub mod FailingFiles

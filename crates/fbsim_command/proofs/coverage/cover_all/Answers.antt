@@ -3,6 +3,8 @@ use Rattle.clap.specs.Words.{Text}
 use Rattle.fbsim_command.specs.Covering.{AreStopped}
 use Rattle.fbsim_command.proofs.lemmas.calls.CoverageCalls.{cut-rises, gone-all, gone-more-of, stops-at-of}
 use Rattle.fbsim_command.proofs.lemmas.rules.HeldRules.{passed-on}
+use Rattle.fbsim_command.specs.Notes.{noted_of}
+use Rattle.fbsim_command.proofs.lemmas.notes.FailingFiles.{failing-on, memory-failing}
 use Rattle.fbsim_command.proofs.coverage.cover_all.Goals as goal
 
 pub returns-in_err-of-clause-stopped : goal.returns-in_err-of-clause-stopped
@@ -38,3 +40,9 @@ returns-in_err-gleaned-clause-noted g c = λ noted. c.cover_one.ensures.noted (c
 
 pub returns-clause-noted : goal.returns-clause-noted
 returns-clause-noted g c = c.loop-name.invariant.1
+
+pub returns-in_err-of-clause-failing : goal.returns-in_err-of-clause-failing
+returns-in_err-of-clause-failing g c = failing-on c.args.coverage.now.why (noted_of c.args.note.now) c.from_residual.result _ c.from_residual.ensures.1 (memory-failing c.args.coverage.now.why (noted_of c.args.note.now))
+
+pub returns-in_err-gleaned-clause-failing : goal.returns-in_err-gleaned-clause-failing
+returns-in_err-gleaned-clause-failing g c = failing-on c.args.coverage.now.why (noted_of c.cover_one.new.note) c.from_residual-in_err-gleaned.result _ c.from_residual-in_err-gleaned.ensures.1 c.in_err-gleaned.ensures.failing

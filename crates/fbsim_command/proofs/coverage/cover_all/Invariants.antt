@@ -1,5 +1,6 @@
-use Rattle.std.proofs.Common.{◌≤◌, map, option_map, string_bytes, take}
+use Rattle.std.proofs.Common.{◌≤◌, IfOk, map, take}
 use Rattle.fbsim_command.specs.Covering.{GoThrough, NotesTrace}
+use Rattle.fbsim_command.specs.Notes.{noted_of}
 use Rattle.fbsim_command.proofs.lemmas.calls.CoverageCalls.{now}
 use Rattle.fbsim_command.proofs.coverage.cover_all.Given as goal
 
@@ -7,5 +8,5 @@ use Rattle.fbsim_command.proofs.coverage.cover_all.Given as goal
 abbrev pub invariant-loop-name : goal.invariant-loop-name
 invariant-loop-name g l =
     GoThrough g.S.Streams.opens l.system l.coverage (map now (take l.name-index l.coverage.traces.items)) l.fn.source l.source l.initial.gleaned l.gleaned
-    × (NotesTrace l.coverage (option_map string_bytes l.fn.note) → NotesTrace l.coverage (option_map string_bytes l.note))
+    × (IfOk (noted_of l.fn.note) (NotesTrace l.coverage) → IfOk (noted_of l.note) (NotesTrace l.coverage))
     × (l.gleaned.cut ≤ l.name-index)

@@ -1,9 +1,13 @@
-use Rattle.fbsim_command.proofs.lemmas.Common.{◌∙◌, Bool, Err, ap, string_bytes, subst, sym, system_of, IsWrongIn, Failure}
+use Rattle.fbsim_command.proofs.lemmas.Common.{◌∙◌, Bool, Err, ap, subst, sym, system_of, IsWrongIn, Failure}
 use Rattle.fb_inspect.specs.declared.error.InspectError.{InspectError}
 use Rattle.fb_wave.specs.Named.{HasNames}
 use Rattle.fbsim_command.specs.Covering.{IsStopped, IsTraceFailure, are_several, cut_of}
+use Rattle.fbsim_command.specs.Notes.{noted_of}
 use Rattle.fbsim_command.proofs.lemmas.calls.CoverageCalls.{failed-at, goes-through, open-noted, unopened}
 use Rattle.fbsim_command.proofs.lemmas.calls.Inspecting.{never_names, never_unknown, wrong-covered}
+use Rattle.std.proofs.Common.{Bool, codes, subst}
+use Rattle.fbsim_command.specs.Covering.{IsTraceFailure}
+use Rattle.fbsim_command.proofs.lemmas.notes.FailingFiles.{open-failing}
 use Rattle.fbsim_command.proofs.coverage.cover_one.Goals as goal
 
 pub returns-in-Err-clause-stopped : goal.returns-in-Err-clause-stopped
@@ -12,7 +16,7 @@ returns-in-Err-clause-stopped g c =
     (unopened g.S.Streams.opens (IsWrongIn (cut_of c.args.coverage.now) c.args.system.now c.args.coverage.now.steps) (are_several c.args.coverage.now) c.args.source.now c.open.new.self c.args.name.now c.in-Err.fault c.in-Err.ensures)
 
 pub returns-in-Err-clause-noted : goal.returns-in-Err-clause-noted
-returns-in-Err-clause-noted g c = λ before. open-noted string_bytes c.args.coverage.now c.args.name.now c.in-Err.fault c.note_of_open.result c.note_of_open.ensures
+returns-in-Err-clause-noted g c = λ before. open-noted c.args.coverage.now c.args.name.now c.in-Err.fault (noted_of c.note_where_asked.result) c.note_where_asked.ensures
 
 pub returns-in-Ok-cover-clause-covered : goal.returns-in-Ok-cover-clause-covered
 returns-in-Ok-cover-clause-covered g c =
@@ -34,4 +38,13 @@ returns-clause-stopped g c =
     (subst (λ (b : Bool). IsTraceFailure b c.args.name.now c.in-Err-cover.error c.failure_of_trace.result) c.are_several.ensures c.failure_of_trace.ensures)
 
 pub returns-clause-noted : goal.returns-clause-noted
-returns-clause-noted g c = λ before. c.note_of_fault.ensures
+returns-clause-noted g c = λ before. c.note_of_fault.ensures.noted
+
+pub returns-in-Err-clause-failing : goal.returns-in-Err-clause-failing
+returns-in-Err-clause-failing g c =
+    open-failing c.args.coverage.now.why (codes "trace") c.args.name.now c.in-Err.fault c.from.result (noted_of c.note_where_asked.result) c.from.ensures c.note_where_asked.ensures
+
+pub returns-clause-failing : goal.returns-clause-failing
+returns-clause-failing g c =
+    c.note_of_fault.ensures.failing c.failure_of_trace.result
+    (subst (λ (b : Bool). IsTraceFailure b c.args.name.now c.in-Err-cover.error c.failure_of_trace.result) c.are_several.ensures c.failure_of_trace.ensures)

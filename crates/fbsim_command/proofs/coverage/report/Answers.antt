@@ -2,6 +2,8 @@ use Rattle.fbsim_command.proofs.lemmas.Common.{◌∙◌, Memory}
 use Rattle.fbsim_command.specs.Covering.{AreStopped}
 use Rattle.fbsim_command.proofs.lemmas.calls.CoverageCalls.{report_is}
 use Rattle.fbsim_command.proofs.lemmas.rules.HeldRules.{passed-on}
+use Rattle.fbsim_command.specs.Notes.{noted_of}
+use Rattle.fbsim_command.proofs.lemmas.notes.FailingFiles.{failing-on, memory-failing}
 use Rattle.fbsim_command.proofs.coverage.report.Goals as goal
 
 pub returns-in_err-gleaned-clause-stopped : goal.returns-in_err-gleaned-clause-stopped
@@ -27,3 +29,12 @@ returns-clause-report g c = (
       (c.len.ensures ∙ c.args.coverage.now.traces.ok.0),
   c.is_too_little-below.ensures,
 )
+
+pub returns-in_err-gleaned-clause-failing : goal.returns-in_err-gleaned-clause-failing
+returns-in_err-gleaned-clause-failing g c = failing-on c.args.coverage.now.why (noted_of c.cover_all.new.note) c.from_residual.result _ c.from_residual.ensures.1 c.in_err-gleaned.ensures.failing
+
+pub returns-in_err-text-clause-failing : goal.returns-in_err-text-clause-failing
+returns-in_err-text-clause-failing g c = failing-on c.args.coverage.now.why (noted_of c.cover_all.new.note) c.from_residual-in_err-text.result _ c.from_residual-in_err-text.ensures.1 (memory-failing c.args.coverage.now.why (noted_of c.cover_all.new.note))
+
+pub returns-in_err-put_cut-clause-failing : goal.returns-in_err-put_cut-clause-failing
+returns-in_err-put_cut-clause-failing g c = failing-on c.args.coverage.now.why (noted_of c.cover_all.new.note) c.from_residual-in_err-put_cut.result _ c.from_residual-in_err-put_cut.ensures.1 (memory-failing c.args.coverage.now.why (noted_of c.cover_all.new.note))

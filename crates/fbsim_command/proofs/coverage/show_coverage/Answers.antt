@@ -1,7 +1,8 @@
-use Rattle.fbsim_command.proofs.lemmas.Common.{◌≡◌, ◌⊎◌, map, option_map, refl, string_bytes, subst, inl, inr, Given, Notes, NotesOf, Task, AreRead, IsUnread, given_of, lines_of}
-use Rattle.fbsim_command.specs.Covering.{WritesReport}
-use Rattle.fbsim_command.specs.Notes.{IsFileNote}
-use Rattle.fbsim_command.proofs.lemmas.calls.CoverageCalls.{noted-trace, reported-failure}
+use Rattle.fbsim_command.proofs.lemmas.Common.{IfOk, IsFirstOf, NotesInput, NotesOf, map, noted_of, refl, subst, inl, inr, Given, Task, AreRead, IsUnread, given_of, lines_of}
+use Rattle.fbsim_command.specs.Covering.{NotesTraces, WritesReport}
+use Rattle.fbsim_command.proofs.lemmas.calls.CoverageCalls.{reported-failure}
+use Rattle.fbsim_command.proofs.lemmas.notes.FailingFiles.{traces-covered}
+use Rattle.fbsim_command.proofs.lemmas.notes.Noting.{first-then}
 use Rattle.fbsim_command.proofs.coverage.show_coverage.Goals as goal
 
 pub returns-in-Err : goal.returns-in-Err
@@ -12,9 +13,7 @@ returns-in-Err g c =
       fault = c.in-Err.unread.fault;
       unread = subst (λ (k : Task). IsUnread g.S.Source.gives names k c.args.source.now c.read_files.new.source c.in-Err.unread.part c.in-Err.unread.fault) c.files_of-task.ensures c.in-Err.ensures.unread;
       failed = reported-failure _ _ c.from.ensures;
-      noted =
-          subst (λ (k : Task). Notes k.why (IsFileNote names k c.in-Err.unread.part c.in-Err.unread.fault) (option_map string_bytes c.note_of_file-note.result)) c.files_of-task.ensures
-          c.note_of_file-note.ensures;
+      noted = subst (λ (k : Task). IfOk (noted_of c.note_of_file-note.result) (NotesInput names k c.in-Err.unread.part c.in-Err.unread.fault)) c.files_of-task.ensures c.note_of_file-note.ensures;
       same = refl;
     })
 
@@ -23,7 +22,10 @@ returns g c =
     let names = map (λ t. t.now) c.args.types.now in
     let first = c.read_files.new.source in
     let last = c.write_report-end.new.source in
-    let line = option_map string_bytes c.write_report-end.new.note in
+    let line = noted_of c.write_report-end.new.note in
+    let note = noted_of c.note_of_wave-note.result in
+    let of_trace = NotesTraces c.args.coverage.now c.write_report-end.result in
+    let of_check = λ (k : Task). NotesOf names k (lines_of c.in-Ok.texts) (given_of c.in-Ok.texts) c.write_report-end.result in
     inl (record {
       lines = lines_of c.in-Ok.texts;
       given = given_of c.in-Ok.texts;
@@ -33,9 +35,8 @@ returns g c =
       done =
           subst (λ (i : Given). WritesReport g.S.Streams.opens i c.args.coverage.now first last (g.W.Write.contents c.args.out.now) (g.W.Write.contents c.write_report-end.new.out) c.write_report-end.result)
           c.inputs.ensures c.write_report-end.ensures.written;
-      noted = noted-trace names c.args.coverage.now (lines_of c.in-Ok.texts) (given_of c.in-Ok.texts) c.write_report-end.result (option_map string_bytes c.note_of_wave-note.result) line
-          (c.write_report-end.ensures.noted tt)
-          (subst (λ (k : Task). NotesOf names k (lines_of c.in-Ok.texts) (given_of c.in-Ok.texts) c.write_report-end.result (option_map string_bytes c.note_of_wave-note.result)
-          ⊎ (option_map string_bytes c.note_of_wave-note.result ≡ line)) c.files_of-task.ensures c.note_of_wave-note.ensures);
+      noted =
+          subst (λ (k : Task). IfOk note (IsFirstOf of_trace (of_check k))) c.files_of-task.ensures
+          (first-then of_trace (of_check c.files_of-task.result) line note (traces-covered c.args.coverage.now c.write_report-end.result line (c.write_report-end.ensures.noted tt) c.write_report-end.ensures.failing) c.note_of_wave-note.ensures);
       ends = c.end_with-end.ensures;
     })

@@ -1,17 +1,19 @@
-use Rattle.fbsim_command.proofs.lemmas.Common.{Option, option_map, string_bytes, subst, sym}
+use Rattle.fbsim_command.proofs.lemmas.Common.{Some, None, ap, refl, string_bytes, subst, sym}
 use Rattle.fb_expect.specs.declared.parting.PartFault.{PartFault}
-use Rattle.fbsim_command.specs.Comparing.{NotesUnread}
-use Rattle.fbsim_command.proofs.lemmas.calls.DifferenceCalls.{noted_first, noted_second}
+use Rattle.fbsim_command.specs.Comparing.{NotesUnread, SaysPart}
+use Rattle.fbsim_command.proofs.lemmas.notes.Noting.{unasked}
 use Rattle.fbsim_command.proofs.expect.note_of_part.Goals as goal
 
-pub returns-in-First : goal.returns-in-First
-returns-in-First c =
-    let d = c.args.diff.now in
-    let note = c.note_of_rest.result in
-    subst (λ (f : PartFault). NotesUnread d f (option_map string_bytes note)) (sym c.in-First.is) (noted_first string_bytes d note c.if-not-diff.false c.note_of_rest.ensures)
+pub returns-then-not-diff : goal.returns-then-not-diff
+returns-then-not-diff c = unasked c.args.diff.now.why c.if-not-diff.true
 
-pub returns-in-Second : goal.returns-in-Second
-returns-in-Second c =
-    let d = c.args.diff.now in
-    let note = c.note_of_rest-in-Second.result in
-    subst (λ (f : PartFault). NotesUnread d f (option_map string_bytes note)) (sym c.in-Second.is) (noted_second string_bytes d note c.if-not-diff.false c.note_of_rest-in-Second.ensures)
+pub returns-in-Memory : goal.returns-in-Memory
+returns-in-Memory c = λ asked. subst (λ (f : PartFault). SaysPart c.args.diff.now f None) (sym c.in-Memory.is) refl
+
+pub returns-in_ok-note_of_rest-in-First : goal.returns-in_ok-note_of_rest-in-First
+returns-in_ok-note_of_rest-in-First c =
+    subst (λ (f : PartFault). NotesUnread c.args.diff.now f (Some (string_bytes c.in_ok-note_of_rest-in-First.field-0))) (sym c.in-First.is) (c.if-not-diff.false, ap Some c.in_ok-note_of_rest-in-First.ensures)
+
+pub returns-in_ok-note_of_rest-in-Second : goal.returns-in_ok-note_of_rest-in-Second
+returns-in_ok-note_of_rest-in-Second c =
+    subst (λ (f : PartFault). NotesUnread c.args.diff.now f (Some (string_bytes c.in_ok-note_of_rest-in-Second.field-0))) (sym c.in-Second.is) (c.if-not-diff.false, ap Some c.in_ok-note_of_rest-in-Second.ensures)

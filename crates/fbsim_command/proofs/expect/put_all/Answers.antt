@@ -1,6 +1,8 @@
 use Rattle.fbsim_command.proofs.lemmas.Common.{Bor, List, [], length, take, get_or, subst, ◌<◌, ◌≤◌, take_all, AreUnheld, IsUnheld}
 use Rattle.clap.specs.Words.{Text}
 use Rattle.fbsim_command.proofs.lemmas.rules.HeldRules.{comes-to, passed-on, puts-all, puts-more-of, puts-none, unheld-at}
+use Rattle.fbsim_command.specs.Notes.{noted_of}
+use Rattle.fbsim_command.proofs.lemmas.notes.FailingFiles.{failing-on}
 use Rattle.fbsim_command.proofs.expect.put_all.Goals as goal
 
 pub loop-index-init : goal.loop-index-init
@@ -38,3 +40,6 @@ returns-in_err-ok-clause-noted g c = λ noted. c.put_one.ensures.noted (c.loop-i
 
 pub returns-clause-noted : goal.returns-clause-noted
 returns-clause-noted g c = c.loop-index.invariant.1
+
+pub returns-in_err-ok-clause-failing : goal.returns-in_err-ok-clause-failing
+returns-in_err-ok-clause-failing g c = failing-on c.args.expect.now.why (noted_of c.put_one.new.note) c.from_residual.result _ c.from_residual.ensures.1 c.in_err-ok.ensures.failing

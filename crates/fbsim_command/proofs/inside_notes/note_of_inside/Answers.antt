@@ -1,6 +1,10 @@
-use Rattle.std.proofs.Common.{string_bytes}
-use Rattle.fbsim_command.proofs.lemmas.calls.Inspecting.{says_line}
+use Rattle.fbsim_command.proofs.lemmas.Common.{noted_of}
+use Rattle.fbsim_command.specs.InsideNotes.{SaysInside}
+use Rattle.fbsim_command.proofs.lemmas.notes.Noting.{asked-for, unasked}
 use Rattle.fbsim_command.proofs.inside_notes.note_of_inside.Goals as goal
 
-pub returns-in-Ok : goal.returns-in-Ok
-returns-in-Ok c = says_line string_bytes c.args.why c.args.system.now c.args.refused.now c.args.front.now c.args.line c.in-Ok.note c.if-not-why.false c.in-Ok.ensures
+pub returns-then-why : goal.returns-then-why
+returns-then-why c = asked-for c.args.why (SaysInside c.args.system.now c.args.refused.now c.args.front.now c.args.line) (noted_of c.inside_note.result) c.if-why.true c.inside_note.ensures
+
+pub returns-else-why : goal.returns-else-why
+returns-else-why c = unasked c.args.why c.if-why.false

@@ -6,6 +6,9 @@ use Rattle.fb_inspect.specs.declared.filter.EventFilter.{EventFilter}
 use Rattle.fb_inspect.proofs.lemmas.walk.Ended.{front_none}
 use Rattle.fbsim_command.specs.Inspecting.{cut_of, selection_of, upper}
 use Rattle.fbsim_command.proofs.lemmas.calls.Inspecting.{memory_is_known, memory_is_named, memory_only, no_names, no_refusal, on_err_any, wrong_so}
+use Rattle.fb_inspect.specs.OfSystem.{IsWrongFor}
+use Rattle.fbsim_command.specs.InsideNotes.{IsFoundAt}
+use Rattle.fbsim_command.proofs.lemmas.notes.NotedLines.{found-so}
 use Rattle.fb_inspect.specs.Refusals.{IsPathFault, IsWrongAt}
 use Rattle.fb_inspect.specs.declared.error.InspectError.TheVariants as inspection
 use Rattle.fb_inspect.specs.walk.Looks.{most}
@@ -70,3 +73,16 @@ pub returns-clause-paths : goal.returns-clause-paths
 returns-clause-paths g c =
     subst (λ (only : List Text). IfErr c.inspect.result (IsPathFault (system_of c.args.system.now) only)) (c.as_slice-2.ensures.value ∙ c.in_ok-only.ensures ∙ ap uppers c.as_slice.ensures.value)
     c.inspect.ensures.paths
+
+pub returns-in_err-only-clause-found : goal.returns-in_err-only-clause-found
+returns-in_err-only-clause-found g c =
+    no_refusal c.from_residual.result (λ line. IsFoundAt c.args.system.now c.args.inspect.now.steps (g.R.Read.remaining c.args.trace.now) line c.args.refused.now) c.from_residual.ensures.1
+
+pub returns-clause-found : goal.returns-clause-found
+returns-clause-found g c =
+    let sys = system_of c.args.system.now in
+    let x = c.args.inspect.now in
+    let r = c.inspect.new.refused in
+    found-so (HasNames sys) (x.steps ≤ most)
+    (λ n. IfSome (g.R.Read.remaining c.args.trace.now) (IsWrongFor c.args.system.now x.steps (record { number = n; finding = r.finding }) r.current.text.items)) c.inspect.result c.requires
+    c.inspect.ensures.found

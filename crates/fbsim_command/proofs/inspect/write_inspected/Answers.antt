@@ -1,9 +1,11 @@
-use Rattle.fbsim_command.proofs.lemmas.Common.{◌≡◌, string_bytes, subst, IfErr, IfSome, OnErr, OnOk, system_of, OfRefusal, IsWrongIn}
+use Rattle.fbsim_command.proofs.lemmas.Common.{◌≡◌, noted_of, subst, IfErr, IfSome, OnErr, OnOk, system_of, OfRefusal, IsWrongIn}
 use Rattle.fb_inspect.specs.Inspections.{IsShownBy, ShowsRead}
 use Rattle.fb_inspect.specs.Refusals.{IsPathFault}
 use Rattle.fb_inspect.specs.declared.error.InspectError.TheVariants as inspection
 use Rattle.fbsim_command.specs.Inspecting.{Inspects, cut_of, selection_of}
-use Rattle.fbsim_command.proofs.lemmas.calls.Inspecting.{inspects_front, inspects_none, line_noted_inside, none_noted_inside}
+use Rattle.fbsim_command.proofs.lemmas.calls.Inspecting.{inspects_front, inspects_none}
+use Rattle.fbsim_command.proofs.lemmas.notes.NotedLines.{inside-noted, inside-undeclared, inside-unnoted}
+use Rattle.fbsim_command.specs.declared.statuses.Done.TheVariants.{Shown}
 use Rattle.fbsim_command.proofs.lemmas.names.ReadNames.{read-names}
 use Rattle.fbsim_command.proofs.inspect.write_inspected.Goals as goal
 
@@ -24,7 +26,11 @@ returns-in-Ok-gone-clause-inspected g c =
 
 pub returns-in-Ok-gone-clause-noted : goal.returns-in-Ok-gone-clause-noted
 returns-in-Ok-gone-clause-noted g c =
-    none_noted_inside string_bytes c.args.inspect.now.why c.go-gone.result _ c.in-Ok-gone.field-0 c.note_of_gone-note.result c.in-Ok-gone.is c.note_of_gone-note.ensures
+    inside-unnoted c.args.inspect.now.why c.args.inputs.now c.args.inspect.now.steps (g.R.Read.remaining c.args.trace.now) c.in-Ok.system c.go-gone.new.refused c.go-gone.result c.in-Ok-gone.field-0 Shown (noted_of c.note_of_gone-note.result)
+    c.in-Ok-gone.is c.note_of_gone-note.ensures
+
+pub returns-in-Err-clause-noted : goal.returns-in-Err-clause-noted
+returns-in-Err-clause-noted g c = inside-undeclared c.args.inspect.now.why c.args.inputs.now c.args.inspect.now.steps (g.R.Read.remaining c.args.trace.now) c.in-Err.failure c.in-Err.ensures.refused
 
 pub go-gone-requires : goal.go-gone-requires
 go-gone-requires g c = read-names c.args.inputs.now c.in-Ok.system c.in-Ok.ensures.system
@@ -46,5 +52,5 @@ returns-clause-inspected g c =
 
 pub returns-clause-noted : goal.returns-clause-noted
 returns-clause-noted g c =
-    line_noted_inside string_bytes c.args.inspect.now.why c.go-gone.result c.in-Err-gone.error c.failure_of_inspection.result c.note_of_gone-note.result c.in-Err-gone.is
-    c.failure_of_inspection.ensures c.note_of_gone-note.ensures
+    inside-noted c.args.inspect.now.why c.args.inputs.now c.args.inspect.now.steps (g.R.Read.remaining c.args.trace.now) c.in-Ok.system c.go-gone.new.refused c.go-gone.result c.in-Err-gone.error c.failure_of_inspection.result
+    (noted_of c.note_of_gone-note.result) c.in-Ok.ensures.system c.in-Err-gone.is c.go-gone.ensures.found c.failure_of_inspection.ensures c.note_of_gone-note.ensures

@@ -1,6 +1,6 @@
-use Rattle.fb_types.proofs.Common.{Option, length, refl, subst, IfSome, slice_get_read}
+use Rattle.fb_types.proofs.Common.{MatchOption, Option, length, refl, slice_get_read, subst, true, ◌≡◌}
 use Rattle.fb_expect.specs.declared.location.RuleKey.{RuleKey}
-use Rattle.fbsim_command.specs.OfSystem.{IsUnknownKey}
+use Rattle.fbsim_command.specs.OfSystem.{IsUnknownKey, has_rule}
 use Rattle.fbsim_command.proofs.known.unknown_location.Goals as goal
 
 pub returns-in-Some : goal.returns-in-Some
@@ -10,5 +10,5 @@ returns-in-Some c =
     record {
       rule = rule;
       there = slice_get_read rules (length rules) c.loop-index.index rule refl c.loop-index-test.true c.index-rules-index.is;
-      so = subst (λ (o : Option RuleKey). IfSome o (IsUnknownKey c.args.system.now rule)) c.in-Some.is c.in_ok-key.ensures;
+      so = subst (λ (o : Option RuleKey). MatchOption o (has_rule c.args.system.now rule ≡ true) (IsUnknownKey c.args.system.now rule)) c.in-Some.is c.in_ok-key.ensures;
     }

@@ -10,8 +10,9 @@ use Rattle.fb_inspect.specs.declared.error.InspectError.TheVariants as inspectio
 use Rattle.fb_inspect.specs.declared.walk.Extent.{Extent}
 use Rattle.fb_inspect.specs.declared.walk.Extent.TheVariants as extent
 use Rattle.fbsim_command.specs.Covering.{AreGoneThrough, AreStopped, GoThrough, GoesThrough, IsFirst, IsReport, IsStopped, IsTraceFailure, IsUnreported, NotesTrace, RefusesAt, StopsAt, WritesReport, are_several, cut_count, coverage_text, covered_by, cut_line, cut_of, files_of, is_too_little, note_front}
-use Rattle.fbsim_command.specs.InsideNotes.{SaysLine}
-use Rattle.fbsim_command.specs.Notes.{IsNoteOfName, rest_note}
+use Rattle.fb_inspect.specs.declared.refused.finding.RefusedLine.{RefusedLine}
+use Rattle.fbsim_command.specs.InsideNotes.{SaysInside, SaysLine}
+use Rattle.fbsim_command.specs.Notes.{Noted, SaysUnread}
 use Rattle.fbsim_line.specs.declared.coverage_line.Coverage.{Coverage}
 use Rattle.fbsim_command.specs.declared.coverage.Gleaned.{Gleaned}
 use Rattle.fbsim_command.specs.declared.statuses.Done.{Done}
@@ -253,35 +254,23 @@ module _ {S : Type 0} (opens : Opening S) (given : Given) (x : Coverage) where
       by (Line message) part = absurd part
       by BadOption part = absurd part
 
--- a note of a check, or of a line
-pub noted-trace :
-    (types : List Text) (x : Coverage) (lines : List FileLines) (given : Given) (end : End) (note line : Option Text) → NotesTrace x line
-    → NotesOf types (files_of x) lines given end note ⊎ (note ≡ line) → NotesOf types (files_of x) lines given end note ⊎ NotesTrace x note
-noted-trace types x lines given end note line of_line (inl noted) = inl noted
-noted-trace types x lines given end note line of_line (inr same) = inr (subst (NotesTrace x) (sym same) of_line)
-
 -- the failure of a file that is not read
 pub reported-failure : (failed : Failure) (fault : SourceFault) → failed ≡ failure_of_source fault → ◌≡◌ {A = End} (Err failed) (Err (failure_of_source fault))
 reported-failure failed fault is = ap (λ (f : Failure). Err f) is
 
 -- the note to a line of a trace, which is named where there are several
 pub trace-noted :
-    {S : Type 0} (bytes : S → Text) (x : Coverage) (several : Bool) (front name : Text) (line : ℕ) (note : Option S) → several ≡ are_several x → front ≡ note_front several name
-    → IfSome note (λ n. IsTrue x.why × SaysLine front line (bytes n)) → NotesTrace x (option_map bytes note)
-trace-noted bytes x several front name line None same is said = tt
-trace-noted bytes x several front name line (Some n) same is said =
-    (said.0, (name, inl (line, subst (λ (f : Text). SaysLine f line (bytes n)) (is ∙ ap (λ (b : Bool). note_front b name) same) said.1)))
+    (x : Coverage) (i : Inputs) (r : RefusedLine) (several : Bool) (front name : Text) (line : ℕ) (note : Noted) → several ≡ are_several x → front ≡ note_front several name
+    → IfOk note (Notes x.why (SaysInside i r front line)) → IfOk note (NotesTrace x)
+trace-noted x i r several front name line (Err e) same is said = tt
+trace-noted x i r several front name line (Ok None) same is said = tt
+trace-noted x i r several front name line (Ok (Some n)) same is said = (
+  said.0,
+  (name, inl (line, subst (λ (f : Text). SaysLine f line n) (is ∙ ap (λ (b : Bool). note_front b name) same) (record { words = said.1.0; is = said.1.3 }))),
+)
 
 -- the note to a trace that is not opened
-pub open-noted :
-    {S : Type 0} (bytes : S → Text) (x : Coverage) (name : Text) (fault : SourceFault) (note : Option S) → Notes x.why (IsNoteOfName (codes "trace") name fault) (option_map bytes note)
-    → NotesTrace x (option_map bytes note)
-open-noted bytes x name fault None said = tt
-open-noted bytes x name fault (Some n) said = (said.0, (name, inr (inl (fault, said.1))))
-
--- the note to a trace that can't be read to its end
-pub rest-noted :
-    {S : Type 0} (bytes : S → Text) (x : Coverage) (name : Text) (note : Option S) → x.why ≡ true → IfSome note (λ n. bytes n ≡ rest_note (codes "trace") name)
-    → NotesTrace x (option_map bytes note)
-rest-noted bytes x name None asked said = tt
-rest-noted bytes x name (Some n) asked said = (asked, (name, inr (inr said)))
+pub open-noted : (x : Coverage) (name : Text) (fault : SourceFault) (note : Noted) → IfOk note (Notes x.why (SaysUnread (codes "trace") name fault)) → IfOk note (NotesTrace x)
+open-noted x name fault (Err e) said = tt
+open-noted x name fault (Ok None) said = tt
+open-noted x name fault (Ok (Some n)) said = (said.0, (name, inr (inl (fault, said.1))))

@@ -1,5 +1,5 @@
 -- Two traces that are compared.
-use Rattle.fbsim_command.proofs.lemmas.Common.{◌≡◌, Option, Some, None, Ok, Err, refl, sym, ap, subst, inr, codes, option_map, IsTrue, IfSome, Appends, IsErrAnd, WritesPart, failure_of_source, End, Held, Opening, Failure, Refused, RefusedTrace, File, Write, Memory, Line, BadOption, SourceFault}
+use Rattle.fbsim_command.proofs.lemmas.Common.{◌≡◌, Option, Some, None, Ok, Err, refl, sym, ap, subst, inr, codes, option_map, IsTrue, IfErr, IfOk, Noted, Result, ◌∙◌, true, Appends, IsErrAnd, WritesPart, failure_of_source, End, Held, Opening, Failure, Refused, RefusedTrace, File, Write, Memory, Line, BadOption, SourceFault}
 use Rattle.clap.specs.Words.{Text}
 use Rattle.fb_expect.specs.Parting.{IsUnparted, MayPart}
 use Rattle.fb_expect.specs.DifferenceReport.{ShowsDifference}
@@ -7,7 +7,7 @@ use Rattle.fb_expect.specs.declared.parting.Difference.{Difference}
 use Rattle.fb_expect.specs.declared.parting.PartFault.{PartFault}
 use Rattle.fb_expect.specs.declared.parting.PartFault.TheVariants as part_fault
 use Rattle.fbsim_command.specs.declared.statuses.Done.TheVariants.{Different}
-use Rattle.fbsim_command.specs.Comparing.{AreUnopened, Both, Compares, Differs, IsReported, NotesEither, NotesUnread}
+use Rattle.fbsim_command.specs.Comparing.{AreUnopened, Both, Compares, Differs, IsReported, NotesEither, NotesUnread, SaysPart}
 use Rattle.fbsim_command.specs.Failures.{failure_of_part}
 use Rattle.fbsim_command.specs.Notes.{rest_note}
 use Rattle.fbsim_line.specs.declared.bench_line.Diff.{Diff}
@@ -28,18 +28,29 @@ unread_by d first second old fault f same = subst (λ (g : Failure). Differs d f
 
 -- the note to it
 pub noted_either :
-    (d : Diff) (from to : Both) (fault : PartFault) (f : Failure) (note : Option Text) → f ≡ failure_of_part fault → IsUnparted d.is_without_ticks from.first from.second to.first to.second fault
-    → NotesUnread d fault note → NotesEither d from to (Err f) note
-noted_either d from to fault f None same stands noted = tt
-noted_either d from to fault f (Some note) same stands noted = (fault, ap (λ (g : Failure). Err g) same, stands, noted)
+    (d : Diff) (from to : Both) (fault : PartFault) (f : Failure) (note : Noted) → f ≡ failure_of_part fault → IsUnparted d.is_without_ticks from.first from.second to.first to.second fault
+    → IfOk note (NotesUnread d fault) → IfOk note (NotesEither d from to (Err f))
+noted_either d from to fault f (Err e) same stands noted = tt
+noted_either d from to fault f (Ok (Some note)) same stands noted = (fault, ap (λ (g : Failure). let e : End = Err g in e) same, stands, noted)
+noted_either d from to fault f (Ok None) same stands noted = λ asked read. by fault same (noted asked) (let g : f ≡ File = cc in g)
+  where
+    by : (fault : PartFault) → f ≡ failure_of_part fault → SaysPart d fault None → f ≡ File → ⊥
+    by part_fault.Memory same none read = absurd (let bad : Memory ≡ File = sym same ∙ read in cc)
+    by part_fault.First same none read = absurd (let bad : ◌≡◌ {A = Option Text} None (Some (rest_note (codes "trace") d.first.now)) = none in cc)
+    by part_fault.Second same none read = absurd (let bad : ◌≡◌ {A = Option Text} None (Some (rest_note (codes "trace") d.second.now)) = none in cc)
 
-pub noted_first : {X : Type 0} (bytes : X → Text) (d : Diff) (o : Option X) → IsTrue d.why → IfSome o (λ n. bytes n ≡ rest_note (codes "trace") d.first.now) → NotesUnread d part_fault.First (option_map bytes o)
-noted_first bytes d None asked is = tt
-noted_first bytes d (Some note) asked is = (asked, is)
+-- where both are read there is none
+pub noted_neither : (d : Diff) (from to : Both) (end : End) → IfErr end (λ f. f ≡ File → ⊥) → NotesEither d from to end None
+noted_neither d from to (Ok done) other = λ asked read. absurd (cc)
+noted_neither d from to (Err f) other = λ asked read. other (let g : f ≡ File = cc in g)
 
-pub noted_second : {X : Type 0} (bytes : X → Text) (d : Diff) (o : Option X) → IsTrue d.why → IfSome o (λ n. bytes n ≡ rest_note (codes "trace") d.second.now) → NotesUnread d part_fault.Second (option_map bytes o)
-noted_second bytes d None asked is = tt
-noted_second bytes d (Some note) asked is = (asked, is)
+-- a failure that is passed on is none of a file
+pub passed_no_file : {A : Type 0} (r : Result A Failure) (f : Failure) → IsErrAnd r (λ g. g ≡ f) → (f ≡ File → ⊥) → IfErr r (λ g. g ≡ File → ⊥)
+passed_no_file (Ok x) f bad other = absurd bad
+passed_no_file (Err g) f same other = λ is. other (sym same ∙ is)
+
+pub no_file_written : (old new : Held) (bytes : Text) (f : Failure) → WritesPart old new bytes f → f ≡ File → ⊥
+no_file_written old new bytes f part is = subst (WritesPart old new bytes) is part
 
 -- what is reported of two lines
 pub reported-of :
@@ -63,6 +74,6 @@ not_reported d first second a b text bytes same reported BadOption part = absurd
 
 -- a file is not opened
 pub unopened :
-    {S : Type 0} (opens : Opening S) (from to : S) (d : Diff) (a : Held) (fault : SourceFault) (f : Failure) (note : Option Text) → AreUnopened opens from to d fault note → f ≡ failure_of_source fault
+    {S : Type 0} (opens : Opening S) (from to : S) (d : Diff) (a : Held) (fault : SourceFault) (f : Failure) (note : Noted) → AreUnopened opens from to d fault note → f ≡ failure_of_source fault
     → Compares opens from to d a a (Err f) note
 unopened opens from to d a fault f note is same = inr (fault, is, ap (λ (g : Failure). Err g) same, refl)

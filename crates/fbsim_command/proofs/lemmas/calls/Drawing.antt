@@ -1,5 +1,5 @@
 -- How a call for a graph ends.
-use Rattle.fbsim_command.proofs.lemmas.Common.{◌≡◌, ◌⊎◌, ℕ, Bool, true, false, List, Option, Some, None, Result, Ok, Err, refl, sym, ◌∙◌, ap, subst, inl, inr, Vec, IfOk, IfSome, option_map, Inputs, Library, IsErrAnd, Given, Declares, WritesPart, failure_of_source, Notes, NotesOf, End, Held, EndsIn, Reading, AreRead, IsUnread, Task, SourceFault, Part, Failure, Refused, RefusedTrace, File, Write, Memory, Line, BadOption}
+use Rattle.fbsim_command.proofs.lemmas.Common.{◌≡◌, ◌⊎◌, ℕ, Bool, true, false, List, Option, Some, None, Result, Ok, Err, refl, sym, ◌∙◌, ap, subst, inl, inr, Vec, IfOk, IfSome, option_map, Inputs, Library, IsErrAnd, Given, Declares, WritesPart, failure_of_source, Noted, NotesInput, NotesOf, End, Held, EndsIn, Reading, AreRead, IsUnread, Task, SourceFault, Part, Failure, Refused, RefusedTrace, File, Write, Memory, Line, BadOption}
 use Rattle.fbsim_command.specs.Outcomes.{IsUndeclared}
 use Rattle.fb_types.proofs.Common.{is_some, option_and_then}
 use Rattle.fb_types.specs.declared.deploy.Plan.{Plan}
@@ -7,7 +7,8 @@ use Rattle.clap.specs.Words.{Text}
 use Rattle.fb_draw.specs.Drawings.{graph_text}
 use Rattle.fb_inputs.specs.Words.{name}
 use Rattle.fbsim_command.specs.Drawing.{Draws, IsGraph, IsUndrawn, NotesType, WritesGraph, files_of, graph_of, type_asked}
-use Rattle.fbsim_command.specs.Notes.{IsFileNote}
+use Rattle.fbsim_command.specs.Notes.{Follows}
+use Rattle.fbsim_command.proofs.lemmas.notes.Noting.{first-then}
 use Rattle.fbsim_line.specs.declared.draw_line.Draw.{Draw}
 use Rattle.fbsim_command.specs.declared.join.FileLines.{FileLines}
 use Rattle.fbsim_command.specs.declared.failure.RefusalLine.TheVariants.{Numbered}
@@ -93,25 +94,13 @@ unwritten given asked old new text bytes (Err g) f is same passed part = by g (s
 
 -- ---- What was read
 
--- the note is that of a check, or that of the type
-noted_in :
-    {T : Type 0} (bytes : T → Text) (P Q : Option Text → Type 0) (note : Option Text) (line : Option T) → P None → IfSome line (λ l. Q (Some (bytes l)))
-    → P note ⊎ (note ≡ option_map bytes line) → P note ⊎ Q note
-noted_in bytes P Q note line none of_line (inl noted) = inl noted
-noted_in bytes P Q note None none of_line (inr is) = inl (subst P (sym is) none)
-noted_in bytes P Q note (Some l) none of_line (inr is) = inr (subst Q (sym is) of_line)
-
-no_note : (types : List Text) (task : Task) (lines : List FileLines) (given : Given) (end : End) → NotesOf types task lines given end None
-no_note types task lines given (Ok d) = refl
-no_note types task lines given (Err f) = tt
-
 -- the files are read, and the graph is written
 pub read_and_drawn :
-    {S T : Type 0} (reads : Reading S) (from to : S) (types : List Text) (d : Draw) (old new : Held) (lines : List FileLines) (given : Given) (task : Task) (own : Given) (inner end : End)
-    (note : Option Text) (bytes : T → Text) (line : Option T) → task ≡ files_of d → own ≡ given → AreRead reads types task from to lines given → WritesGraph own (type_asked d) old new inner
-    → IfSome line (λ l. NotesType d own inner (Some (bytes l))) → NotesOf types task lines given inner note ⊎ (note ≡ option_map bytes line) → EndsIn types d.declaration.now lines inner end
+    {S : Type 0} (reads : Reading S) (from to : S) (types : List Text) (d : Draw) (old new : Held) (lines : List FileLines) (given : Given) (task : Task) (own : Given) (inner end : End)
+    (note line : Noted) → task ≡ files_of d → own ≡ given → AreRead reads types task from to lines given → WritesGraph own (type_asked d) old new inner
+    → IfOk line (NotesType d own inner) → Follows line (NotesOf types task lines given inner) note → EndsIn types d.declaration.now lines inner end
     → Draws reads from to types d old new end note
-read_and_drawn reads from to types d old new lines given task own inner end note bytes line as_task as_given was_read done of_line noted ends =
+read_and_drawn reads from to types d old new lines given task own inner end note line as_task as_given was_read done of_line last ends =
     inl
     (record {
       lines = lines;
@@ -119,16 +108,15 @@ read_and_drawn reads from to types d old new lines given task own inner end note
       read = subst (λ (k : Task). AreRead reads types k from to lines given) as_task was_read;
       inner = inner;
       done = subst (λ (z : Given). WritesGraph z (type_asked d) old new inner) as_given done;
-      noted = noted_in bytes (NotesOf types (files_of d) lines given inner) (NotesType d given inner) note line (no_note types (files_of d) lines given inner)
-          (subst (λ (z : Given). IfSome line (λ l. NotesType d z inner (Some (bytes l)))) as_given of_line)
-          (subst (λ (k : Task). NotesOf types k lines given inner note ⊎ (note ≡ option_map bytes line)) as_task noted);
+      noted = first-then (NotesType d given inner) (NotesOf types (files_of d) lines given inner) line note (subst (λ (z : Given). IfOk line (NotesType d z inner)) as_given of_line)
+          (subst (λ (k : Task). Follows line (NotesOf types k lines given inner) note) as_task last);
       ends = ends;
     })
 
 -- a file is not read
 pub not_read :
-    {S : Type 0} (reads : Reading S) (from to : S) (types : List Text) (d : Draw) (same : Held) (task : Task) (part : Part) (fault : SourceFault) (failed : Failure) (note : Option Text)
-    → task ≡ files_of d → failed ≡ failure_of_source fault → IsUnread reads types task from to part fault → Notes task.why (IsFileNote types task part fault) note
+    {S : Type 0} (reads : Reading S) (from to : S) (types : List Text) (d : Draw) (same : Held) (task : Task) (part : Part) (fault : SourceFault) (failed : Failure) (note : Noted)
+    → task ≡ files_of d → failed ≡ failure_of_source fault → IsUnread reads types task from to part fault → IfOk note (NotesInput types task part fault)
     → Draws reads from to types d same same (Err failed) note
 not_read reads from to types d same task part fault failed note as_task is unread noted =
     inr
@@ -138,5 +126,5 @@ not_read reads from to types d same task part fault failed note as_task is unrea
       unread = subst (λ (k : Task). IsUnread reads types k from to part fault) as_task unread;
       failed = ap (λ (f : Failure). Err f) is;
       same = refl;
-      noted = subst (λ (k : Task). Notes k.why (IsFileNote types k part fault) note) as_task noted;
+      noted = subst (λ (k : Task). IfOk note (NotesInput types k part fault)) as_task noted;
     })

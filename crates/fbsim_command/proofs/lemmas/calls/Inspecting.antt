@@ -1,5 +1,5 @@
 -- How a call that inspects a trace ends.
-use Rattle.fbsim_command.proofs.lemmas.Common.{◌≡◌, ◌≤◌, ◌⊎◌, ℕ, Bool, List, Option, Some, None, Result, Ok, Err, codes, option_map, inl, inr, refl, sym, ap, subst, ◌∙◌, IfErr, IfSome, IsTrue, OnErr, Inputs, system_of, IsErrAnd, OfRefusal, Given, Declares, failure_of_source, Notes, NotesOf, End, Held, IsWrongIn, EndsIn, Reading, AreRead, IsUnread, Opening, Failure, Refused, File, Write, Memory, Task, SourceFault, Part, RefusedTrace, Line, BadOption}
+use Rattle.fbsim_command.proofs.lemmas.Common.{◌≡◌, ◌≤◌, ◌⊎◌, ℕ, Bool, List, Option, Some, None, Result, Ok, Err, codes, option_map, inl, inr, refl, sym, ap, subst, ◌∙◌, IfErr, IfSome, IsTrue, OnErr, Inputs, system_of, IsErrAnd, OfRefusal, Given, Declares, failure_of_source, IsFirstOf, Noted, Notes, NotesInput, NotesOf, SaysUnread, End, Held, IsWrongIn, EndsIn, Reading, AreRead, IsUnread, Opening, Failure, Refused, File, Write, Memory, Task, SourceFault, Part, RefusedTrace, Line, BadOption}
 use Rattle.fbsim_command.specs.Outcomes.{IsUndeclared}
 use Rattle.fb_types.proofs.Common.{IfNone, IfOk}
 use Rattle.fb_types.specs.Names.{Name}
@@ -18,9 +18,10 @@ use Rattle.fb_inspect.specs.declared.error.InspectError.{InspectError}
 use Rattle.fb_inspect.specs.declared.error.InspectError.TheVariants as inspection
 use Rattle.clap.specs.Words.{Text}
 use Rattle.fbsim_command.specs.Failures.{IsInspectionFailure}
-use Rattle.fbsim_command.specs.InsideNotes.{IsOpenNote, IsWordsOf, NotesInside, SaysInside, SaysLine}
+use Rattle.fbsim_command.specs.InsideNotes.{IsWordsOf, NotesInside}
 use Rattle.fbsim_command.specs.Inspecting.{Inspects, NotesPaths, ShowsInsides, cut_of, files_of, selection_of}
-use Rattle.fbsim_command.specs.Notes.{IsFileNote, NotesRest}
+use Rattle.fbsim_command.specs.Notes.{Follows, NotesRest}
+use Rattle.fbsim_command.proofs.lemmas.notes.Noting.{first-or, first-then}
 use Rattle.fbsim_line.specs.declared.inspect_line.Inspect.{Inspect}
 use Rattle.fbsim_command.specs.declared.join.FileLines.{FileLines}
 use Rattle.fbsim_command.specs.declared.failure.RefusalLine.TheVariants.{Numbered, Trace}
@@ -123,59 +124,20 @@ pub words_found :
 words_found bytes i r (Ok w) right is = record { fault = None; applies = right; is = is }
 words_found bytes i r (Err e) right is = tt
 
--- the note has the number of the line
-pub says_line :
-    {S : Type 0} (bytes : S → Text) (why : Bool) (i : Inputs) (r : RefusedLine) (front : Text) (line : ℕ) (note : Option S) → IsTrue why → SaysInside i r front line (option_map bytes note)
-    → IfSome note (λ n. IsTrue why × SaysLine front line (bytes n))
-says_line bytes why i r front line None asked said = tt
-says_line bytes why i r front line (Some n) asked said = (asked, record { words = said.0; is = said.3 })
-
--- what is said of a refused line
-pub line_noted_inside :
-    {U S : Type 0} (bytes : S → Text) (why : Bool) (gone : Result U InspectError) (e : InspectError) (failure : Failure) (note : Option S) → gone ≡ Err e
-    → IsInspectionFailure e failure → IfSome note (λ n. IsTrue why × ((line : ℕ) × (gone ≡ Err (inspection.Refused line)) × SaysLine (codes "trace") line (bytes n)))
-    → NotesInside why (Err failure) (option_map bytes note)
-line_noted_inside bytes why gone e failure None is reported noted = tt
-line_noted_inside {U = U} bytes why gone e failure (Some n) is reported noted =
-    let line : ℕ = noted.1.0 in
-    let both : ◌≡◌ {A = Result U InspectError} (Err e) (Err (inspection.Refused line)) = sym is ∙ noted.1.1 in
-    let same : e ≡ inspection.Refused line = cc in
-    (noted.0, (line, ap (λ (f : Failure). Err f) (subst (λ (z : InspectError). IsInspectionFailure z failure) same reported), noted.1.2))
-
--- nothing is said of a trace that is gone through
-pub none_noted_inside :
-    {U S : Type 0} (bytes : S → Text) (why : Bool) (gone : Result U InspectError) (end : End) (u : U) (note : Option S) → gone ≡ Ok u
-    → IfSome note (λ n. IsTrue why × ((line : ℕ) × (gone ≡ Err (inspection.Refused line)) × SaysLine (codes "trace") line (bytes n))) → NotesInside why end (option_map bytes note)
-none_noted_inside bytes why gone end u None is noted = tt
-none_noted_inside {U = U} bytes why gone end u (Some n) is noted =
-    let both : ◌≡◌ {A = Result U InspectError} (Ok u) (Err (inspection.Refused noted.1.0)) = sym is ∙ noted.1.1 in
-    absurd (cc)
-
--- the note of a path, if there is one, and else another one
-pub path_or :
-    {T : Type 0} (bytes : T → Text) (Q : Option Text → Type 0) (path line both : Option T) → IfSome path (λ n. Q (Some (bytes n)))
-    → IfSome path (λ n. option_map bytes both ≡ Some (bytes n)) × IfNone path (option_map bytes both ≡ option_map bytes line)
-    → (option_map bytes both ≡ option_map bytes line) ⊎ Q (option_map bytes both)
-path_or bytes Q None line both of_path (some, none) = inl none
-path_or bytes Q (Some n) line both of_path (some, none) = inr (subst Q (sym some) of_path)
-
--- a note of a check, of a line, of a trace that can't be read to its end, or of a path
-noted_at :
-    (P Q R T : Option Text → Type 0) (note last line first : Option Text) → Q first → (line ≡ first) ⊎ R line → (last ≡ line) ⊎ T last → P note ⊎ (note ≡ last)
-    → P note ⊎ Q note ⊎ R note ⊎ T note
-noted_at P Q R T note last line first of_line of_rest of_path (inl noted) = inl noted
-noted_at P Q R T note last line first of_line of_rest (inr of_path) (inr is) = inr (inr (inr (subst T (sym is) of_path)))
-noted_at P Q R T note last line first of_line (inl same) (inl onward) (inr is) = inr (inl (subst Q (sym (is ∙ onward ∙ same)) of_line))
-noted_at P Q R T note last line first of_line (inr rest) (inl onward) (inr is) = inr (inr (inl (subst R (sym (is ∙ onward)) rest)))
-
 -- the trace is opened, and it is inspected
 pub read_and_inspected :
     {S : Type 0} (reads : Reading S) (opens : Opening S) (from between to : S) (types : List Text) (x : Inspect) (old new : Held) (lines : List FileLines) (given : Given) (task : Task)
-    (trace : Held) (own : Given) (inner end : End) (note : Option Text) → task ≡ files_of x → own ≡ given → AreRead reads types task from between lines given
-    → opens between x.trace.now (Ok trace) to → Inspects own x trace old new inner → (last line first : Option Text) → NotesInside x.why inner first
-    → (line ≡ first) ⊎ NotesRest x.why x.trace.now inner line → (last ≡ line) ⊎ NotesPaths x own inner last → NotesOf types task lines given inner note ⊎ (note ≡ last)
-    → EndsIn types x.declaration.now lines inner end → ShowsInsides reads opens from to types x old new end note
-read_and_inspected reads opens from between to types x old new lines given task trace own inner end note as_task as_given was_read opened done last line first of_line of_rest of_path noted ends =
+    (trace : Held) (own : Given) (inner end : End) (note : Noted) → task ≡ files_of x → own ≡ given → AreRead reads types task from between lines given
+    → opens between x.trace.now (Ok trace) to → Inspects own x trace old new inner → (path rest line second first : Noted) → IfOk line (NotesInside x.why own x.steps trace inner)
+    → IfOk rest (NotesRest x.why x.trace.now inner) → IfOk path (NotesPaths x own inner) → Follows rest (λ n. line ≡ Ok n) second → Follows path (λ n. second ≡ Ok n) first
+    → Follows first (NotesOf types task lines given inner) note → EndsIn types x.declaration.now lines inner end → ShowsInsides reads opens from to types x old new end note
+read_and_inspected reads opens from between to types x old new lines given task trace own inner end note as_task as_given was_read opened done path rest line second first of_line of_rest of_path one two last ends =
+    let says = NotesInside x.why given x.steps trace inner in
+    let says_rest = NotesRest x.why x.trace.now inner in
+    let says_path = NotesPaths x given inner in
+    let said : IfOk line says = subst (λ (z : Given). IfOk line (NotesInside x.why z x.steps trace inner)) as_given of_line in
+    let said_path : IfOk path says_path = subst (λ (z : Given). IfOk path (NotesPaths x z inner)) as_given of_path in
+    let last_of : Follows first (NotesOf types (files_of x) lines given inner) note = subst (λ (k : Task). Follows first (NotesOf types k lines given inner) note) as_task last in
     inl
     (record {
       lines = lines;
@@ -186,17 +148,16 @@ read_and_inspected reads opens from between to types x old new lines given task 
       opened = opened;
       inner = inner;
       done = subst (λ (z : Given). Inspects z x trace old new inner) as_given done;
-      noted = noted_at (NotesOf types (files_of x) lines given inner) (NotesInside x.why inner) (NotesRest x.why x.trace.now inner) (NotesPaths x given inner) note last line first of_line of_rest
-          (subst (λ (z : Given). (last ≡ line) ⊎ NotesPaths x z inner last) as_given of_path)
-          (subst (λ (k : Task). NotesOf types k lines given inner note ⊎ (note ≡ last)) as_task noted);
+      noted = first-then (IsFirstOf says_path (IsFirstOf says_rest says)) (NotesOf types (files_of x) lines given inner) first note
+          (first-or says_path (IsFirstOf says_rest says) path second first said_path (first-or says_rest says rest line second of_rest said one) two) last_of;
       ends = ends;
     })
 
 -- a file is not read that the trace is of
 pub not_read :
     {S : Type 0} (reads : Reading S) (opens : Opening S) (from to : S) (types : List Text) (x : Inspect) (same : Held) (task : Task) (part : Part) (fault : SourceFault) (failed : Failure)
-    (note : Option Text) → task ≡ files_of x → failed ≡ failure_of_source fault → IsUnread reads types task from to part fault
-    → Notes task.why (IsFileNote types task part fault) note → ShowsInsides reads opens from to types x same same (Err failed) note
+    (note : Noted) → task ≡ files_of x → failed ≡ failure_of_source fault → IsUnread reads types task from to part fault
+    → IfOk note (NotesInput types task part fault) → ShowsInsides reads opens from to types x same same (Err failed) note
 not_read reads opens from to types x same task part fault failed note as_task is unread noted =
     let reported : ◌≡◌ {A = End} (Err failed) (Err (failure_of_source fault)) = ap (λ (f : Failure). Err f) is in
     inr (
@@ -205,7 +166,7 @@ not_read reads opens from to types x same task part fault failed note as_task is
           (record {
             part = part;
             unread = subst (λ (k : Task). IsUnread reads types k from to part fault) as_task unread;
-            noted = subst (λ (k : Task). Notes k.why (IsFileNote types k part fault) note) as_task noted;
+            noted = subst (λ (k : Task). IfOk note (NotesInput types k part fault)) as_task noted;
           }),
       reported,
       refl,
@@ -214,8 +175,8 @@ not_read reads opens from to types x same task part fault failed note as_task is
 -- the trace is not opened
 pub not_opened :
     {S : Type 0} (reads : Reading S) (opens : Opening S) (from between to : S) (types : List Text) (x : Inspect) (same : Held) (lines : List FileLines) (given : Given) (task : Task) (fault : SourceFault)
-    (failed : Failure) (note : Option Text) → task ≡ files_of x → failed ≡ failure_of_source fault → AreRead reads types task from between lines given
-    → opens between x.trace.now (Err fault) to → Notes x.why (IsOpenNote x.trace.now fault) note → ShowsInsides reads opens from to types x same same (Err failed) note
+    (failed : Failure) (note : Noted) → task ≡ files_of x → failed ≡ failure_of_source fault → AreRead reads types task from between lines given
+    → opens between x.trace.now (Err fault) to → IfOk note (Notes x.why (SaysUnread (codes "trace") x.trace.now fault)) → ShowsInsides reads opens from to types x same same (Err failed) note
 not_opened reads opens from between to types x same lines given task fault failed note as_task is was_read unread noted =
     let reported : ◌≡◌ {A = End} (Err failed) (Err (failure_of_source fault)) = ap (λ (f : Failure). Err f) is in
     inr (

@@ -1,6 +1,6 @@
 -- What is reported of the progress of a run, and then of how a call ends.
-use Rattle.fbsim_command.proofs.lemmas.Common.{◌≡◌, ◌∙◌, ◌&&◌, ◌++◌, Bool, true, false, List, [], ℕ, Option, Some, None, inl, option_map, refl, sym, ap, subst, append-nil, string_bytes, IsTrue, IfErr, IfOk, OnOk, Result, Ok, Err, Appends, ReadError, Given, RunError, Hears, IsRightly, WritesPart, failure_of, numbered_input, Failure, End, Held, Refused, RefusedTrace, File, Write, Memory, Line, BadOption}
-use Rattle.fb_types.proofs.Common.{Appends-nil, Appends-trans}
+use Rattle.fbsim_command.proofs.lemmas.Common.{Noted, noted_of, ◌≡◌, ◌∙◌, ◌&&◌, ◌++◌, Bool, true, false, List, [], ℕ, Option, Some, None, inl, option_map, refl, sym, ap, subst, append-nil, string_bytes, IsTrue, IfErr, IfOk, OnOk, Result, Ok, Err, Appends, ReadError, Given, RunError, Hears, IsRightly, WritesPart, failure_of, numbered_input, Failure, End, Held, Refused, RefusedTrace, File, Write, Memory, Line, BadOption}
+use Rattle.fb_types.proofs.Common.{Appends-nil, Appends-trans, is_ok}
 use Rattle.clap.specs.Words.{Text}
 use Rattle.fbsim_line.specs.Line.{AskHelp}
 use Rattle.fb_read.specs.declared.error.ReadError.TheVariants as read
@@ -16,7 +16,8 @@ use Rattle.fb_trace.specs.declared.last.Outcome.TheVariants as sim_end
 use Rattle.fb_sim.specs.Reports.{AreReports}
 use Rattle.fb_trace.specs.End.{ending_of}
 use Rattle.fb_sim.specs.Serial.{AreWithin, Writes}
-use Rattle.fbsim_command.specs.Command.{Explains, IsDoneOf, IsEndOf, ReportsOn, Runs}
+use Rattle.fbsim_command.specs.Command.{Explains, IsDoneOf, IsEndOf, IsReported, ReportsOn, Runs}
+use Rattle.fbsim_command.specs.Failures.{reported_of}
 use Rattle.fbsim_command.specs.declared.program.Answer.{Answer}
 use Rattle.fbsim_command.specs.declared.statuses.Done.{Done}
 use Rattle.fbsim_command.specs.declared.statuses.Done.TheVariants.{Helped}
@@ -88,15 +89,15 @@ fails_as r e f is from = subst (λ (x : Result Outcome RunError). IsEndOf x (Err
 -- ---- A call that is no run
 
 pub ended_so :
-    (a : Answer) (e : End) → a ≡ record { end = e; is_heard = true; note = None } → (err : Held) (P : End → Text → Option Text → Type 0) → P e [] None
-    → (x : Text) × Hears a.is_heard err err x × P a.end x (option_map string_bytes a.note)
-ended_so a e is err P p = subst (λ (b : Answer). (x : Text) × Hears b.is_heard err err x × P b.end x (option_map string_bytes b.note)) (sym is) ([], quiet err, p)
+    (a : Answer) (e : End) → a ≡ record { end = e; is_heard = true; note = Ok None } → (err : Held) (P : End → Text → Noted → Type 0) → P e [] (Ok None)
+    → (x : Text) × Hears a.is_heard err err x × P a.end x (noted_of a.note)
+ended_so a e is err P p = subst (λ (b : Answer). (x : Text) × Hears b.is_heard err err x × P b.end x (noted_of b.note)) (sym is) ([], quiet err, p)
 
 pub noted_so :
-    (a b : Answer) → a ≡ b → b.is_heard ≡ true → (err : Held) (P : End → Text → Option Text → Type 0) → P b.end [] (option_map string_bytes b.note)
-    → (x : Text) × Hears a.is_heard err err x × P a.end x (option_map string_bytes a.note)
+    (a b : Answer) → a ≡ b → b.is_heard ≡ true → (err : Held) (P : End → Text → Noted → Type 0) → P b.end [] (noted_of b.note)
+    → (x : Text) × Hears a.is_heard err err x × P a.end x (noted_of a.note)
 noted_so a b is heard err P p =
-    subst (λ (d : Answer). (x : Text) × Hears d.is_heard err err x × P d.end x (option_map string_bytes d.note)) (sym is) ([], subst (λ (h : Bool). Hears h err err []) (sym heard) (quiet err), p)
+    subst (λ (d : Answer). (x : Text) × Hears d.is_heard err err x × P d.end x (noted_of d.note)) (sym is) ([], subst (λ (h : Bool). Hears h err err []) (sym heard) (quiet err), p)
 
 pub helped : (words : List Text) (old new : Held) (help : Text) → AskHelp words → (r : End) → IfOk r (λ d. (d ≡ Helped) × Appends old new help) → IfErr r (WritesPart old new help) → Explains words old new r
 helped words old new help asked (Ok d) whole part = subst (λ (x : Done). Explains words old new (Ok x)) (sym whole.0) (asked, (help, whole.1))
@@ -110,13 +111,20 @@ helped words old new help asked (Err BadOption) whole bad = absurd bad
 
 -- ---- The end
 
-pub reported_all : (h t : Bool) (old mid new : Held) (x y : Text) → Hears h old mid x → (IsTrue t → Appends mid new y) → IsTrue (h && t) → Appends old new (x ++ y)
-reported_all true true old mid new x y hears reported is =
+pub reported_all :
+    (h t : Bool) (old mid new : Held) (x : Text) (end : End) (note : Noted) → Hears h old mid x → (IsTrue t → IsReported [] end note mid new) → IsTrue (h && t) → IsTrue h × IsReported x end note old new
+reported_all true true old mid new x end (Ok note) hears reported is =
     let e : hears.rest ≡ [] = hears.all refl in
     let whole : x ≡ hears.front = hears.parts ∙ ap (λ (t : Text). hears.front ++ t) e ∙ append-nil hears.front in
-    Appends-trans old mid new x y (subst (λ (t : Text). Appends old mid t) (sym whole) hears.got) (reported refl)
-reported_all true false old mid new x y hears reported is = absurd (let f : false ≡ true = is in cc)
-reported_all false t old mid new x y hears reported is = absurd (let f : false ≡ true = is in cc)
+    (refl, Appends-trans old mid new x (reported_of end note) (subst (λ (t : Text). Appends old mid t) (sym whole) hears.got) (reported refl))
+reported_all true true old mid new x end (Err e) hears reported is = absurd (reported refl)
+reported_all true false old mid new x end note hears reported is = absurd (let f : false ≡ true = is in cc)
+reported_all false t old mid new x end note hears reported is = absurd (let f : false ≡ true = is in cc)
+
+-- a call that has not failed reports nothing at its end
+pub no_end : (err : Held) (end : End) (d : Done) (note : Noted) (there : Bool) → end ≡ Ok d → there ≡ is_ok note → IsTrue there → IsReported [] end note err err
+no_end err end d (Ok note) there is same so = subst (λ (e : End). Appends err err (reported_of e note)) (sym is) (Appends-nil err)
+no_end err end d (Err e) there is same so = absurd (let f : false ≡ true = sym same ∙ so in cc)
 
 pub quiet_all : (h : Bool) (old mid new : Held) (x : Text) (end : End) → Hears h old mid x → OnOk end (new ≡ mid) → OnOk end (x ≡ [] → new ≡ old)
 quiet_all h old mid new x (Ok d) hears same = λ e. same ∙ hears.none e

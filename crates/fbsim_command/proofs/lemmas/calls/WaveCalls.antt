@@ -1,5 +1,5 @@
 -- How a call for waveforms ends where there are none, or no whole ones.
-use Rattle.fbsim_command.proofs.lemmas.Common.{◌≡◌, ◌⊎◌, ℕ, List, Option, Some, None, Ok, Err, inl, inr, refl, sym, ap, subst, Inputs, system_of, Given, Declares, Cut, Task, failure_of_source, Failure, Refused, File, Write, Memory, End, Held, Notes, NotesOf, EndsIn, Reading, AreRead, IsUnread, Opening, SourceFault, Part, RefusedTrace, Line, BadOption}
+use Rattle.fbsim_command.proofs.lemmas.Common.{◌≡◌, ◌⊎◌, ℕ, List, Option, Some, None, Ok, Err, inl, inr, refl, sym, ap, subst, Inputs, system_of, Given, Declares, Cut, Task, failure_of_source, Failure, Refused, File, Write, Memory, End, Held, IfOk, IsFirstOf, Noted, NotesInput, NotesOf, EndsIn, Reading, AreRead, IsUnread, Opening, SourceFault, Part, RefusedTrace, Line, BadOption}
 use Rattle.fbsim_command.specs.Outcomes.{IsUndeclared}
 use Rattle.fb_wave.specs.CutOff.{BlamesShown, FailsCut, FailsShown}
 use Rattle.fb_wave.specs.Fronts.{WritesBefore}
@@ -11,9 +11,9 @@ use Rattle.fb_wave.specs.declared.truncation.Cut.TheVariants as cut
 use Rattle.clap.specs.Words.{Text}
 use Rattle.fbsim_line.specs.declared.line.Wave.{Wave}
 use Rattle.fbsim_command.specs.Failures.{IsWaveFailure}
-use Rattle.fbsim_command.specs.Notes.{IsFileNote, NotesRest}
-use Rattle.fbsim_command.specs.Showing.{Dumps, DumpsAs, IsTraceFileNote, NotesAs, Shows, cut_of, files_of}
-use Rattle.fbsim_command.proofs.lemmas.notes.NotedLines.{noted_so}
+use Rattle.fbsim_command.specs.Notes.{Follows, NotesRest}
+use Rattle.fbsim_command.specs.Showing.{Dumps, DumpsAs, NotesAs, NotesTraceFile, Shows, cut_of, files_of}
+use Rattle.fbsim_command.proofs.lemmas.notes.Noting.{first-or, first-then}
 use Rattle.fbsim_command.specs.declared.join.FileLines.{FileLines}
 use Rattle.fbsim_command.specs.declared.failure.RefusalLine.TheVariants.{Trace}
 use Rattle.fbsim_command.proofs.lemmas.names.ReadNames.{read-names}
@@ -63,11 +63,15 @@ dumps_front may given trace old new i is e f reported fails blames before = by e
 -- the trace is opened, and its dump is written
 pub read_and_shown :
     {S : Type 0} (reads : Reading S) (opens : Opening S) (from between to : S) (types : List Text) (w : Wave) (old new : Held) (lines : List FileLines) (given : Given) (task : Task) (may : Cut)
-    (trace : Held) (x : Given) (inner end : End) (note : Option Text) → task ≡ files_of w → may ≡ cut_of w → x ≡ given → AreRead reads types task from between lines given
-    → opens between w.trace.now (Ok trace) to → DumpsAs w.has_states w.steps may x trace old new inner → (line first : Option Text) → NotesAs w.has_states w.why x trace inner first
-    → (line ≡ first) ⊎ NotesRest w.why w.trace.now inner line → NotesOf types task lines given inner note ⊎ (note ≡ line) → EndsIn types w.declaration.now lines inner end
+    (trace : Held) (x : Given) (inner end : End) (note : Noted) → task ≡ files_of w → may ≡ cut_of w → x ≡ given → AreRead reads types task from between lines given
+    → opens between w.trace.now (Ok trace) to → DumpsAs w.has_states w.steps may x trace old new inner → (rest line first : Noted) → IfOk line (NotesAs w.has_states w.why w.steps x trace inner)
+    → IfOk rest (NotesRest w.why w.trace.now inner) → Follows rest (λ n. line ≡ Ok n) first → Follows first (NotesOf types task lines given inner) note → EndsIn types w.declaration.now lines inner end
     → Shows reads opens from to types w old new end note
-read_and_shown reads opens from between to types w old new lines given task may trace x inner end note as_task as_cut as_given was_read opened done line first of_line last noted ends =
+read_and_shown reads opens from between to types w old new lines given task may trace x inner end note as_task as_cut as_given was_read opened done rest line first of_line of_rest one last ends =
+    let says = NotesAs w.has_states w.why w.steps given trace inner in
+    let says_rest = NotesRest w.why w.trace.now inner in
+    let said : IfOk line says = subst (λ (z : Given). IfOk line (NotesAs w.has_states w.why w.steps z trace inner)) as_given of_line in
+    let last_of : Follows first (NotesOf types (files_of w) lines given inner) note = subst (λ (k : Task). Follows first (NotesOf types k lines given inner) note) as_task last in
     inl
     (record {
       lines = lines;
@@ -78,16 +82,15 @@ read_and_shown reads opens from between to types w old new lines given task may 
       opened = opened;
       inner = inner;
       done = subst (λ (m : Cut). DumpsAs w.has_states w.steps m given trace old new inner) as_cut (subst (λ (z : Given). DumpsAs w.has_states w.steps may z trace old new inner) as_given done);
-      noted = noted_so (NotesOf types (files_of w) lines given inner) (NotesAs w.has_states w.why given trace inner) (NotesRest w.why w.trace.now inner) note line first
-          (subst (λ (z : Given). NotesAs w.has_states w.why z trace inner first) as_given of_line) last (subst (λ (k : Task). NotesOf types k lines given inner note ⊎ (note ≡ line)) as_task noted);
+      noted = first-then (IsFirstOf says_rest says) (NotesOf types (files_of w) lines given inner) first note (first-or says_rest says rest line first of_rest said one) last_of;
       ends = ends;
     })
 
 -- a file is not read that the trace is of
 pub unread_for :
     {S : Type 0} (reads : Reading S) (opens : Opening S) (from to : S) (types : List Text) (w : Wave) (same : Held) (task : Task) (part : Part) (fault : SourceFault) (failed : Failure)
-    (note : Option Text) → task ≡ files_of w → failed ≡ failure_of_source fault → IsUnread reads types task from to part fault
-    → Notes task.why (IsFileNote types task part fault) note → Shows reads opens from to types w same same (Err failed) note
+    (note : Noted) → task ≡ files_of w → failed ≡ failure_of_source fault → IsUnread reads types task from to part fault
+    → IfOk note (NotesInput types task part fault) → Shows reads opens from to types w same same (Err failed) note
 unread_for reads opens from to types w same task part fault failed note as_task is unread noted =
     let reported : ◌≡◌ {A = End} (Err failed) (Err (failure_of_source fault)) = ap (λ (f : Failure). Err f) is in
     inr (
@@ -96,7 +99,7 @@ unread_for reads opens from to types w same task part fault failed note as_task 
           (record {
             part = part;
             unread = subst (λ (k : Task). IsUnread reads types k from to part fault) as_task unread;
-            noted = subst (λ (k : Task). Notes k.why (IsFileNote types k part fault) note) as_task noted;
+            noted = subst (λ (k : Task). IfOk note (NotesInput types k part fault)) as_task noted;
           }),
       reported,
       refl,
@@ -105,8 +108,8 @@ unread_for reads opens from to types w same task part fault failed note as_task 
 -- the trace is not opened
 pub unopened :
     {S : Type 0} (reads : Reading S) (opens : Opening S) (from between to : S) (types : List Text) (w : Wave) (same : Held) (lines : List FileLines) (given : Given) (task : Task) (fault : SourceFault)
-    (failed : Failure) (note : Option Text) → task ≡ files_of w → failed ≡ failure_of_source fault → AreRead reads types task from between lines given
-    → opens between w.trace.now (Err fault) to → Notes w.why (IsTraceFileNote w fault) note → Shows reads opens from to types w same same (Err failed) note
+    (failed : Failure) (note : Noted) → task ≡ files_of w → failed ≡ failure_of_source fault → AreRead reads types task from between lines given
+    → opens between w.trace.now (Err fault) to → IfOk note (NotesTraceFile w fault) → Shows reads opens from to types w same same (Err failed) note
 unopened reads opens from between to types w same lines given task fault failed note as_task is was_read unread noted =
     let reported : ◌≡◌ {A = End} (Err failed) (Err (failure_of_source fault)) = ap (λ (f : Failure). Err f) is in
     inr (

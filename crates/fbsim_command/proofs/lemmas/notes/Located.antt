@@ -1,5 +1,5 @@
 -- What is reported of a run that stopped.
-use Rattle.fbsim_command.proofs.lemmas.Common.{◌≡◌, ◌++◌, ◌∙◌, ◌∷◌, ℕ, Bool, true, List, [], Option, refl, sym, ap, subst, append_assoc, append-nil, Ok, Err, inl, inr, IfOk, IfSome, None, Result, Some, Inputs, Library, Given, Declares, Hears, Place, Held}
+use Rattle.fbsim_command.proofs.lemmas.Common.{◌≡◌, ◌++◌, ◌∙◌, ◌∷◌, ℕ, Bool, true, List, [], Option, refl, sym, ap, subst, append_assoc, append-nil, Ok, Err, inl, inr, IfOk, IfSome, None, Result, Some, Inputs, Library, Given, Declares, Hears, Place, End, Held, Task, false}
 use Rattle.std.specs.Result.{result_ok}
 use Rattle.fb_types.proofs.Common.{◌+◌, ◌≤◌, Appends-trans, IsTrue, arith, drop, false≢true, is_some, length}
 use Rattle.fb_read.specs.Blank.{Text}
@@ -15,7 +15,8 @@ use Rattle.fb_stop.specs.declared.found.FoundStop.{FoundStop}
 use Rattle.fb_stop.specs.declared.shown.Shown.{Shown}
 use Rattle.fb_read_positions.specs.Places.{IsPlaceAt, IsPlaceFor, IsPlace, IsStretch, IsWithin}
 use Rattle.fb_read_positions.specs.Spans.{IsNowhere}
-use Rattle.fbsim_command.specs.Stops.{IsPositionPlace, IsStopPlace, IsUnshownStop, NotesRun, NotesStop}
+use Rattle.fbsim_command.specs.LateRows.{HasNoLate, HasNoRows, ReportsRows, asked_horizon}
+use Rattle.fbsim_command.specs.Stops.{HasNoStop, IsPositionPlace, IsStopPlace, IsUnshownStop, NotesRun, NotesStop, asked_run}
 use Rattle.fbsim_command.specs.declared.join.FileLines.{FileLines}
 
 -- one report after another, of which all was taken
@@ -85,9 +86,54 @@ if_ok (Err e) o P same p = subst (λ q. IfSome q P) (sym same) tt
 pub run-stop :
     (types : List (List ℕ)) (own : List ℕ) (lines : List FileLines) (given : Given) (i : Inputs) (horizon steps : ℕ) (note : Option (List ℕ)) → Declares given i
     → NotesRun types own lines given i horizon steps note → NotesStop types own lines given horizon steps note
-run-stop types own lines given i horizon steps None declares never = λ early few. (i, declares, never)
+run-stop types own lines given i horizon steps None declares never = λ early few. inl (i, declares, never)
 run-stop types own lines given i horizon steps (Some note) declares run = (i, declares, run)
+
+-- the rows that a run did not come to, where more is to be reported
+pub rows-whole :
+    (c : Task) (stimuli : Option Text) (end : End) (first last : Bool) (report : Text) → (IsTrue last → IsTrue first) → ReportsRows c stimuli end first report → ReportsRows c stimuli end last report
+rows-whole c stimuli end first last report all (inl (none, rows)) = inl (none, λ whole. rows (all whole))
+rows-whole c stimuli end first last report all (inr late) = inr late
+
+-- no rows are asked for
+pub no-horizon : (c : Task) (stimuli : Option Text) (end : End) (o : Option ℕ) → o ≡ asked_horizon c end → o ≡ None → HasNoRows c stimuli end
+no-horizon c stimuli end o is none = λ horizon asks. absurd (let bad : ◌≡◌ {A = Option ℕ} None (Some horizon) = sym none ∙ is ∙ asks in cc)
+
+-- no rows are given
+pub no-stimuli : (c : Task) (stimuli : Option Text) (end : End) → stimuli ≡ None → HasNoRows c stimuli end
+no-stimuli c stimuli end none = λ horizon asks. subst (λ (s : Option Text). IfSome s (λ bytes. HasNoLate bytes horizon)) (sym none) tt
+
+-- no row is late
+pub no-late :
+    (c : Task) (stimuli : Option Text) (end : End) (o : Option ℕ) (horizon : ℕ) (bytes : Text) → o ≡ asked_horizon c end → o ≡ Some horizon → stimuli ≡ Some bytes → HasNoLate bytes horizon → HasNoRows c stimuli end
+no-late c stimuli end o horizon bytes is asked given none = λ other asks.
+    let both : ◌≡◌ {A = Option ℕ} (Some horizon) (Some other) = sym asked ∙ is ∙ asks in
+    let same : horizon ≡ other = cc in
+    subst (λ (s : Option Text). IfSome s (λ bytes. HasNoLate bytes other)) (sym given) (subst (HasNoLate bytes) same none)
+
+-- no stop is asked for
+pub no-run :
+    (types : List (List ℕ)) (c : Task) (lines : List FileLines) (given : Given) (end : End) (o : Option (ℕ × ℕ)) → o ≡ asked_run c end → o ≡ None → HasNoStop types c lines given end
+no-run types c lines given end o is none = λ horizon steps asks. absurd (let bad : ◌≡◌ {A = Option (ℕ × ℕ)} None (Some (horizon, steps)) = sym none ∙ is ∙ asks in cc)
+
+-- there is no stop
+pub no-stop :
+    (types : List (List ℕ)) (c : Task) (lines : List FileLines) (given : Given) (end : End) (o : Option (ℕ × ℕ)) (horizon steps : ℕ) → o ≡ asked_run c end → o ≡ Some (horizon, steps)
+    → NotesStop types c.declaration.now lines given horizon steps None → HasNoStop types c lines given end
+no-stop types c lines given end o horizon steps is asked none = λ h s asks.
+    let both : ◌≡◌ {A = Option (ℕ × ℕ)} (Some (horizon, steps)) (Some (h, s)) = sym asked ∙ is ∙ asks in
+    let pair : ◌≡◌ {A = ℕ × ℕ} (horizon, steps) (h, s) = cc in
+    subst (λ (p : ℕ × ℕ). NotesStop types c.declaration.now lines given p.0 p.1 None) pair none
+
+-- nothing that is not reported is whole
+pub not-whole : {P : Type 0} → IsTrue false → P
+not-whole bad = absurd (let f : false ≡ true = bad in cc)
 
 -- nothing more is reported
 pub nothing_more : (is_heard now : Bool) (err : Held) → is_heard ≡ now → (old : Held) (first : List ℕ) → Hears is_heard old err first → Hears now old err (first ++ [])
 nothing_more is_heard now err is old first h = hears_no_more old err first now (subst (λ (b : Bool). Hears b old err first) is h)
+
+-- less is reported than is to be
+pub nothing_whole : (is_heard : Bool) (err : Held) → (old : Held) (first : List ℕ) → Hears is_heard old err first → Hears false old err (first ++ [])
+nothing_whole is_heard err old first h =
+    subst (λ (t : List ℕ). Hears false old err t) (sym (append-nil first)) (record { front = h.front; rest = h.rest; parts = h.parts; got = h.got; all = not-whole; none = h.none })

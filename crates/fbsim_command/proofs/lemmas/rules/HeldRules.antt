@@ -1,5 +1,5 @@
 -- Rules that are held against traces, one after the other.
-use Rattle.fbsim_command.proofs.lemmas.Common.{◌≡◌, ℕ, suc, ◌+◌, ◌<◌, Bool, true, false, Bor, List, [], ◌∷◌, ◌++◌, length, get_or, map, take, drop, Option, Some, None, option_map, codes, Result, Ok, Err, refl, sym, ap, ◌∙◌, subst, append_assoc, append-nil, inl, inr, arith, ◌&&◌, IfErr, IfSome, OnOk, if◌then◌else◌, nat_lt, Appends, drop_more, length-map, map-append, take-append-drop, take_more, IsErrAnd, Given, AreUnheld, Holds, IsUnheld, WritesPart, failure_of_source, End, Held, Opening, Expect, Failure, Refused, RefusedTrace, File, Write, Memory, Line, BadOption, SourceFault}
+use Rattle.fbsim_command.proofs.lemmas.Common.{◌≡◌, ℕ, suc, ◌+◌, ◌<◌, Bool, true, false, Bor, List, [], ◌∷◌, ◌++◌, length, get_or, map, take, drop, Option, Some, None, option_map, codes, Result, Ok, Err, refl, sym, ap, ◌∙◌, subst, append_assoc, append-nil, inl, inr, arith, ◌&&◌, IfErr, IfOk, IfSome, OnOk, if◌then◌else◌, nat_lt, Appends, drop_more, length-map, map-append, take-append-drop, take_more, IsErrAnd, Given, AreUnheld, Holds, IsUnheld, WritesPart, failure_of_source, End, Held, Opening, Expect, Failure, Refused, RefusedTrace, File, Write, Memory, Line, BadOption, SourceFault}
 use Rattle.fb_types.proofs.Common.{◌*◌, is_ok, length-take-le, list_all-append}
 use Rattle.clap.specs.Words.{Text}
 use Rattle.fb_expect.specs.Judging as judging
@@ -11,7 +11,7 @@ use Rattle.fb_expect.specs.Suites.{suite, suites_tail}
 use Rattle.fb_expect.specs.declared.judging.Cut.{Cut}
 use Rattle.fb_expect.specs.declared.judging.Judged.{Judged}
 use Rattle.fb_expect.specs.declared.rule.Rule.{Rule}
-use Rattle.fbsim_command.specs.Notes.{IsNoteOfName, Notes, rest_note}
+use Rattle.fbsim_command.specs.Notes.{Noted, Notes, SaysUnread}
 use Rattle.fbsim_command.specs.Expecting.{AreHeld, AreRules, ComesTo, IsHeld, IsRefusedAt, IsTraceFailure, IsWrongLine, NotesTrace, Puts, PutsOne, Reports, all_well, cut_of, head_of, part_of, points_of, tail_of}
 use Rattle.fbsim_command.specs.Failures.{IsPartWritten}
 use Rattle.fbsim_command.specs.declared.sources.SourceFault.TheVariants as source
@@ -35,18 +35,10 @@ unopened opens x old new name source.Folder is = inl (source.Folder, refl, is)
 unopened opens x old new name source.Memory is = tt
 
 -- the note to a trace that is not opened
-pub open-noted :
-    {S : Type 0} (bytes : S → Text) (x : Expect) (name : Text) (fault : SourceFault) (note : Option S) → Notes x.why (IsNoteOfName (codes "trace") name fault) (option_map bytes note)
-    → NotesTrace x (option_map bytes note)
-open-noted bytes x name fault None said = tt
-open-noted bytes x name fault (Some n) said = (said.0, (name, inl (fault, said.1)))
-
--- the note to a trace that can't be read to its end
-pub rest-noted :
-    {S : Type 0} (bytes : S → Text) (x : Expect) (name : Text) (note : Option S) → x.why ≡ true → IfSome note (λ n. bytes n ≡ rest_note (codes "trace") name)
-    → NotesTrace x (option_map bytes note)
-rest-noted bytes x name None asked said = tt
-rest-noted bytes x name (Some n) asked said = (asked, (name, inr said))
+pub open-noted : (x : Expect) (name : Text) (fault : SourceFault) (note : Noted) → IfOk note (Notes x.why (SaysUnread (codes "trace") name fault)) → IfOk note (NotesTrace x)
+open-noted x name fault (Err e) said = tt
+open-noted x name fault (Ok None) said = tt
+open-noted x name fault (Ok (Some n)) said = (said.0, (name, inl (fault, said.1)))
 
 -- it is refused
 pub refused-at :

@@ -1,5 +1,9 @@
 -- Rules that are read, and whose names a declaration is to have.
-use Rattle.fbsim_command.proofs.lemmas.Common.{◌≡◌, ℕ, List, true, Option, Some, None, Ok, Err, refl, sym, subst, inl, inr, IfSome, Given, Holds, numbered_input, Held, Opening, Expect, Failure, Refused, RefusedTrace, File, Write, Memory, Line, BadOption}
+use Rattle.std.proofs.lemmas.Option.{slice_get_within}
+use Rattle.fb_expect.specs.declared.error.RulesError.TheVariants as error
+use Rattle.fb_expect.specs.declared.location.RuleKey.{RuleKey}
+use Rattle.fbsim_command.specs.OfSystem.{IsUnknownAt}
+use Rattle.fbsim_command.proofs.lemmas.Common.{◌≡◌, ◌<◌, ◌∙◌, Inputs, length, ℕ, List, true, Option, Some, None, Ok, Err, refl, sym, subst, inl, inr, IfSome, Given, Holds, numbered_input, Held, Opening, Expect, Failure, Refused, RefusedTrace, File, Write, Memory, Line, BadOption}
 use Rattle.fbsim_command.specs.Outcomes.{IsUndeclared}
 use Rattle.clap.specs.Words.{Text}
 use Rattle.fb_expect.specs.Reading.{rules_of}
@@ -70,3 +74,22 @@ held-none opens x s bytes declared a File is = absurd is
 held-none opens x s bytes declared a (Write n) is = absurd is
 held-none opens x s bytes declared a (Line message) is = absurd is
 held-none opens x s bytes declared a BadOption is = absurd is
+
+-- bytes that are refused are no rules
+pub no-rules : (bytes : Text) (e : RulesError) → (e ≡ error.Memory → ⊥) → IfSome (rules.number_of e) (λ n. rules_of bytes ≡ Err n) → (rs : List Rule) → rules_of bytes ≡ Ok rs → ⊥
+no-rules bytes e other is rs are = by e other is
+  where
+    clash : (n : ℕ) → rules_of bytes ≡ Err n → ⊥
+    clash n is = let bad : ◌≡◌ {A = rules.Outcome (List Rule)} (Ok rs) (Err n) = sym are ∙ is in absurd cc
+
+    by : (e : RulesError) → (e ≡ error.Memory → ⊥) → IfSome (rules.number_of e) (λ n. rules_of bytes ≡ Err n) → ⊥
+    by error.Memory other is = other refl
+    by error.Limit other is = clash _ is
+    by error.Document other is = clash _ is
+    by error.Shape other is = clash _ is
+    by error.Pattern other is = clash _ is
+    by error.Number other is = clash _ is
+
+-- the rule whose pattern is unknown is one of them
+pub unknown-within : (i : Inputs) (rs : List Rule) (k : ℕ) (key : RuleKey) → IsUnknownAt i rs k key → k < length rs
+unknown-within i rs k key unknown = slice_get_within rs k unknown.rule unknown.there

@@ -1,11 +1,14 @@
-use Rattle.fb_types.proofs.Common.{◌≡◌, Err, rules, string_bytes, system_of}
-use Rattle.fb_wave.specs.declared.error.WaveError.TheVariants.{Refused}
-use Rattle.fbsim_command.proofs.lemmas.notes.NotedLines.{refused_line, says}
+use Rattle.fbsim_command.proofs.lemmas.Common.{noted_of}
+use Rattle.fbsim_command.proofs.lemmas.notes.NotedLines.{written-noted, written-unnoted}
+use Rattle.fbsim_command.proofs.lemmas.notes.Noting.{unasked}
 use Rattle.fbsim_command.proofs.line_notes.note_of_trace_line.Goals as goal
 
-pub returns-in-Ok : goal.returns-in-Ok
-returns-in-Ok c =
-    let line = c.in-Err-Refused.line in
-    let is : c.args.written.now ≡ Err (Refused line) = search rules in
-    refused_line string_bytes c.args.why (system_of c.args.system.now) c.args.current.now line c.args.written.now c.in-Ok.note c.if-not-why.false is
-    (says string_bytes (system_of c.args.system.now) c.args.current.now line c.in-Ok.note c.in-Ok.ensures)
+pub returns-then-not-why : goal.returns-then-not-why
+returns-then-not-why c = unasked c.args.why c.if-not-why.true
+
+pub returns-in-Some : goal.returns-in-Some
+returns-in-Some c =
+    written-noted c.args.why c.args.system.now c.args.current.now c.args.written.now c.refused_at.result c.in-Some.line (noted_of c.line_note.result) c.refused_at.ensures c.in-Some.is c.if-not-why.false c.line_note.ensures
+
+pub returns-in-None : goal.returns-in-None
+returns-in-None c = written-unnoted c.args.why c.args.system.now c.args.current.now c.args.written.now c.refused_at.result c.refused_at.ensures c.in-None.is

@@ -1,5 +1,5 @@
-use Rattle.fb_types.proofs.Common.{◌≡◌, ◌∙◌, ◌&&◌, Bool, option_map, string_bytes, sym, ap, subst, IsTrue}
-use Rattle.fbsim_command.specs.Failures.{reported_of}
+use Rattle.fb_types.proofs.Common.{◌≡◌, ◌∙◌, ◌&&◌, Bool, sym, ap, subst, IsTrue}
+use Rattle.fbsim_command.specs.Notes.{noted_of}
 use Rattle.fbsim_command.proofs.lemmas.calls.Reporting.{quiet_all, reported_all}
 use Rattle.fbsim_command.proofs.program.command_with_clock.Goals as goal
 use Rattle.fbsim_command.proofs.program.command_with_clock.Goals.{then-answer, else-answer}
@@ -7,7 +7,7 @@ use Rattle.fbsim_command.proofs.program.command_with_clock.Goals.{then-answer, e
 pub returns : goal.returns
 returns g c =
     let end = c.obey-answer.result.end in
-    let note = option_map string_bytes c.obey-answer.result.note in
+    let note = noted_of c.obey-answer.result.note in
     let heard = c.obey-answer.result.is_heard in
     let reported = c.report_end-is_end_reported.result in
     let old = g.E.Write.contents c.args.err.now in
@@ -21,10 +21,11 @@ returns g c =
       | else-answer w ↦ w.result-is ∙ w.if-answer.false ∙ ap (λ (b : Bool). b && reported) (sym w.if-answer.false)
     ] in (
       end,
+      heard,
       reports,
       note,
       c.status.ensures,
       c.obey-answer.ensures.2,
-      λ is. reported_all heard reported old mid new reports (reported_of end note) hears c.report_end-is_end_reported.ensures.reported (subst (λ (b : Bool). IsTrue b) all is),
+      λ is. reported_all heard reported old mid new reports end note hears c.report_end-is_end_reported.ensures.reported (subst (λ (b : Bool). IsTrue b) all is),
       quiet_all heard old mid new reports end hears c.report_end-is_end_reported.ensures.quiet,
     )

@@ -1,14 +1,17 @@
-use Rattle.fbsim_command.proofs.lemmas.Common.{◌≡◌, string_bytes, subst, ◌≤◌, IfErr, IfSome, OnErr, OnOk, system_of, OfRefusal, IsWrongIn}
+use Rattle.fbsim_command.proofs.lemmas.Common.{◌≡◌, noted_of, subst, ◌≤◌, IfErr, IfSome, OnErr, OnOk, system_of, OfRefusal, IsWrongIn}
 use Rattle.fb_wave.specs.CutOff.{IsUncut}
 use Rattle.fb_wave.specs.Named.{HasNames}
 use Rattle.fb_wave.specs.declared.truncation.Cut.TheVariants as cut
+use Rattle.fb_inspect.specs.OfSystem.{IsWrongFor}
 use Rattle.fb_inspect.specs.Refusals.{IsWrongAt}
 use Rattle.fb_inspect.specs.walk.Looks.{most}
 use Rattle.fb_inspect.specs.declared.error.InspectError.TheVariants as inspection
 use Rattle.fb_inspect.specs.StateWaves.{IsShownWith, WritesRead}
 use Rattle.fbsim_command.specs.StateDumping.{DumpsStates}
-use Rattle.fbsim_command.proofs.lemmas.calls.Inspecting.{line_noted_inside, no_names, none_noted_inside, wrong_so}
+use Rattle.fbsim_command.proofs.lemmas.calls.Inspecting.{no_names, wrong_so}
 use Rattle.fbsim_command.proofs.lemmas.calls.StateWaveCalls.{states_front, states_none}
+use Rattle.fbsim_command.proofs.lemmas.notes.NotedLines.{found-so, inside-noted, inside-undeclared, inside-unnoted}
+use Rattle.fbsim_command.specs.declared.statuses.Done.TheVariants.{Shown}
 use Rattle.fbsim_command.proofs.lemmas.names.ReadNames.{read-names}
 use Rattle.fbsim_command.proofs.state_dump.dump_states.Goals as goal
 
@@ -30,7 +33,11 @@ returns-in-Ok-gone-clause-dumped g c =
 
 pub returns-in-Ok-gone-clause-noted : goal.returns-in-Ok-gone-clause-noted
 returns-in-Ok-gone-clause-noted g c =
-    none_noted_inside string_bytes c.args.why c.write_states-gone.result _ c.in-Ok-gone.field-0 c.note_of_gone-note.result c.in-Ok-gone.is c.note_of_gone-note.ensures
+    inside-unnoted c.args.why c.args.inputs.now c.args.terms.steps (g.R.Read.remaining c.args.trace.now) c.in-Ok.system c.write_states-gone.new.refused c.write_states-gone.result c.in-Ok-gone.field-0 Shown (noted_of c.note_of_gone-note.result)
+    c.in-Ok-gone.is c.note_of_gone-note.ensures
+
+pub returns-in-Err-clause-noted : goal.returns-in-Err-clause-noted
+returns-in-Err-clause-noted g c = inside-undeclared c.args.why c.args.inputs.now c.args.terms.steps (g.R.Read.remaining c.args.trace.now) c.in-Err.failure c.in-Err.ensures.refused
 
 pub failure_of_inspection-requires : goal.failure_of_inspection-requires
 failure_of_inspection-requires g c =
@@ -55,5 +62,5 @@ returns-clause-dumped g c =
 
 pub returns-clause-noted : goal.returns-clause-noted
 returns-clause-noted g c =
-    line_noted_inside string_bytes c.args.why c.write_states-gone.result c.in-Err-gone.error c.failure_of_inspection.result c.note_of_gone-note.result c.in-Err-gone.is c.failure_of_inspection.ensures
-    c.note_of_gone-note.ensures
+    inside-noted c.args.why c.args.inputs.now c.args.terms.steps (g.R.Read.remaining c.args.trace.now) c.in-Ok.system c.write_states-gone.new.refused c.write_states-gone.result c.in-Err-gone.error c.failure_of_inspection.result
+    (noted_of c.note_of_gone-note.result) c.in-Ok.ensures.system c.in-Err-gone.is (found-so (HasNames (system_of c.in-Ok.system)) (c.args.terms.steps ≤ most) (λ n. IfSome (g.R.Read.remaining c.args.trace.now) (IsWrongFor c.in-Ok.system c.args.terms.steps (record { number = n; finding = c.write_states-gone.new.refused.finding }) c.write_states-gone.new.refused.current.text.items)) c.write_states-gone.result (read-names c.args.inputs.now c.in-Ok.system c.in-Ok.ensures.system) c.write_states-gone.ensures.found) c.failure_of_inspection.ensures c.note_of_gone-note.ensures

@@ -1,10 +1,10 @@
-use Rattle.fbsim_command.proofs.lemmas.Common.{Bool, Ok, Err, option_map, string_bytes, sym, subst, IfErr, IfSome, OnOk, system_of, Cut}
+use Rattle.fbsim_command.proofs.lemmas.Common.{Bool, IfOk, None, Ok, Err, noted_of, sym, subst, IfErr, IfSome, OnOk, system_of, Cut}
 use Rattle.fb_wave.specs.Fronts.{WritesBefore}
 use Rattle.fb_wave.specs.CutOff.{BlamesShown, FailsShown, IsShown}
 use Rattle.fbsim_command.specs.Showing.{Dumps, DumpsAs, NotesAs, cut_of}
 use Rattle.fbsim_command.specs.StateDumping.{DumpsStates}
 use Rattle.fbsim_command.specs.declared.statuses.Done.TheVariants.{Shown}
-use Rattle.fbsim_command.proofs.lemmas.notes.NotedLines.{line_noted, none_noted}
+use Rattle.fbsim_command.proofs.lemmas.notes.NotedLines.{line-noted, line-undeclared, line-unnoted}
 use Rattle.fbsim_command.proofs.lemmas.calls.WaveCalls.{dumps_front, dumps_none, no_names}
 use Rattle.fbsim_command.proofs.wave.dump.Goals as goal
 
@@ -20,8 +20,15 @@ returns-then-wave-clause-dumped g c =
 pub returns-then-wave-clause-noted : goal.returns-then-wave-clause-noted
 returns-then-wave-clause-noted g c =
     let w = c.args.wave.now in
-    subst (λ (b : Bool). NotesAs b w.why c.args.inputs.now (g.R.Read.remaining c.args.trace.now) c.dump_states.result.0 (option_map string_bytes c.dump_states.result.1)) (sym c.if-wave.true)
+    subst (λ (b : Bool). IfOk (noted_of c.dump_states.result.1) (NotesAs b w.why w.steps c.args.inputs.now (g.R.Read.remaining c.args.trace.now) c.dump_states.result.0)) (sym c.if-wave.true)
     c.dump_states.ensures.noted
+
+pub returns-in-Err-clause-noted : goal.returns-in-Err-clause-noted
+returns-in-Err-clause-noted g c =
+    let w = c.args.wave.now in
+    let trace = g.R.Read.remaining c.args.trace.now in
+    subst (λ (b : Bool). NotesAs b w.why w.steps c.args.inputs.now trace (Err c.in-Err.failure) None) (sym c.if-wave.false)
+    (line-undeclared w.why c.args.inputs.now trace c.in-Err.failure c.in-Err.ensures.refused)
 
 pub returns-in-Err-clause-dumped : goal.returns-in-Err-clause-dumped
 returns-in-Err-clause-dumped g c =
@@ -49,9 +56,10 @@ pub returns-in-Ok-written-clause-noted : goal.returns-in-Ok-written-clause-noted
 returns-in-Ok-written-clause-noted g c =
     let w = c.args.wave.now in
     let trace = g.R.Read.remaining c.args.trace.now in
-    subst (λ (b : Bool). NotesAs b w.why c.args.inputs.now trace (Ok Shown) (option_map string_bytes c.note_of_trace_line-note.result)) (sym c.if-wave.false)
-    (none_noted string_bytes w.why c.args.inputs.now trace c.in-Ok.system c.write_wave_with-written.new.current c.write_wave_with-written.result (Ok Shown)
-    c.in-Ok-written.field-0 c.note_of_trace_line-note.result c.in-Ok-written.is c.note_of_trace_line-note.ensures)
+    let note = noted_of c.note_of_trace_line-note.result in
+    subst (λ (b : Bool). IfOk note (NotesAs b w.why w.steps c.args.inputs.now trace (Ok Shown))) (sym c.if-wave.false)
+    (line-unnoted w.why c.args.inputs.now trace c.in-Ok.system c.write_wave_with-written.new.current c.write_wave_with-written.result c.in-Ok-written.field-0 Shown note c.in-Ok-written.is
+    c.note_of_trace_line-note.ensures)
 
 pub failure_of_wave-requires : goal.failure_of_wave-requires
 failure_of_wave-requires g c =
@@ -77,7 +85,8 @@ pub returns-clause-noted : goal.returns-clause-noted
 returns-clause-noted g c =
     let w = c.args.wave.now in
     let trace = g.R.Read.remaining c.args.trace.now in
-    subst (λ (b : Bool). NotesAs b w.why c.args.inputs.now trace (Err c.failure_of_wave.result) (option_map string_bytes c.note_of_trace_line-note.result)) (sym c.if-wave.false)
-    (line_noted string_bytes w.why c.args.inputs.now trace c.in-Ok.system c.write_wave_with-written.new.current c.write_wave_with-written.result
-    c.in-Err-written.error c.failure_of_wave.result c.note_of_trace_line-note.result c.in-Ok.ensures.system c.in-Err-written.is c.write_wave_with-written.ensures.current
+    let note = noted_of c.note_of_trace_line-note.result in
+    subst (λ (b : Bool). IfOk note (NotesAs b w.why w.steps c.args.inputs.now trace (Err c.failure_of_wave.result))) (sym c.if-wave.false)
+    (line-noted w.why c.args.inputs.now trace c.in-Ok.system c.write_wave_with-written.new.current c.write_wave_with-written.result
+    c.in-Err-written.error c.failure_of_wave.result note c.in-Ok.ensures.system c.in-Err-written.is c.write_wave_with-written.ensures.current
     c.failure_of_wave.ensures c.note_of_trace_line-note.ensures)

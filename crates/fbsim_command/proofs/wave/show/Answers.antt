@@ -1,4 +1,4 @@
-use Rattle.fbsim_command.proofs.lemmas.Common.{map, option_map, refl, string_bytes, given_of, lines_of}
+use Rattle.fbsim_command.proofs.lemmas.Common.{map, noted_of, refl, given_of, lines_of}
 use Rattle.fbsim_command.specs.Showing.{cut_of}
 use Rattle.fbsim_command.proofs.lemmas.calls.WaveCalls.{read_and_shown, unopened, unread_for}
 use Rattle.fbsim_command.proofs.wave.show.Goals as goal
@@ -6,19 +6,19 @@ use Rattle.fbsim_command.proofs.wave.show.Goals as goal
 pub returns-in-Err : goal.returns-in-Err
 returns-in-Err g c =
     unread_for g.S.Source.gives g.S.Streams.opens c.args.source.now c.read_files.new.source (map (λ t. t.now) c.args.types.now) c.args.wave.now (g.W.Write.contents c.args.out.now) c.files_of-task.result
-    c.in-Err.unread.part c.in-Err.unread.fault c.from.result (option_map string_bytes c.note_of_file-note.result) c.files_of-task.ensures c.from.ensures
+    c.in-Err.unread.part c.in-Err.unread.fault c.from.result (noted_of c.note_of_file-note.result) c.files_of-task.ensures c.from.ensures
     c.in-Err.ensures.unread c.note_of_file-note.ensures
 
 pub returns-in-Err-open : goal.returns-in-Err-open
 returns-in-Err-open g c =
     unopened g.S.Source.gives g.S.Streams.opens c.args.source.now c.read_files.new.source c.open.new.self (map (λ t. t.now) c.args.types.now) c.args.wave.now (g.W.Write.contents c.args.out.now)
-    (lines_of c.in-Ok.texts) (given_of c.in-Ok.texts) c.files_of-task.result c.in-Err-open.fault c.from-in-Err-open.result (option_map string_bytes c.note_of_trace-note.result)
-    c.files_of-task.ensures c.from-in-Err-open.ensures c.in-Ok.ensures.read c.in-Err-open.ensures c.note_of_trace-note.ensures
+    (lines_of c.in-Ok.texts) (given_of c.in-Ok.texts) c.files_of-task.result c.in-Err-open.fault c.from-in-Err-open.result (noted_of c.note_where_asked-note.result)
+    c.files_of-task.ensures c.from-in-Err-open.ensures c.in-Ok.ensures.read c.in-Err-open.ensures c.note_where_asked-note.ensures
 
 pub returns : goal.returns
 returns g c =
     read_and_shown g.S.Source.gives g.S.Streams.opens c.args.source.now c.read_files.new.source c.open.new.self (map (λ t. t.now) c.args.types.now) c.args.wave.now
     (g.W.Write.contents c.args.out.now) (g.W.Write.contents c.dump-end.new.out) (lines_of c.in-Ok.texts) (given_of c.in-Ok.texts) c.files_of-task.result (cut_of c.args.wave.now) _ c.inputs.result
-    c.dump-end.result.0 c.end_with-end.result (option_map string_bytes c.note_of_wave-note.result) c.files_of-task.ensures refl c.inputs.ensures c.in-Ok.ensures.read c.in-Ok-open.ensures
-    c.dump-end.ensures.dumped (option_map string_bytes c.note_of_trace_end-line.result) (option_map string_bytes c.dump-end.result.1) c.dump-end.ensures.noted
-    c.note_of_trace_end-line.ensures c.note_of_wave-note.ensures c.end_with-end.ensures
+    c.dump-end.result.0 c.end_with-end.result (noted_of c.note_of_wave-note.result) c.files_of-task.ensures refl c.inputs.ensures c.in-Ok.ensures.read c.in-Ok-open.ensures
+    c.dump-end.ensures.dumped (noted_of c.note_of_trace_end-rest.result) (noted_of c.dump-end.result.1) (noted_of c.one_of.result) c.dump-end.ensures.noted
+    c.note_of_trace_end-rest.ensures c.one_of.ensures c.note_of_wave-note.ensures c.end_with-end.ensures
