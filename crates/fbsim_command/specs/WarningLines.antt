@@ -1,5 +1,5 @@
 -- The lines of warnings with their places (docs/FORMATS.md, "Warnings"; this project's own).
-use Rattle.std.specs.Prelude.{◌≡◌, ◌⊎◌, ◌+◌, ◌&&◌, ◌||◌, ℕ, nat_le, nat_lt, Bool, false, List, [], ◌∷◌, ◌++◌, length, map, sum, take, Option, Some, None, IfSome, option_map, if◌then◌else◌, codes, decimal}
+use Rattle.std.specs.Prelude.{◌≡◌, ◌⊎◌, ◌+◌, ◌&&◌, ◌||◌, ℕ, nat_le, nat_lt, Bool, false, List, [], ◌∷◌, ◌++◌, length, map, sum, take, Option, Some, None, IfSome, MatchOption, option_map, if◌then◌else◌, codes, decimal}
 use Rattle.std.specs.List.{list_any}
 use Rattle.clap.specs.Words.{Text}
 use Rattle.fb_types.specs.Headline.{Inputs}
@@ -19,7 +19,9 @@ use Rattle.fb_read_positions.specs.Places as read
 use Rattle.fb_read_positions.specs.Places.{IsStretch}
 use Rattle.fb_read_positions.specs.declared.position.Position.{Position}
 use Rattle.fb_read_positions.specs.Places.{IsPlaceAt, IsPlaceFor}
-use Rattle.fb_why.specs.InputStretches.{IsDeployPlace, IsStimuliPlace}
+use Rattle.fb_read_positions.specs.Spans.{IsNowhere}
+use Rattle.fb_why.specs.InputStretches.{IsDeployOutside, IsDeployPlace, IsOutside, IsSomeOutside, IsStimuliPlace}
+use Rattle.fb_inputs.specs.NearSpans.{IsNearInStimuli}
 use Rattle.fb_read_positions.specs.declared.places.Place.{Place}
 use Rattle.fb_sim.specs.Given.{Given}
 use Rattle.fb_sim.specs.Serial.{Declares}
@@ -79,6 +81,24 @@ pub record IsLinkPlace (n : Naming) (deploy : Option Text) (link : ℕ) (text : 
   pub placed : IsDeployPlace bytes (position.Table (table.Link link)) place
   pub shown : text ≡ place_text name place.line place.column
 
+-- No deployment is given, or the bytes of the link are not in it.
+abbrev pub HasNoLinkPlace : Naming → (deploy : Option Text) → (link : ℕ) → Type 0
+HasNoLinkPlace n deploy link =
+    (n.deploy ≡ None) ⊎ (deploy ≡ None) ⊎ ((bytes : Text) × (deploy ≡ Some bytes) × IsDeployOutside bytes (position.Table (table.Link link)))
+
+-- The place is that of the table of a link in the deployment that is given, if one is.
+abbrev pub IsPlaceOfLink : (deploy : Option Text) → (link : ℕ) → Place → Type 0
+IsPlaceOfLink None link at = Unit {0}
+IsPlaceOfLink (Some bytes) link at = IsDeployPlace bytes (position.Table (table.Link link)) at
+
+-- The place is that of the link, and there is none only if its bytes are not in the deployment.
+abbrev pub MayBePlaceOfLink : (deploy : Option Text) → (link : ℕ) → Option Place → Type 0
+MayBePlaceOfLink deploy link place = MatchOption place (IfSome deploy (λ bytes. IsDeployOutside bytes (position.Table (table.Link link)))) (IsPlaceOfLink deploy link)
+
+-- The place is that of the link that the warning is about, if it is about one.
+abbrev pub IsLinkPlaceFor : (deploy : Option Text) → Warning → Option Place → Type 0
+IsLinkPlaceFor deploy w place = (link : ℕ) → w ≡ UnusedLink link → MayBePlaceOfLink deploy link place
+
 -- The warning is about a link, and the text is the place of that.
 abbrev pub IsDeploymentPlace : Naming → (deploy : Option Text) → Warning → Text → Type 0
 IsDeploymentPlace n deploy w text = (link : ℕ) × (w ≡ UnusedLink link) × IsLinkPlace n deploy link text
@@ -90,21 +110,30 @@ abbrev pub row_position : Warning → StimuliPosition
 row_position (EarlyStimulus row) = in_stimuli.Row row
 row_position _ = in_stimuli.Start
 
--- The place, if there is one, is that of the bytes.
+-- The place is that of the bytes, and there is none only if they are not in the text.
 abbrev pub IsPlaceNear : Text → Span → Option Place → Type 0
-IsPlaceNear text span place = IfSome place (λ at. IsStretch span.start span.end at × read.IsPlace text at)
+IsPlaceNear text span place = MatchOption place (IsOutside text span) (λ at. IsStretch span.start span.end at × read.IsPlace text at)
 
 -- The place is that of a position in the stimuli that are given, if some are.
 abbrev pub IsPlaceInRows : (stimuli : Option Text) → StimuliPosition → Place → Type 0
 IsPlaceInRows None position at = Unit {0}
 IsPlaceInRows (Some bytes) position at = IsStimuliPlace bytes position at
 
-abbrev pub IsPlaceOfRow : (stimuli : Option Text) → (row : ℕ) → Place → Type 0
-IsPlaceOfRow stimuli row at = IsPlaceInRows stimuli (in_stimuli.Row row) at
+-- The bytes at the position, or at one around it, are not in the stimuli.
+abbrev pub IsStimuliOutside : Text → StimuliPosition → Type 0
+IsStimuliOutside text position = IsSomeOutside (IsNearInStimuli text position) text
 
--- The place, if there is one, is that of the row that the warning is about.
+-- The bytes at a position are not in the stimuli that are given, if some are.
+abbrev pub IsOutsideRows : (stimuli : Option Text) → StimuliPosition → Type 0
+IsOutsideRows stimuli position = IfSome stimuli (λ bytes. IsStimuliOutside bytes position)
+
+-- The place is that of the position, and there is none only if its bytes are not in the stimuli.
+abbrev pub MayBePlaceInRows : (stimuli : Option Text) → StimuliPosition → Option Place → Type 0
+MayBePlaceInRows stimuli position place = MatchOption place (IsOutsideRows stimuli position) (IsPlaceInRows stimuli position)
+
+-- The place is that of the row that the warning is about.
 abbrev pub IsRowPlaceFor : (stimuli : Option Text) → Warning → Option Place → Type 0
-IsRowPlaceFor stimuli w place = IfSome place (IsPlaceInRows stimuli (row_position w))
+IsRowPlaceFor stimuli w place = MayBePlaceInRows stimuli (row_position w) place
 
 -- The text is the place of a row of the stimuli.
 pub record IsRowPlace (n : Naming) (stimuli : Option Text) (row : ℕ) (text : Text) : Type 0 where
@@ -116,14 +145,26 @@ pub record IsRowPlace (n : Naming) (stimuli : Option Text) (row : ℕ) (text : T
   pub placed : IsStimuliPlace bytes (in_stimuli.Row row) place
   pub shown : text ≡ place_text name place.line place.column
 
+-- No stimuli are given, or the bytes of the row are not in them.
+abbrev pub HasNoRowPlace : Naming → (stimuli : Option Text) → (row : ℕ) → Type 0
+HasNoRowPlace n stimuli row =
+    (n.stimuli ≡ None) ⊎ (stimuli ≡ None) ⊎ ((bytes : Text) × (stimuli ≡ Some bytes) × IsStimuliOutside bytes (in_stimuli.Row row))
+
 -- The warning is about a row, and the text is the place of that.
 abbrev pub IsStimulusPlace : Naming → (stimuli : Option Text) → Warning → Text → Type 0
 IsStimulusPlace n stimuli w text = (row : ℕ) × (w ≡ EarlyStimulus row) × IsRowPlace n stimuli row text
 
--- the place of a warning, or nothing
+-- What the warning is about has no place.
+abbrev pub IsUnplaced : Naming → Given → Library → Warning → Type 0
+IsUnplaced n given library w =
+    ((link : ℕ) × (w ≡ UnusedLink link) × HasNoLinkPlace n given.deploy link)
+    ⊎ ((row : ℕ) × (w ≡ EarlyStimulus row) × HasNoRowPlace n given.stimuli row)
+    ⊎ ((position : Position) × (position_of w ≡ Some position) × IsNowhere given.declaration library position)
+
+-- the place of a warning, or nothing where it has none
 abbrev pub IsPlace : Naming → Given → Library → Warning → Text → Type 0
 IsPlace n given library w text =
-    IsDeclaredPlace n given.declaration library w text ⊎ IsDeploymentPlace n given.deploy w text ⊎ IsStimulusPlace n given.stimuli w text ⊎ (text ≡ [])
+    IsDeclaredPlace n given.declaration library w text ⊎ IsDeploymentPlace n given.deploy w text ⊎ IsStimulusPlace n given.stimuli w text ⊎ (IsUnplaced n given library w × (text ≡ []))
 
 -- ---- Lines
 

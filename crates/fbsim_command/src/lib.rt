@@ -6,7 +6,7 @@
 //!
 //! Read in this order: `sources`, where files come from; `files`, those of the machine; `program`, the call; `texts`,
 //! what is read, with `join`, a declaration in several files, and `own_lines`, how its refusals name a file and a line,
-//! which agree by `laws`; `opening`, what is declared; `lint`, with `call_names`, `selectors`, `row_places` and
+//! which agree by `laws`; `opening`, what is declared; `lint`, with `call_names`, `selectors`, `row_places`, `link_places` and
 //! `warning_lines`, the lines of warnings, and `selected_names`, those for names that nothing has; `late_rows`, rows that
 //! a run does not come to; `located_stop`, where a run stops; `wave`, with `state_dump` and `line_notes`; `draw`;
 //! `inspect` and `coverage`, with `inside_notes`; `near` and `unknown_name`, the line for an unknown path or type;
@@ -29,6 +29,7 @@ mod known;
 mod late_rows;
 pub mod laws;
 mod line_notes;
+mod link_places;
 mod lint;
 mod located_stop;
 mod near;

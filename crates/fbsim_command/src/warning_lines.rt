@@ -4,22 +4,22 @@ ghost use Rattle.std.specs.Prelude.{◌≡◌, ◌⊎◌, [], IfNone, IfOk, IfSo
 ghost use Rattle.fb_lint.specs.Positions.{position_of};
 ghost use Rattle.fb_types.specs.declared.library.Library.{Library};
 ghost use Rattle.fb_read_positions.specs.Places.{IsPlaceFor};
+ghost use Rattle.fb_inputs.specs.declared.position.StimuliPosition.TheVariants as in_stimuli;
 ghost use Rattle.fbsim_command.specs.Selecting.{is_selected};
 ghost use Rattle.fbsim_command.specs.WarningLines as spec;
-ghost use Rattle.fbsim_command.specs.WarningLines.{AreSorted, IsAdded, IsLinkPlace, IsPlace, IsPlaceOfRow, IsPlaceText, IsRowPlace, IsRowPlaceFor, naming_of, place_text};
+ghost use Rattle.fbsim_command.specs.WarningLines.{AreSorted, HasNoLinkPlace, HasNoRowPlace, IsAdded, IsLinkPlace, IsLinkPlaceFor, IsPlace, IsPlaceText, IsRowPlace, IsRowPlaceFor, MayBePlaceInRows, MayBePlaceOfLink, naming_of, place_text};
 
 use crate::call_names::Naming;
 use crate::join::{file_name, line_in_file};
+use crate::link_places::link_places;
 use crate::row_places::row_places;
 use crate::selectors::{Sorting, is_selected};
 use crate::shown::shown_name;
-use fb_inputs::{DeployPosition, TableLocation};
 use fb_lint::{Warning, line_of, positions_of};
 use fb_read_positions::{Place, places_of};
 use fb_sim::Inputs;
 use fb_system::System;
 use fb_types::{Library, Plan};
-use fb_why::place_in_deployment;
 use std::alloc::{AllocError, Global};
 
 /// A file, a line and a column, as editors take them.
@@ -53,14 +53,18 @@ fn place_of_link(
     naming: &Naming<'_, '_, '_>,
     deploy: Option<&[u8]>,
     link: usize,
+    at: Option<Place>,
 ) -> Result<String, AllocError>
-    ensures { IfOk result (λ text. IsLinkPlace (naming_of naming.now) (option_map (λ b. b.now) deploy.entry) link (string_bytes text) ⊎ (string_bytes text ≡ [])) }
+    requires { MayBePlaceOfLink (option_map (λ b. b.now) deploy) link at }
+    ensures { IfOk result (λ text. IsLinkPlace (naming_of naming.now) (option_map (λ b. b.now) deploy.entry) link (string_bytes text) ⊎ (HasNoLinkPlace (naming_of naming.now) (option_map (λ b. b.now) deploy.entry) link × (string_bytes text ≡ []))) }
 {
-    let (Some(name), Some(bytes)) = (naming.deploy, deploy) else {
+    let Some(name) = naming.deploy else {
         return Ok(String::new(alloc));
     };
-    let position = DeployPosition::Table(TableLocation::Link(link));
-    match place_in_deployment(bytes, position) {
+    if deploy.is_none() {
+        return Ok(String::new(alloc));
+    }
+    match at {
         Some(at) => place_text(alloc, name, at.line, at.column as u128),
         None => Ok(String::new(alloc)),
     }
@@ -74,20 +78,27 @@ fn place_of_row(
     row: usize,
     at: Option<Place>,
 ) -> Result<String, AllocError>
-    requires { IfSome at (IsPlaceOfRow (option_map (λ b. b.now) stimuli) row) }
-    ensures { IfOk result (λ text. IsRowPlace (naming_of naming.now) (option_map (λ b. b.now) stimuli.entry) row (string_bytes text) ⊎ (string_bytes text ≡ [])) }
+    requires { MayBePlaceInRows (option_map (λ b. b.now) stimuli) (in_stimuli.Row row) at }
+    ensures { IfOk result (λ text. IsRowPlace (naming_of naming.now) (option_map (λ b. b.now) stimuli.entry) row (string_bytes text) ⊎ (HasNoRowPlace (naming_of naming.now) (option_map (λ b. b.now) stimuli.entry) row × (string_bytes text ≡ []))) }
 {
-    match (naming.stimuli, stimuli, at) {
-        (Some(name), Some(_), Some(at)) => place_text(alloc, name, at.line, at.column as u128),
-        _ => Ok(String::new(alloc)),
+    let Some(name) = naming.stimuli else {
+        return Ok(String::new(alloc));
+    };
+    if stimuli.is_none() {
+        return Ok(String::new(alloc));
+    }
+    match at {
+        Some(at) => place_text(alloc, name, at.line, at.column as u128),
+        None => Ok(String::new(alloc)),
     }
 }
 
-/// Where a warning is: in the declaration, and in the stimuli.
+/// Where a warning is: in the declaration, in the stimuli, and in the deployment.
 #[derive(Clone, Copy)]
 pub struct WarningPlace {
     pub declared: Option<Place>,
     pub row: Option<Place>,
+    pub link: Option<Place>,
 }
 
 /// The text of the place of a warning: of its location in the declaration, for a link of its table in the deployment, or
@@ -99,11 +110,14 @@ fn place_of(
     warning: &Warning,
     at: WarningPlace,
 ) -> Result<String, AllocError>
-    requires { IsRowPlaceFor inputs.now.stimuli warning.now at.row }
+    requires row { IsRowPlaceFor inputs.now.stimuli warning.now at.row }
+    requires link { IsLinkPlaceFor inputs.now.deploy warning.now at.link }
     ensures { (library : Library) → IsPlaceFor inputs.now.declaration library (position_of warning.now) at.declared → IfOk result (λ text. IsPlace (naming_of naming.now) inputs.now library warning.now (string_bytes text)) }
 {
     match warning {
-        Warning::UnusedLink { link } => place_of_link(alloc, naming, inputs.deploy, *link),
+        Warning::UnusedLink { link } => {
+            place_of_link(alloc, naming, inputs.deploy, *link, at.link)
+        }
         Warning::EarlyStimulus { stimulus } => {
             place_of_row(alloc, naming, inputs.stimuli, *stimulus, at.row)
         }
@@ -139,6 +153,7 @@ fn push_line(
 ) -> Result<(), AllocError>
     requires declared { IsPlaceFor inputs.now.declaration library.now (position_of warning.now) at.declared }
     requires row { IsRowPlaceFor inputs.now.stimuli warning.now at.row }
+    requires link { IsLinkPlaceFor inputs.now.deploy warning.now at.link }
     ensures { IfOk result (λ _. IsAdded (naming_of naming.now) inputs.now library.now warning.now text.old.items text.new.items) }
 {
     let place = place_of(alloc, naming, inputs, warning, at)?;
@@ -191,8 +206,8 @@ pub struct Reported {
     pub is_denied: bool,
 }
 
-/// The lines of the warnings that are not left out, with their places in the texts of the declaration and of the
-/// stimuli, each of which is read again for all of them.
+/// The lines of the warnings that are not left out, with their places in the texts of the declaration, of the stimuli
+/// and of the deployment, each of which is read again for all of them.
 pub(crate) fn all_lines(
     alloc: Global,
     naming: &Naming<'_, '_, '_>,
@@ -209,6 +224,8 @@ pub(crate) fn all_lines(
     let places = places.as_slice();
     let rows = row_places(alloc, inputs.stimuli, warnings)?;
     let rows = rows.as_slice();
+    let links = link_places(alloc, inputs.deploy, warnings)?;
+    let links = links.as_slice();
     let mut lines = Vec::new(alloc);
     let mut has_denied = false;
     for index in 0..warnings.len() {
@@ -216,6 +233,7 @@ pub(crate) fn all_lines(
         let at = WarningPlace {
             declared: places[index],
             row: rows[index],
+            link: links[index],
         };
         if !is_left_out(naming, sorting, system, warning, at.declared) {
             has_denied |= is_denied(sorting, system, warning);

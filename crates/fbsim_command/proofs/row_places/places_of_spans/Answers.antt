@@ -17,7 +17,7 @@ loop-span-preserved c =
     record {
       earlier = c.place_counted_from-place.ensures.place;
       placed = places_next c.args.text.now c.args.spans.now k s c.loop-span.places.items c.push.new.self.items c.place_counted_from-place.result c.loop-span-test.true
-          (same-item c.args.spans.now k nothing s c.loop-span-test.true) c.loop-span.invariant.placed c.place_counted_from-place.ensures.place c.place_counted_from-place.ensures.there c.in_ok-push.ensures.items;
+          (same-item c.args.spans.now k nothing s c.loop-span-test.true) c.loop-span.invariant.placed c.place_counted_from-place.ensures.place c.place_counted_from-place.ensures.there c.place_counted_from-place.ensures.within c.in_ok-push.ensures.items;
     }
 
 pub returns : goal.returns

@@ -1,9 +1,9 @@
 use Rattle.fbsim_command.proofs.lemmas.Common.{ℕ, ◌<◌, ◌∙◌, ◌||◌, Bool, List, Option, ap, map, subst, sym, AllZip, Library, Given, naming_of}
 use Rattle.fb_lint.specs.Positions.{position_of}
 use Rattle.fb_read_positions.specs.Places.{IsPlaceFor}
-use Rattle.fbsim_command.specs.WarningLines.{IsRowPlaceFor}
+use Rattle.fbsim_command.specs.WarningLines.{IsLinkPlaceFor, IsRowPlaceFor}
 use Rattle.fbsim_command.proofs.lemmas.LeftOut.{sorted-all, sorted-left, sorted-next}
-use Rattle.fbsim_command.proofs.lemmas.files.PlacedLines.{as_many_places, as_many_rows, place_at_index, row_at_index}
+use Rattle.fbsim_command.proofs.lemmas.files.PlacedLines.{as_many_links, as_many_places, as_many_rows, link_at_index, place_at_index, row_at_index}
 use Rattle.fbsim_command.proofs.warning_lines.all_lines.Goals.{else-not-is_left_out, then-not-is_left_out+in_ok-push_line}
 use Rattle.fbsim_command.proofs.warning_lines.all_lines.Goals as goal
 
@@ -41,6 +41,22 @@ push_line-requires-clause-row c =
     rw c.as_slice-rows.ensures.value
     (subst (λ (t : Option (List ℕ)). AllZip (IsRowPlaceFor t) c.args.warnings.now c.in_ok-rows.rows.items) (ap (λ (g : Given). g.stimuli) c.inputs.view_is) c.in_ok-rows.ensures) in
     row_at_index stimuli c.args.warnings.now c.as_slice-rows.result.now c.loop-index.index _ _ all c.loop-index-test.true
+
+pub bounds-links-index : goal.bounds-links-index
+bounds-links-index c =
+    let deploy = c.args.inputs.now.deploy in
+    let all : AllZip (IsLinkPlaceFor deploy) c.args.warnings.now c.as_slice-links.result.now =
+    rw c.as_slice-links.ensures.value
+    (subst (λ (d : Option (List ℕ)). AllZip (IsLinkPlaceFor d) c.args.warnings.now c.in_ok-links.links.items) (ap (λ (g : Given). g.deploy) c.inputs.view_is) c.in_ok-links.ensures) in
+    subst (λ (k : ℕ). c.loop-index.index < k) (sym (as_many_links deploy c.args.warnings.now c.as_slice-links.result.now all)) c.loop-index-test.true
+
+pub push_line-requires-clause-link : goal.push_line-requires-clause-link
+push_line-requires-clause-link c =
+    let deploy = c.args.inputs.now.deploy in
+    let all : AllZip (IsLinkPlaceFor deploy) c.args.warnings.now c.as_slice-links.result.now =
+    rw c.as_slice-links.ensures.value
+    (subst (λ (d : Option (List ℕ)). AllZip (IsLinkPlaceFor d) c.args.warnings.now c.in_ok-links.links.items) (ap (λ (g : Given). g.deploy) c.inputs.view_is) c.in_ok-links.ensures) in
+    link_at_index deploy c.args.warnings.now c.as_slice-links.result.now c.loop-index.index _ _ all c.loop-index-test.true
 
 pub loop-index-preserved : goal.loop-index-preserved
 loop-index-preserved c =
