@@ -1,11 +1,11 @@
 -- What a call that inspects a trace does (docs/FORMATS.md, "Inside a trace"; this project's own).
-use Rattle.std.specs.Prelude.{◌≡◌, ◌⊎◌, ◌&&◌, ◌++◌, ◌∷◌, ℕ, Bool, true, false, List, All, map, Option, Some, None, IfOk, IfSome, Ok, Err, codes}
+use Rattle.std.specs.Prelude.{◌≡◌, ◌⊎◌, ◌&&◌, ◌++◌, ◌∷◌, ◌≤◌, ℕ, Bool, true, false, List, All, map, Option, Some, None, IfOk, IfSome, Ok, Err, codes}
 use Rattle.std.specs.Char.{to_ascii_uppercase}
 use Rattle.clap.specs.Words.{Text}
 use Rattle.fb_types.specs.Headline.{Inputs, system_of}
 use Rattle.fb_types.specs.OfSystem.{IsInstance, path_at}
 use Rattle.fb_types.specs.Text.{path_text}
-use Rattle.fb_inspect.specs.Inspections.{IsShownBy, ShowsRead}
+use Rattle.fb_inspect.specs.Inspections.{IsShownBy, ShowsBefore, ShowsRead, most}
 use Rattle.fb_inspect.specs.OfSystem.{IsNoInstance}
 use Rattle.fb_inspect.specs.Selections.{Selection}
 use Rattle.fb_inspect.specs.declared.filter.EventFilter.{EventFilter}
@@ -24,6 +24,7 @@ use Rattle.fbsim_command.specs.Texts.{may_be_cut}
 use Rattle.fbsim_command.specs.UnknownNames.{is_unknown, unknown_line}
 use Rattle.fbsim_command.specs.WrongLines.{IsRefusalIn}
 use Rattle.fbsim_command.specs.declared.failure.RefusalLine.{RefusalLine}
+use Rattle.fbsim_command.specs.declared.failure.RefusalLine.TheVariants.{Numbered, Syntax, Trace}
 use Rattle.fbsim_command.specs.declared.failure.Failure.TheVariants.{Refused, RefusedTrace, File, Write, Memory, Line, BadOption}
 use Rattle.fbsim_line.specs.declared.inspect_line.Inspect.{Inspect}
 use Rattle.fbsim_line.specs.declared.line.Task.{Task}
@@ -67,10 +68,17 @@ selection_of x = record { only = paths_of x; events = events_of x }
 abbrev pub InspectsFront : Given → Inspect → (trace : Held) → (old new : Held) → Type 0
 InspectsFront given x trace old new = (i : Inputs) × Declares given i × ShowsRead (system_of i) (selection_of x) x.steps trace old new
 
+-- Where a line is refused, what the writer got is shown alike of each trace that has the lines before it (`fb_inspect::laws`).
+abbrev pub IsShownBefore : Inputs → Inspect → (trace : Held) → (old new : Held) → RefusalLine → Type 0
+IsShownBefore i x trace old new (Trace line) = x.steps ≤ most → IfSome trace (λ text. ShowsBefore (system_of i) (selection_of x) line text old new)
+IsShownBefore i x trace old new (Numbered n) = Unit {0}
+IsShownBefore i x trace old new (Syntax line) = Unit {0}
+
 -- The inputs are accepted, the writer got such bytes, and the refusal is that of a line that is wrong, or of an unknown instance.
 abbrev pub RefusesInside : Given → Inspect → (trace : Held) → (old new : Held) → RefusalLine → Type 0
 RefusesInside given x trace old new refusal =
     (i : Inputs) × Declares given i × ShowsRead (system_of i) (selection_of x) x.steps trace old new × IsRefusalIn (cut_of x) i (selection_of x).only x.steps trace refusal
+    × IsShownBefore i x trace old new refusal
 
 -- a trace of what the inputs declare is read, of which these bytes are known, and it is written with what happens inside the blocks
 abbrev pub Inspects : Given → Inspect → (trace : Held) → (old new : Held) → End → Type 0

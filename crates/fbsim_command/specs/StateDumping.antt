@@ -1,10 +1,11 @@
 -- What a call for the waveforms of a trace with the inside of basic blocks does (docs/FORMATS.md, "Waveforms"; this project's own).
-use Rattle.std.specs.Prelude.{◌≡◌, ◌⊎◌, ℕ, IfSome, Ok, Err}
+use Rattle.std.specs.Prelude.{◌≡◌, ◌≤◌, ◌⊎◌, ℕ, IfSome, Ok, Err}
 use Rattle.fb_types.specs.Headline.{Inputs, system_of}
 use Rattle.fb_sim.specs.Given.{Given}
 use Rattle.fb_sim.specs.Serial.{Declares}
 use Rattle.fb_wave.specs.declared.truncation.Cut.{Cut}
-use Rattle.fb_inspect.specs.StateWaves.{IsShownWith, WritesRead}
+use Rattle.fb_inspect.specs.StateWaves.{IsShownWith, WritesBefore, WritesRead}
+use Rattle.fb_inspect.specs.walk.Looks.{most}
 use Rattle.fbsim_command.specs.Outcomes.{End, Held, IsRefused}
 use Rattle.fbsim_command.specs.WrongLines.{IsWrongIn}
 use Rattle.fbsim_command.specs.declared.failure.RefusalLine.{RefusalLine}
@@ -17,10 +18,12 @@ use Rattle.fbsim_command.specs.declared.statuses.Done.TheVariants.{Helped, Expla
 abbrev pub StatesFront : Given → (steps : ℕ) → (trace : Held) → (old new : Held) → Type 0
 StatesFront given steps trace old new = (i : Inputs) × Declares given i × WritesRead (system_of i) steps trace old new
 
--- The inputs are accepted, the writer got such bytes, and the refusal is that of a line that is wrong.
+-- The inputs are accepted, the writer got such bytes, and the refusal is that of a line that is wrong. What the writer got begins the
+-- dump of each trace that has the lines before it (`fb_inspect::laws`).
 abbrev pub RefusesStates : Cut → Given → (steps : ℕ) → (trace : Held) → (old new : Held) → RefusalLine → Type 0
 RefusesStates may given steps trace old new refusal =
-    (i : Inputs) × Declares given i × WritesRead (system_of i) steps trace old new × ((line : ℕ) × (refusal ≡ Trace line) × IsWrongIn may i steps trace line)
+    (i : Inputs) × Declares given i × WritesRead (system_of i) steps trace old new × ((line : ℕ) × (refusal ≡ Trace line) × IsWrongIn may i steps trace line
+    × (steps ≤ most → IfSome trace (λ text. WritesBefore (system_of i) line text old new)))
 
 -- a trace of what the inputs declare is read, of which these bytes are known, and its dump is written with the inside of basic blocks
 abbrev pub DumpsStates : Cut → (steps : ℕ) → Given → (trace : Held) → (old new : Held) → End → Type 0

@@ -1,8 +1,9 @@
 //! What happens inside the blocks of a trace.
 
-ghost use Rattle.std.specs.Prelude.{◌≡◌, IfErr, IfOk, IfSome, OnErr, OnOk, map};
-ghost use Rattle.fb_inspect.specs.OfSystem.{IsPathFault, IsShownBy, ShowsRead};
+ghost use Rattle.std.specs.Prelude.{◌≡◌, ◌≤◌, IfErr, IfOk, IfSome, OnErr, OnOk, map};
+ghost use Rattle.fb_inspect.specs.OfSystem.{IsPathFault, IsShownBy, ShowsBefore, ShowsRead};
 ghost use Rattle.fb_inspect.specs.Refusals.{OfRefusal};
+ghost use Rattle.fb_inspect.specs.walk.Looks.{most};
 ghost use Rattle.fb_inspect.specs.declared.error.InspectError.TheVariants as error;
 ghost use Rattle.fb_wave.specs.OfSystem.{HasNames};
 ghost use Rattle.fbsim_command.specs.WrongLines.{IsWrongIn};
@@ -75,6 +76,7 @@ fn go<R: BufRead, W: Write>(
     ensures whole { OnOk result (IfSome (R.remaining trace.old) (λ text. IsShownBy (cut_of inspect.now) system.now (selection_of inspect.now) inspect.now.steps text (W.contents out.old) (W.contents out.new))) }
     ensures fault { OnErr result (ShowsRead system.now (selection_of inspect.now) inspect.now.steps (R.remaining trace.old) (W.contents out.old) (W.contents out.new)) }
     ensures refused { IfErr result (OfRefusal (IsWrongIn (cut_of inspect.now) system.now inspect.now.steps (R.remaining trace.old))) }
+    ensures before { IfErr result (OfRefusal (λ line. inspect.now.steps ≤ most → IfSome (R.remaining trace.old) (λ text. ShowsBefore system.now (selection_of inspect.now) line text (W.contents out.old) (W.contents out.new)))) }
     ensures names { IfErr result (λ e. e ≡ error.Names → ⊥) }
     ensures paths { IfErr result (IsPathFault system.now (selection_of inspect.now).only) }
     ensures found { IfErr result (OfRefusal (λ line. IsFoundAt system.now inspect.now.steps (R.remaining trace.old) line refused.new)) }

@@ -1,6 +1,6 @@
-use Rattle.fbsim_command.proofs.lemmas.Common.{◌≡◌, ◌≤◌, Bor, List, map, subst, ap, ◌∙◌, IfErr, IfSome, OnErr, OnOk, system_of, Cut, IsWrongIn}
+use Rattle.fbsim_command.proofs.lemmas.Common.{◌≡◌, ◌≤◌, Bor, List, map, subst, ap, ◌∙◌, IfErr, IfSome, OnErr, OnOk, system_of, Cut, IsWrongIn, OfRefusal}
 use Rattle.clap.specs.Words.{Text}
-use Rattle.fb_inspect.specs.Inspections.{IsShownBy, ShowsRead}
+use Rattle.fb_inspect.specs.Inspections.{IsShownBy, ShowsBefore, ShowsRead}
 use Rattle.fb_inspect.specs.Selections.{Selection}
 use Rattle.fb_inspect.specs.declared.filter.EventFilter.{EventFilter}
 use Rattle.fb_inspect.proofs.lemmas.walk.Ended.{front_none}
@@ -86,3 +86,22 @@ returns-clause-found g c =
     found-so (HasNames sys) (x.steps ≤ most)
     (λ n. IfSome (g.R.Read.remaining c.args.trace.now) (IsWrongFor c.args.system.now x.steps (record { number = n; finding = r.finding }) r.current.text.items)) c.inspect.result c.requires
     c.inspect.ensures.found
+
+pub returns-in_err-only-clause-before : goal.returns-in_err-only-clause-before
+returns-in_err-only-clause-before g c =
+    let x = c.args.inspect.now in
+    let out = g.W.Write.contents c.args.out.now in
+    no_refusal c.from_residual.result
+    (λ line. x.steps ≤ most → IfSome (g.R.Read.remaining c.args.trace.now) (λ text. ShowsBefore (system_of c.args.system.now) (selection_of x) line text out out)) c.from_residual.ensures.1
+
+pub returns-clause-before : goal.returns-clause-before
+returns-clause-before g c =
+    let sys = system_of c.args.system.now in
+    let x = c.args.inspect.now in
+    let trace = g.R.Read.remaining c.args.trace.now in
+    let old = g.W.Write.contents c.args.out.now in
+    let new = g.W.Write.contents c.inspect.new.out in
+    subst (λ (what : Selection). IfErr c.inspect.result (OfRefusal (λ line. x.steps ≤ most → IfSome trace (λ text. ShowsBefore sys what line text old new))))
+    (selects (c.as_slice-2.ensures.value ∙ c.in_ok-only.ensures ∙ ap uppers c.as_slice.ensures.value) c.filter_of.ensures)
+    (found-so (HasNames sys) (x.steps ≤ most)
+    (λ line. IfSome trace (λ text. ShowsBefore sys (record { only = c.as_slice-2.result.now; events = c.filter_of.result }) line text old new)) c.inspect.result c.requires c.inspect.ensures.before)

@@ -1,5 +1,6 @@
-use Rattle.fbsim_command.proofs.lemmas.Common.{◌≡◌, noted_of, subst, IfErr, IfSome, OnErr, OnOk, system_of, OfRefusal, IsWrongIn}
-use Rattle.fb_inspect.specs.Inspections.{IsShownBy, ShowsRead}
+use Rattle.fbsim_command.proofs.lemmas.Common.{◌≡◌, ◌≤◌, noted_of, subst, IfErr, IfSome, OnErr, OnOk, system_of, OfRefusal, IsWrongIn}
+use Rattle.fb_inspect.specs.Inspections.{IsShownBy, ShowsBefore, ShowsRead}
+use Rattle.fb_inspect.specs.walk.Looks.{most}
 use Rattle.fb_inspect.specs.Refusals.{IsPathFault}
 use Rattle.fb_inspect.specs.declared.error.InspectError.TheVariants as inspection
 use Rattle.fbsim_command.specs.Inspecting.{Inspects, cut_of, selection_of}
@@ -49,6 +50,7 @@ returns-clause-inspected g c =
     (subst (λ r. OnErr r (ShowsRead sys (selection_of x) x.steps trace old new)) c.in-Err-gone.is c.go-gone.ensures.fault)
     (subst (λ r. IfErr r (OfRefusal (IsWrongIn (cut_of x) c.in-Ok.system x.steps trace))) c.in-Err-gone.is c.go-gone.ensures.refused)
     (subst (λ r. IfErr r (IsPathFault sys (selection_of x).only)) c.in-Err-gone.is c.go-gone.ensures.paths)
+    (subst (λ r. IfErr r (OfRefusal (λ n. x.steps ≤ most → IfSome trace (λ text. ShowsBefore sys (selection_of x) n text old new)))) c.in-Err-gone.is c.go-gone.ensures.before)
 
 pub returns-clause-noted : goal.returns-clause-noted
 returns-clause-noted g c =

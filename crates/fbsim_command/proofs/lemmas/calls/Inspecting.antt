@@ -10,7 +10,7 @@ use Rattle.fb_wave.specs.CutOff.{IsUncut}
 use Rattle.fb_wave.specs.Named.{HasNames}
 use Rattle.fb_wave.specs.declared.truncation.Cut.{Cut}
 use Rattle.fb_wave.specs.declared.truncation.Cut.TheVariants as cut
-use Rattle.fb_inspect.specs.Inspections.{ShowsRead}
+use Rattle.fb_inspect.specs.Inspections.{ShowsBefore, ShowsRead}
 use Rattle.fb_inspect.specs.OfSystem.{Applies, CanGoOn, fault_text, finding_text}
 use Rattle.fb_inspect.specs.declared.refused.finding.RefusedLine.{RefusedLine}
 use Rattle.fb_inspect.specs.declared.refused.line_fault.LineFault.{LineFault}
@@ -44,19 +44,21 @@ inspects_none given x trace old BadOption is = absurd is
 -- a beginning is written where the trace is refused, or where reading it, writing or memory fails
 pub inspects_front :
     (given : Given) (x : Inspect) (trace old new : Held) (i : Inputs) → Declares given i → (e : InspectError) (f : Failure) → IsInspectionFailure e f
-    → ShowsRead (system_of i) (selection_of x) x.steps trace old new → OfRefusal (IsWrongIn (cut_of x) i x.steps trace) e → IsPathFault (system_of i) (selection_of x).only e → Inspects given x trace old new (Err f)
-inspects_front given x trace old new i is e f reported front wrong unknown = by e reported wrong unknown
+    → ShowsRead (system_of i) (selection_of x) x.steps trace old new → OfRefusal (IsWrongIn (cut_of x) i x.steps trace) e → IsPathFault (system_of i) (selection_of x).only e
+    → OfRefusal (λ n. x.steps ≤ most → IfSome trace (λ text. ShowsBefore (system_of i) (selection_of x) n text old new)) e → Inspects given x trace old new (Err f)
+inspects_front given x trace old new i is e f reported front wrong unknown before = by e reported wrong unknown before
   where
     to : (g : Failure) → f ≡ g → Inspects given x trace old new (Err g) → Inspects given x trace old new (Err f)
     to g same it = subst (λ (h : Failure). Inspects given x trace old new (Err h)) (sym same) it
 
-    by : (e : InspectError) → IsInspectionFailure e f → OfRefusal (IsWrongIn (cut_of x) i x.steps trace) e → IsPathFault (system_of i) (selection_of x).only e → Inspects given x trace old new (Err f)
-    by (inspection.Refused line) reported wrong unknown = to (Refused (Trace line)) reported (inr (i, is, front, wrong))
-    by inspection.Names reported wrong unknown = absurd reported
-    by inspection.Unknown reported wrong unknown = to (Refused (Numbered 21)) reported (inr (i, is, front, (refl, unknown refl)))
-    by inspection.Memory reported wrong unknown = to Memory reported (inr (i, is, front))
-    by inspection.Read reported wrong unknown = to File reported (i, is, front)
-    by (inspection.Write n) reported wrong unknown = to (Write n) reported (i, is, front)
+    by : (e : InspectError) → IsInspectionFailure e f → OfRefusal (IsWrongIn (cut_of x) i x.steps trace) e → IsPathFault (system_of i) (selection_of x).only e
+        → OfRefusal (λ n. x.steps ≤ most → IfSome trace (λ text. ShowsBefore (system_of i) (selection_of x) n text old new)) e → Inspects given x trace old new (Err f)
+    by (inspection.Refused line) reported wrong unknown before = to (Refused (Trace line)) reported (inr (i, is, front, wrong, before))
+    by inspection.Names reported wrong unknown before = absurd reported
+    by inspection.Unknown reported wrong unknown before = to (Refused (Numbered 21)) reported (inr (i, is, front, (refl, unknown refl), tt))
+    by inspection.Memory reported wrong unknown before = to Memory reported (inr (i, is, front))
+    by inspection.Read reported wrong unknown before = to File reported (i, is, front)
+    by (inspection.Write n) reported wrong unknown before = to (Write n) reported (i, is, front)
 
 -- ---- Names and lines
 

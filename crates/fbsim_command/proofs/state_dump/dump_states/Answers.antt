@@ -6,7 +6,7 @@ use Rattle.fb_inspect.specs.OfSystem.{IsWrongFor}
 use Rattle.fb_inspect.specs.Refusals.{IsWrongAt}
 use Rattle.fb_inspect.specs.walk.Looks.{most}
 use Rattle.fb_inspect.specs.declared.error.InspectError.TheVariants as inspection
-use Rattle.fb_inspect.specs.StateWaves.{IsShownWith, WritesRead}
+use Rattle.fb_inspect.specs.StateWaves.{IsShownWith, WritesBefore, WritesRead}
 use Rattle.fbsim_command.specs.StateDumping.{DumpsStates}
 use Rattle.fbsim_command.proofs.lemmas.calls.Inspecting.{no_names, wrong_so}
 use Rattle.fbsim_command.proofs.lemmas.calls.StateWaveCalls.{states_front, states_none}
@@ -59,6 +59,8 @@ returns-clause-dumped g c =
     (wrong_so (HasNames sys) (t.steps ≤ most) (t.cut ≡ cut.Allowed) (λ n. IfSome trace (IsWrongAt sys t.steps n)) (λ n. IfSome trace (IsUncut sys n)) c.write_states-gone.result names
     c.write_states-gone.ensures.refused c.write_states-gone.ensures.uncut))
     (subst (λ r. IfErr r (λ e. e ≡ inspection.Unknown → ⊥)) c.in-Err-gone.is c.write_states-gone.ensures.paths)
+    (subst (λ r. IfErr r (OfRefusal (λ n. t.steps ≤ most → IfSome trace (λ text. WritesBefore sys n text old new)))) c.in-Err-gone.is
+    (found-so (HasNames sys) (t.steps ≤ most) (λ n. IfSome trace (λ text. WritesBefore sys n text old new)) c.write_states-gone.result names c.write_states-gone.ensures.before))
 
 pub returns-clause-noted : goal.returns-clause-noted
 returns-clause-noted g c =
