@@ -84,6 +84,13 @@ class Copy(planter.Copy):
         return MEETS.sub(r"\1proved over ", ran.stdout) if ran.returncode >= 0 else None
 
 
+class Whole(Trial):
+    """A crate with holes from which no function is left out, since any may be planted in."""
+
+    def unneeded(self, texts, holes):
+        return []
+
+
 def read_places(source, room):
     """Has the functions of a source, which were read where they have their bodies, stand at their places in a copy with holes."""
     there = Source(room)
@@ -126,7 +133,7 @@ def main(name, *flags):
             source.add_library(library, f"{rlib}/lang")
     planted, bare = chosen(crate, source, sources, "--private" in flags)
     with tempfile.TemporaryDirectory(prefix="planted-") as room:
-        Trial(crate, sources, []).write(room, has_holes=True)
+        Whole(crate, sources, []).write(room, has_holes=True)
         read_places(source, room)
         plants = planter.plant(crate, Copy(crate, source, room), planted, planted, sys.maxsize)
     for it in sorted(plants, key=lambda it: (planter.KINDS.index(it.kind), it.f.shown)):
