@@ -1,5 +1,5 @@
 -- What a call that reports what traces cover does (docs/FORMATS.md, "What traces cover"; this project's own).
-use Rattle.std.specs.Prelude.{◌≡◌, ◌⊎◌, ℕ, ◌+◌, Bool, true, false, nat_eq, nat_lt, if◌then◌else◌, List, [], ◌∷◌, ◌++◌, length, map, Option, Some, None, IfOk, IfSome, IsTrue, Ok, Err, codes, decimal, string_bytes}
+use Rattle.std.specs.Prelude.{◌≡◌, ◌⊎◌, ℕ, ◌+◌, Bool, true, false, nat_eq, nat_lt, if◌then◌else◌, List, [], ◌∷◌, ◌++◌, length, map, Option, Some, None, IfOk, IfSome, Ok, Err, codes, decimal, string_bytes}
 use Rattle.std.specs.Io.KnownBytes.{Appends}
 use Rattle.clap.specs.Words.{Text}
 use Rattle.fb_types.specs.Headline.{Inputs, system_of}
@@ -10,6 +10,7 @@ use Rattle.fb_coverage.specs.declared.marks.Marks.{Marks}
 use Rattle.fb_inspect.specs.Covering.{Covers}
 use Rattle.fb_inspect.specs.declared.error.InspectError.{InspectError}
 use Rattle.fb_inspect.specs.declared.error.InspectError.TheVariants as inspection
+use Rattle.fb_inspect.specs.declared.refused.finding.RefusedLine.{RefusedLine}
 use Rattle.fb_inspect.specs.declared.walk.Extent.{Extent}
 use Rattle.fb_inspect.specs.declared.walk.Extent.TheVariants.{Whole, CutOff}
 use Rattle.fb_wave.specs.declared.truncation.Cut.{Cut}
@@ -17,8 +18,8 @@ use Rattle.fb_sim.specs.Given.{Given}
 use Rattle.fb_sim.specs.Serial.{Declares}
 use Rattle.fbsim_command.specs.Expecting.{IsNoTrace}
 use Rattle.fbsim_command.specs.Failures.{IsPartWritten, failure_of_source, refused_trace}
-use Rattle.fbsim_command.specs.InsideNotes.{SaysLine}
-use Rattle.fbsim_command.specs.Notes.{IsFirstOf, IsNoteOfName, Noted, NotesInput, NotesOf, rest_note}
+use Rattle.fbsim_command.specs.InsideNotes.{IsFoundAt, SaysInside}
+use Rattle.fbsim_command.specs.Notes.{Follows, IsUnnoted, Noted, Notes, NotesEnd, NotesInput, NotesOf}
 use Rattle.fbsim_command.specs.Outcomes.{End, Held, IsRefused}
 use Rattle.fbsim_command.specs.OwnLines.{EndsIn}
 use Rattle.fbsim_command.specs.Reading.{Reading, AreRead, IsUnread, checked}
@@ -30,7 +31,6 @@ use Rattle.fbsim_command.specs.Shown.{shown_name}
 use Rattle.fbsim_command.specs.declared.coverage.Gleaned.{Gleaned}
 use Rattle.fbsim_command.specs.declared.failure.Failure.{Failure}
 use Rattle.fbsim_command.specs.declared.failure.Failure.TheVariants.{Refused, RefusedTrace, File, Write, Memory, Line, BadOption}
-use Rattle.fbsim_command.specs.declared.failure.RefusalLine.{RefusalLine}
 use Rattle.fbsim_command.specs.declared.failure.RefusalLine.TheVariants.{Trace}
 use Rattle.fbsim_line.specs.declared.line.Task.{Task}
 use Rattle.fbsim_command.specs.declared.sources.SourceFault.{SourceFault}
@@ -124,26 +124,47 @@ IsTraceFailure is_named name (inspection.Write n) failure = failure ≡ Memory
 IsTraceFailure is_named name inspection.Names failure = ⊥
 IsTraceFailure is_named name inspection.Unknown failure = ⊥
 
--- A trace is opened, and refused for a line that is wrong.
-pub record RefusesOne {S : Type 0} (opens : Opening S) (wrong : Held → ℕ → Type 0) (is_named : Bool) (name : Text) (from to : S) (failure : Failure) : Type 0 where
+-- how the note to a line begins, which names the trace where there are several
+abbrev pub note_front : (is_named : Bool) → (name : Text) → Text
+note_front true name = codes "trace " ++ shown_name name
+note_front false name = codes "trace"
+
+-- What is said of a line at which a trace of this name is refused: there is a note where one is asked for, unless no words say what is
+-- wrong with the line.
+abbrev pub NotesRefusal : Inputs → Coverage → (name : Text) → (trace : Held) → (line : ℕ) → Noted → Type 0
+NotesRefusal i x name trace line note =
+    IfOk note (Notes x.why (λ n. (r : RefusedLine) × IsFoundAt i x.steps trace line r × SaysInside i r (note_front (are_several x) name) line n))
+
+-- A trace is opened, and refused for a line that is wrong, and the note is one to this line.
+pub record RefusesOne {S : Type 0} (opens : Opening S) (i : Inputs) (x : Coverage) (name : Text) (from to : S) (note : Noted) (failure : Failure) : Type 0 where
   pub trace : Held
   pub opened : opens from name (Ok trace) to
   pub line : ℕ
-  pub is_wrong : wrong trace line
-  pub reported : RefusesAt is_named name line failure
+  pub is_wrong : IsWrongIn (cut_of x) i x.steps trace line
+  pub reported : RefusesAt (are_several x) name line failure
+  pub noted : NotesRefusal i x name trace line note
 
--- a trace is not gone through, by the failure
-abbrev pub IsStopped : {S : Type 0} → Opening S → (wrong : Held → ℕ → Type 0) → (is_named : Bool) → (name : Text) → (from to : S) → Failure → Type 0
-IsStopped opens wrong is_named name from to (Refused refusal) = RefusesOne opens wrong is_named name from to (Refused refusal)
-IsStopped opens wrong is_named name from to (RefusedTrace text) = RefusesOne opens wrong is_named name from to (RefusedTrace text)
-IsStopped opens wrong is_named name from to File = IsNoTrace opens from to name
-IsStopped opens wrong is_named name from to Memory = Unit {0}
-IsStopped opens wrong is_named name from to (Write n) = ⊥
-IsStopped opens wrong is_named name from to (Line message) = ⊥
-IsStopped opens wrong is_named name from to BadOption = ⊥
+-- the note to a trace that is opened and not gone through, by the error, and by what was found at the line at which it is refused
+abbrev pub NotesWalk : Inputs → Coverage → (name : Text) → RefusedLine → InspectError → Noted → Type 0
+NotesWalk i x name r (inspection.Refused line) note = IfOk note (Notes x.why (SaysInside i r (note_front (are_several x) name) line))
+NotesWalk i x name r inspection.Read note = IfOk note (NotesEnd x.why name)
+NotesWalk i x name r inspection.Memory note = IsUnnoted note
+NotesWalk i x name r (inspection.Write n) note = IsUnnoted note
+NotesWalk i x name r inspection.Names note = IsUnnoted note
+NotesWalk i x name r inspection.Unknown note = IsUnnoted note
+
+-- A trace is not gone through, by the failure. Where memory ran out, nothing is noted, or a line of the trace was refused before.
+abbrev pub IsStopped : {S : Type 0} → Opening S → Inputs → Coverage → (name : Text) → (from to : S) → Noted → Failure → Type 0
+IsStopped opens i x name from to note (Refused refusal) = RefusesOne opens i x name from to note (Refused refusal)
+IsStopped opens i x name from to note (RefusedTrace text) = RefusesOne opens i x name from to note (RefusedTrace text)
+IsStopped opens i x name from to note File = IsNoTrace opens x.why from to name note
+IsStopped opens i x name from to note Memory = IsUnnoted note ⊎ RefusesOne opens i x name from to note Memory
+IsStopped opens i x name from to note (Write n) = ⊥
+IsStopped opens i x name from to note (Line message) = ⊥
+IsStopped opens i x name from to note BadOption = ⊥
 
 -- Those before a trace are gone through, and it is not.
-pub record StopsAt {S : Type 0} (opens : Opening S) (i : Inputs) (x : Coverage) (from to : S) (failure : Failure) : Type 0 where
+pub record StopsAt {S : Type 0} (opens : Opening S) (i : Inputs) (x : Coverage) (from to : S) (note : Noted) (failure : Failure) : Type 0 where
   pub before : List Text
   pub name : Text
   pub following : List Text
@@ -153,31 +174,31 @@ pub record StopsAt {S : Type 0} (opens : Opening S) (i : Inputs) (x : Coverage) 
   pub is_first : IsFirst i first
   pub gleaned : Gleaned
   pub gone : GoThrough opens i x before from between first gleaned
-  pub stopped : IsStopped opens (IsWrongIn (cut_of x) i x.steps) (are_several x) name between to failure
+  pub stopped : IsStopped opens i x name between to note failure
 
 -- one of the traces is not, by the failure
-abbrev pub AreStopped : {S : Type 0} → Opening S → Inputs → Coverage → (from to : S) → Failure → Type 0
-AreStopped opens i x from to (Refused refusal) = StopsAt opens i x from to (Refused refusal)
-AreStopped opens i x from to (RefusedTrace text) = StopsAt opens i x from to (RefusedTrace text)
-AreStopped opens i x from to File = StopsAt opens i x from to File
-AreStopped opens i x from to Memory = Unit {0}
-AreStopped opens i x from to (Write n) = ⊥
-AreStopped opens i x from to (Line message) = ⊥
-AreStopped opens i x from to BadOption = ⊥
+abbrev pub AreStopped : {S : Type 0} → Opening S → Inputs → Coverage → (from to : S) → Noted → Failure → Type 0
+AreStopped opens i x from to note (Refused refusal) = StopsAt opens i x from to note (Refused refusal)
+AreStopped opens i x from to note (RefusedTrace text) = StopsAt opens i x from to note (RefusedTrace text)
+AreStopped opens i x from to note File = StopsAt opens i x from to note File
+AreStopped opens i x from to note Memory = IsUnnoted note ⊎ StopsAt opens i x from to note Memory
+AreStopped opens i x from to note (Write n) = ⊥
+AreStopped opens i x from to note (Line message) = ⊥
+AreStopped opens i x from to note BadOption = ⊥
 
 -- the inputs are accepted, and one of the traces is not gone through
-abbrev pub MayStop : {S : Type 0} → Opening S → Given → Coverage → (from to : S) → Failure → Type 0
-MayStop opens given x from to failure = (i : Inputs) × Declares given i × AreStopped opens i x from to failure
+abbrev pub MayStop : {S : Type 0} → Opening S → Given → Coverage → (from to : S) → Noted → Failure → Type 0
+MayStop opens given x from to note failure = (i : Inputs) × Declares given i × AreStopped opens i x from to note failure
 
 -- nothing is reported: the inputs are refused, as a check refuses them, or a trace is not gone through, or memory ran out
-abbrev pub IsUnreported : {S : Type 0} → Opening S → Given → Coverage → (from to : S) → Failure → Type 0
-IsUnreported opens given x from to (Refused refusal) = (IsRefused given refusal × (to ≡ from)) ⊎ MayStop opens given x from to (Refused refusal)
-IsUnreported opens given x from to (RefusedTrace text) = MayStop opens given x from to (RefusedTrace text)
-IsUnreported opens given x from to File = MayStop opens given x from to File
-IsUnreported opens given x from to Memory = Unit {0}
-IsUnreported opens given x from to (Write n) = ⊥
-IsUnreported opens given x from to (Line message) = ⊥
-IsUnreported opens given x from to BadOption = ⊥
+abbrev pub IsUnreported : {S : Type 0} → Opening S → Given → Coverage → (from to : S) → Noted → Failure → Type 0
+IsUnreported opens given x from to note (Refused refusal) = (IsRefused given refusal × (to ≡ from) × IsUnnoted note) ⊎ MayStop opens given x from to note (Refused refusal)
+IsUnreported opens given x from to note (RefusedTrace text) = MayStop opens given x from to note (RefusedTrace text)
+IsUnreported opens given x from to note File = MayStop opens given x from to note File
+IsUnreported opens given x from to note Memory = IsUnnoted note ⊎ MayStop opens given x from to note Memory
+IsUnreported opens given x from to note (Write n) = ⊥
+IsUnreported opens given x from to note (Line message) = ⊥
+IsUnreported opens given x from to note BadOption = ⊥
 
 -- ---- What is written
 
@@ -186,58 +207,39 @@ abbrev pub covered_by : Bool → Done
 covered_by true = Unmet
 covered_by false = Shown
 
-abbrev pub WritesReport : {S : Type 0} → Opening S → Given → Coverage → (from to : S) → (old new : Held) → End → Type 0
-WritesReport opens given x from to old new (Ok Shown) = (text : Text) × IsReport opens given x from to text false × Appends old new text
-WritesReport opens given x from to old new (Ok Helped) = ⊥
-WritesReport opens given x from to old new (Ok Explained) = ⊥
-WritesReport opens given x from to old new (Ok Accepted) = ⊥
-WritesReport opens given x from to old new (Ok Ended) = ⊥
-WritesReport opens given x from to old new (Ok Stopped) = ⊥
-WritesReport opens given x from to old new (Ok Met) = ⊥
-WritesReport opens given x from to old new (Ok Unmet) = (text : Text) × IsReport opens given x from to text true × Appends old new text
-WritesReport opens given x from to old new (Ok Same) = ⊥
-WritesReport opens given x from to old new (Ok Different) = ⊥
-WritesReport opens given x from to old new (Err (Write n)) = (text : Text) × (less : Bool) × IsReport opens given x from to text less × IsPartWritten old new text n
-WritesReport opens given x from to old new (Err (Refused refusal)) = IsUnreported opens given x from to (Refused refusal) × (new ≡ old)
-WritesReport opens given x from to old new (Err (RefusedTrace text)) = IsUnreported opens given x from to (RefusedTrace text) × (new ≡ old)
-WritesReport opens given x from to old new (Err File) = IsUnreported opens given x from to File × (new ≡ old)
-WritesReport opens given x from to old new (Err Memory) = new ≡ old
-WritesReport opens given x from to old new (Err (Line message)) = ⊥
-WritesReport opens given x from to old new (Err BadOption) = ⊥
-
--- ---- Notes
-
--- how the note to a line begins, which names the trace where there are several
-abbrev pub note_front : (is_named : Bool) → (name : Text) → Text
-note_front true name = codes "trace " ++ shown_name name
-note_front false name = codes "trace"
-
--- the note of a trace that is refused at a line, that is not opened, or that can't be read to its end
-abbrev pub IsTraceNote : Coverage → (name note : Text) → Type 0
-IsTraceNote x name note =
-    ((line : ℕ) × SaysLine (note_front (are_several x) name) line note) ⊎ ((fault : SourceFault) × IsNoteOfName (codes "trace") name fault note) ⊎ (note ≡ rest_note (codes "trace") name)
-
--- A note is given only where one is asked for, and then it is one to a trace.
-abbrev pub NotesTrace : Coverage → Option Text → Type 0
-NotesTrace x note = IfSome note (λ n. IsTrue x.why × ((name : Text) × IsTraceNote x name n))
-
--- There is such a note where one is asked for and the file of a trace fails.
-abbrev pub NotesTraces : Coverage → End → Option Text → Type 0
-NotesTraces x end None = IsTrue x.why → end ≡ Err File → ⊥
-NotesTraces x end (Some note) = NotesTrace x (Some note)
+-- The report is written, or nothing is. The note is one to a trace.
+abbrev pub WritesReport : {S : Type 0} → Opening S → Given → Coverage → (from to : S) → (old new : Held) → Noted → End → Type 0
+WritesReport opens given x from to old new note (Ok Shown) = (text : Text) × IsReport opens given x from to text false × Appends old new text × IsUnnoted note
+WritesReport opens given x from to old new note (Ok Helped) = ⊥
+WritesReport opens given x from to old new note (Ok Explained) = ⊥
+WritesReport opens given x from to old new note (Ok Accepted) = ⊥
+WritesReport opens given x from to old new note (Ok Ended) = ⊥
+WritesReport opens given x from to old new note (Ok Stopped) = ⊥
+WritesReport opens given x from to old new note (Ok Met) = ⊥
+WritesReport opens given x from to old new note (Ok Unmet) = (text : Text) × IsReport opens given x from to text true × Appends old new text × IsUnnoted note
+WritesReport opens given x from to old new note (Ok Same) = ⊥
+WritesReport opens given x from to old new note (Ok Different) = ⊥
+WritesReport opens given x from to old new note (Err (Write n)) = (text : Text) × (less : Bool) × IsReport opens given x from to text less × IsPartWritten old new text n × IsUnnoted note
+WritesReport opens given x from to old new note (Err (Refused refusal)) = IsUnreported opens given x from to note (Refused refusal) × (new ≡ old)
+WritesReport opens given x from to old new note (Err (RefusedTrace text)) = IsUnreported opens given x from to note (RefusedTrace text) × (new ≡ old)
+WritesReport opens given x from to old new note (Err File) = IsUnreported opens given x from to note File × (new ≡ old)
+WritesReport opens given x from to old new note (Err Memory) = IsUnreported opens given x from to note Memory × (new ≡ old)
+WritesReport opens given x from to old new note (Err (Line message)) = ⊥
+WritesReport opens given x from to old new note (Err BadOption) = ⊥
 
 -- ---- What is read
 
 -- All is read that traces are of, and what they cover is reported. A syntax fault is one of the file that has it.
--- A note is that of a check, or of a trace.
+-- The note is one to a trace, or else that of a check.
 pub record IsReadAndReported {S : Type 0} (reads : Reading S) (opens : Opening S) (from to : S) (types : List Text) (x : Coverage) (old new : Held) (end : End) (note : Noted) : Type 0 where
   pub lines : List FileLines
   pub given : Given
   pub between : S
   pub read : AreRead reads types (files_of x) from between lines given
   pub inner : End
-  pub done : WritesReport opens given x between to old new inner
-  pub noted : IfOk note (IsFirstOf (NotesTraces x inner) (NotesOf types (files_of x) lines given inner))
+  pub of_trace : Noted
+  pub done : WritesReport opens given x between to old new of_trace inner
+  pub noted : Follows of_trace (NotesOf types (files_of x) lines given inner) note
   pub ends : EndsIn types x.declaration.now lines inner end
 
 -- A file is not read.

@@ -1,5 +1,5 @@
 -- What a call that holds rules against traces does (docs/FORMATS.md, "Rules over traces"; this project's own).
-use Rattle.std.specs.Prelude.{option_map, ◌≡◌, ◌⊎◌, ℕ, ◌+◌, ◌*◌, ◌<◌, ◌≤◌, Bool, true, false, if◌then◌else◌, nat_lt, List, [], ◌∷◌, ◌++◌, length, map, IsTrue, Option, Some, None, IfOk, IfSome, Ok, Err, codes, decimal, string_bytes}
+use Rattle.std.specs.Prelude.{option_map, ◌≡◌, ◌⊎◌, ℕ, ◌+◌, ◌*◌, ◌<◌, ◌≤◌, Bool, true, false, if◌then◌else◌, nat_lt, List, [], ◌∷◌, ◌++◌, length, map, Option, Some, None, IfOk, IfSome, Ok, Err, codes, string_bytes}
 use Rattle.std.specs.Borrow.{Bor}
 use Rattle.std.specs.List.{list_all}
 use Rattle.std.specs.Io.KnownBytes.{Appends}
@@ -25,7 +25,7 @@ use Rattle.fbsim_command.specs.Failures.{IsPartWritten, failure_of_source, refus
 use Rattle.fbsim_command.specs.Known.{IsUnknownAt, has_names}
 use Rattle.fb_why.specs.Findings.{IsSilent}
 use Rattle.fbsim_command.specs.InputNotes.{FileNames}
-use Rattle.fbsim_command.specs.Notes.{IsFirstOf, IsNoteOfName, IsNoteOfNumber, Noted, Notes, NotesInput, SaysUnread, number_of, rest_note}
+use Rattle.fbsim_command.specs.Notes.{Follows, IsNoteOfNumber, IsUnnoted, Noted, Notes, NotesEnd, NotesInput, SaysUnread, number_of}
 use Rattle.fbsim_command.specs.Outcomes.{End, HasRefusal, Held, IsRefused}
 use Rattle.fbsim_command.specs.OwnLines.{EndsIn, IsPlacedText}
 use Rattle.fbsim_command.specs.Reading.{Reading, AreRead, IsUnread, checked}
@@ -240,15 +240,28 @@ pub record RefusesTrace {S : Type 0} (opens : Opening S) (x : Expect) (rules : L
   pub is_wrong : IsWrongLine x trace line
   pub reported : text ≡ refused_trace name line
 
--- A trace is not opened, or can't be read to its end.
-abbrev pub IsNoTrace : {S : Type 0} → Opening S → (old new : S) → (name : Text) → Type 0
-IsNoTrace opens old new name = ((fault : SourceFault) × (failure_of_source fault ≡ File) × opens old name (Err fault) new) ⊎ ((trace : Held) × opens old name (Ok trace) new)
+-- A trace is not opened, and the note says why, where one is asked for.
+pub record IsUnopenedTrace {S : Type 0} (opens : Opening S) (why : Bool) (old new : S) (name : Text) (note : Noted) : Type 0 where
+  pub fault : SourceFault
+  pub of_file : failure_of_source fault ≡ File
+  pub unopened : opens old name (Err fault) new
+  pub noted : IfOk note (Notes why (SaysUnread (codes "trace") name fault))
 
-pub record LacksTrace {S : Type 0} (opens : Opening S) (x : Expect) (rules : List Rule) (old new : S) : Type 0 where
+-- A trace can't be read to its end, and the note says so, where one is asked for.
+pub record IsUnendedTrace {S : Type 0} (opens : Opening S) (why : Bool) (old new : S) (name : Text) (note : Noted) : Type 0 where
+  pub trace : Held
+  pub opened : opens old name (Ok trace) new
+  pub noted : IfOk note (NotesEnd why name)
+
+-- the file of a trace fails
+abbrev pub IsNoTrace : {S : Type 0} → Opening S → (why : Bool) → (old new : S) → (name : Text) → Noted → Type 0
+IsNoTrace opens why old new name note = IsUnopenedTrace opens why old new name note ⊎ IsUnendedTrace opens why old new name note
+
+pub record LacksTrace {S : Type 0} (opens : Opening S) (x : Expect) (rules : List Rule) (old new : S) (note : Noted) : Type 0 where
   pub name : Text
   pub between : S
   pub comes : ComesTo opens x rules old between name
-  pub lacks : IsNoTrace opens between new name
+  pub lacks : IsNoTrace opens x.why between new name note
 
 -- A trace is not held against the rules, by its failure.
 abbrev pub IsRefusedAt : (name : Text) → (line : ℕ) → Failure → Type 0
@@ -266,24 +279,32 @@ IsTraceFailure name (trace_error.Refused line) failure = IsRefusedAt name line f
 IsTraceFailure name trace_error.Memory failure = failure ≡ Memory
 IsTraceFailure name trace_error.Read failure = failure ≡ File
 
-abbrev pub IsUnheld : {S : Type 0} → Opening S → Expect → (old new : S) → (name : Text) → Failure → Type 0
-IsUnheld opens x old new name (RefusedTrace text) = (trace : Held) × opens old name (Ok trace) new × ((line : ℕ) × IsWrongLine x trace line × (string_bytes text ≡ refused_trace name line))
-IsUnheld opens x old new name File = IsNoTrace opens old new name
-IsUnheld opens x old new name Memory = Unit {0}
-IsUnheld opens x old new name (Refused refusal) = ⊥
-IsUnheld opens x old new name (Write n) = ⊥
-IsUnheld opens x old new name (Line message) = ⊥
-IsUnheld opens x old new name BadOption = ⊥
+-- the note to a trace that is opened and not held, by its error: only one that can't be read to its end has one
+abbrev pub NotesError : (why : Bool) → (name : Text) → TraceError → Noted → Type 0
+NotesError why name trace_error.Read note = IfOk note (NotesEnd why name)
+NotesError why name trace_error.Memory note = IsUnnoted note
+NotesError why name (trace_error.Refused line) note = IsUnnoted note
+
+-- a trace is not held, by its failure; a note is given to a file that fails, and to nothing else
+abbrev pub IsUnheld : {S : Type 0} → Opening S → Expect → (old new : S) → (name : Text) → Noted → Failure → Type 0
+IsUnheld opens x old new name note (RefusedTrace text) =
+    (trace : Held) × opens old name (Ok trace) new × ((line : ℕ) × IsWrongLine x trace line × (string_bytes text ≡ refused_trace name line)) × IsUnnoted note
+IsUnheld opens x old new name note File = IsNoTrace opens x.why old new name note
+IsUnheld opens x old new name note Memory = IsUnnoted note
+IsUnheld opens x old new name note (Refused refusal) = ⊥
+IsUnheld opens x old new name note (Write n) = ⊥
+IsUnheld opens x old new name note (Line message) = ⊥
+IsUnheld opens x old new name note BadOption = ⊥
 
 -- one of the traces is not, and those before it are
-abbrev pub AreUnheld : {S : Type 0} → Opening S → Expect → List Rule → (old new : S) → Failure → Type 0
-AreUnheld opens x rules old new (RefusedTrace text) = RefusesTrace opens x rules old new (string_bytes text)
-AreUnheld opens x rules old new File = LacksTrace opens x rules old new
-AreUnheld opens x rules old new Memory = Unit {0}
-AreUnheld opens x rules old new (Refused refusal) = ⊥
-AreUnheld opens x rules old new (Write n) = ⊥
-AreUnheld opens x rules old new (Line message) = ⊥
-AreUnheld opens x rules old new BadOption = ⊥
+abbrev pub AreUnheld : {S : Type 0} → Opening S → Expect → List Rule → (old new : S) → Noted → Failure → Type 0
+AreUnheld opens x rules old new note (RefusedTrace text) = RefusesTrace opens x rules old new (string_bytes text) × IsUnnoted note
+AreUnheld opens x rules old new note File = LacksTrace opens x rules old new note
+AreUnheld opens x rules old new note Memory = IsUnnoted note
+AreUnheld opens x rules old new note (Refused refusal) = ⊥
+AreUnheld opens x rules old new note (Write n) = ⊥
+AreUnheld opens x rules old new note (Line message) = ⊥
+AreUnheld opens x rules old new note BadOption = ⊥
 
 -- The trace at this place was held against the rules, and its points come after a text. It says whether all rules are well.
 pub record PutsOne {S : Type 0} (opens : Opening S) (x : Expect) (rules : List Rule) (index : ℕ) (trace : Bor Text) (old new : S) (before text : Text) (well : Bool) : Type 0 where
@@ -304,29 +325,29 @@ PutsAll opens x rules old new before text well = Puts opens x rules x.traces.ite
 
 -- ---- Ends
 
--- The rules and what is declared were read, and all traces are held against the rules.
-abbrev pub Holds : {S : Type 0} → Opening S → Expect → (old new : S) → Text → Option Given → (out-old out-new : Held) → End → Type 0
-Holds opens x old new bytes declared a b (Ok Met) =
-    (rules : List Rule) × AreRules bytes declared rules × ((text : Text) × Reports opens x rules old new true text × Appends a b text)
-Holds opens x old new bytes declared a b (Ok Unmet) =
-    (rules : List Rule) × AreRules bytes declared rules × ((text : Text) × Reports opens x rules old new false text × Appends a b text)
-Holds opens x old new bytes declared a b (Ok Helped) = ⊥
-Holds opens x old new bytes declared a b (Ok Explained) = ⊥
-Holds opens x old new bytes declared a b (Ok Accepted) = ⊥
-Holds opens x old new bytes declared a b (Ok Shown) = ⊥
-Holds opens x old new bytes declared a b (Ok Ended) = ⊥
-Holds opens x old new bytes declared a b (Ok Stopped) = ⊥
-Holds opens x old new bytes declared a b (Ok Same) = ⊥
-Holds opens x old new bytes declared a b (Ok Different) = ⊥
-Holds opens x old new bytes declared a b (Err (Refused refusal)) = RefusesRules bytes declared refusal × (new ≡ old) × (b ≡ a)
-Holds opens x old new bytes declared a b (Err (RefusedTrace text)) =
-    (rules : List Rule) × AreRules bytes declared rules × RefusesTrace opens x rules old new (string_bytes text) × (b ≡ a)
-Holds opens x old new bytes declared a b (Err File) = (rules : List Rule) × AreRules bytes declared rules × LacksTrace opens x rules old new × (b ≡ a)
-Holds opens x old new bytes declared a b (Err (Write n)) =
-    (rules : List Rule) × AreRules bytes declared rules × ((well : Bool) × (text : Text) × Reports opens x rules old new well text × IsPartWritten a b text n)
-Holds opens x old new bytes declared a b (Err Memory) = b ≡ a
-Holds opens x old new bytes declared a b (Err (Line message)) = ⊥
-Holds opens x old new bytes declared a b (Err BadOption) = ⊥
+-- The rules and what is declared were read, and all traces are held against the rules. The note is one to a trace.
+abbrev pub Holds : {S : Type 0} → Opening S → Expect → (old new : S) → Text → Option Given → (out-old out-new : Held) → Noted → End → Type 0
+Holds opens x old new bytes declared a b note (Ok Met) =
+    (rules : List Rule) × AreRules bytes declared rules × ((text : Text) × Reports opens x rules old new true text × Appends a b text) × IsUnnoted note
+Holds opens x old new bytes declared a b note (Ok Unmet) =
+    (rules : List Rule) × AreRules bytes declared rules × ((text : Text) × Reports opens x rules old new false text × Appends a b text) × IsUnnoted note
+Holds opens x old new bytes declared a b note (Ok Helped) = ⊥
+Holds opens x old new bytes declared a b note (Ok Explained) = ⊥
+Holds opens x old new bytes declared a b note (Ok Accepted) = ⊥
+Holds opens x old new bytes declared a b note (Ok Shown) = ⊥
+Holds opens x old new bytes declared a b note (Ok Ended) = ⊥
+Holds opens x old new bytes declared a b note (Ok Stopped) = ⊥
+Holds opens x old new bytes declared a b note (Ok Same) = ⊥
+Holds opens x old new bytes declared a b note (Ok Different) = ⊥
+Holds opens x old new bytes declared a b note (Err (Refused refusal)) = RefusesRules bytes declared refusal × (new ≡ old) × (b ≡ a) × IsUnnoted note
+Holds opens x old new bytes declared a b note (Err (RefusedTrace text)) =
+    (rules : List Rule) × AreRules bytes declared rules × RefusesTrace opens x rules old new (string_bytes text) × (b ≡ a) × IsUnnoted note
+Holds opens x old new bytes declared a b note (Err File) = (rules : List Rule) × AreRules bytes declared rules × LacksTrace opens x rules old new note × (b ≡ a)
+Holds opens x old new bytes declared a b note (Err (Write n)) =
+    (rules : List Rule) × AreRules bytes declared rules × ((well : Bool) × (text : Text) × Reports opens x rules old new well text × IsPartWritten a b text n) × IsUnnoted note
+Holds opens x old new bytes declared a b note (Err Memory) = (b ≡ a) × IsUnnoted note
+Holds opens x old new bytes declared a b note (Err (Line message)) = ⊥
+Holds opens x old new bytes declared a b note (Err BadOption) = ⊥
 
 -- ---- Notes
 
@@ -396,20 +417,8 @@ abbrev pub NotesRules : Expect → (bytes : Text) → (lines : List FileLines) �
 NotesRules x bytes lines declared (Ok d) note = note ≡ None
 NotesRules x bytes lines declared (Err failure) note = Notes x.why (SaysAt x bytes lines declared failure) note
 
--- the note of a trace that is not opened, or that can't be read to its end
-abbrev pub IsTraceNote : (name note : Text) → Type 0
-IsTraceNote name note = ((fault : SourceFault) × IsNoteOfName (codes "trace") name fault note) ⊎ (note ≡ rest_note (codes "trace") name)
-
--- A note is given only where one is asked for, and then it is one to a trace.
-abbrev pub NotesTrace : Expect → Option Text → Type 0
-NotesTrace x note = IfSome note (λ n. IsTrue x.why × ((name : Text) × IsTraceNote name n))
-
--- There is such a note exactly where one is asked for and the file of a trace fails.
-abbrev pub NotesTraces : Expect → End → Option Text → Type 0
-NotesTraces x end None = IsTrue x.why → end ≡ Err File → ⊥
-NotesTraces x end (Some note) = NotesTrace x (Some note)
-
--- All is read, and all traces are held against the rules. A syntax fault of the declaration is one of the file that has it.
+-- All is read, and all traces are held against the rules. A syntax fault of the declaration is one of the file that has it. The note is one
+-- to a trace, or else to the rules.
 pub record IsReadAndHeld {S : Type 0} (reads : Reading S) (opens : Opening S) (old new : S) (x : Expect) (a b : Held) (end : End) (note : Noted) : Type 0 where
   pub between : S
   pub bytes : Text
@@ -417,8 +426,9 @@ pub record IsReadAndHeld {S : Type 0} (reads : Reading S) (opens : Opening S) (o
   pub declared : Option Given
   pub read : AreRulesRead reads x old between bytes lines declared
   pub inner : End
-  pub done : Holds opens x between new bytes declared a b inner
-  pub noted : IfOk note (IsFirstOf (NotesTraces x inner) (NotesRules x bytes lines declared inner))
+  pub of_trace : Noted
+  pub done : Holds opens x between new bytes declared a b of_trace inner
+  pub noted : Follows of_trace (NotesRules x bytes lines declared inner) note
   pub ends : EndsIn (types_of x) (own_of x.declaration) lines inner end
 
 -- What a call that holds rules against traces does, from one state of the source to the next, and its note.

@@ -1,5 +1,5 @@
 -- What is reported after the refusal of a trace that is gone through (this project's own).
-use Rattle.std.specs.Prelude.{◌≡◌, ◌≤◌, ◌++◌, ℕ, Bool, [], IsTrue, IfSome, MatchOption, Option, Some, None, Result, Ok, Err, codes, decimal}
+use Rattle.std.specs.Prelude.{◌≡◌, ◌≤◌, ◌++◌, ℕ, Bool, [], IsTrue, IfSome, MatchOption, Option, Some, None, Result, Err, codes, decimal}
 use Rattle.clap.specs.Words.{Text}
 use Rattle.fb_types.specs.Headline.{Inputs}
 use Rattle.fb_inspect.specs.OfSystem.{Applies, CanGoOn, IsWrongFor, fault_text, finding_text}
@@ -32,11 +32,6 @@ line_note front line words = front ++ (codes ": line " ++ (decimal line ++ (code
 abbrev pub SaysInside : Inputs → RefusedLine → (front : Text) → (line : ℕ) → Option Text → Type 0
 SaysInside i r front line None = IsWordsOf i r []
 SaysInside i r front line (Some note) = (words : Text) × (words ≡ [] → ⊥) × IsWordsOf i r words × (note ≡ line_note front line words)
-
--- The note begins so and has the number of the line.
-pub record SaysLine (front : Text) (line : ℕ) (note : Text) : Type 0 where
-  pub words : Text
-  pub is : note ≡ line_note front line words
 
 -- the line at which a walk has refused a trace, if it did
 abbrev pub refused_at : Result (Unit {0}) InspectError → Option ℕ

@@ -121,9 +121,9 @@ NotesRest why name end (Some note) = IsTrue why × (end ≡ Err File) × (note �
 abbrev pub NotesEnd : (why : Bool) → (name : List ℕ) → Option (List ℕ) → Type 0
 NotesEnd why name note = Notes why (λ n. n ≡ Some (rest_note (codes "trace") name)) note
 
--- A file that fails has a note, where one is asked for.
-abbrev pub NotesFailing : (why : Bool) → Noted → Failure → Type 0
-NotesFailing why note failure = failure ≡ File → IsTrue why → note ≡ Ok None → ⊥
+-- no note is given; or memory for it ran out
+abbrev pub IsUnnoted : Noted → Type 0
+IsUnnoted note = IfOk note (λ n. n ≡ None)
 
 -- ---- Refusals
 

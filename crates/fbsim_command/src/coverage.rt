@@ -4,11 +4,10 @@ ghost use Rattle.std.specs.Prelude.{◌≡◌, ◌<◌, ◌+◌, ◌^◌, ◌++�
 ghost use Rattle.fb_inspect.specs.declared.error.InspectError.TheVariants as inspection;
 ghost use Rattle.fb_wave.specs.OfSystem.{HasNames};
 ghost use Rattle.fbsim_command.specs.declared.coverage.Gleaned.{Gleaned};
-ghost use Rattle.fbsim_command.specs.declared.failure.Failure.{Failure};
 ghost use Rattle.fbsim_command.specs.Covering as spec;
-ghost use Rattle.fbsim_command.specs.Notes.{NotesEnd, NotesFailing, noted_of};
-ghost use Rattle.fbsim_command.specs.WrongLines.{IsWrongIn};
-ghost use Rattle.fbsim_command.specs.Covering.{AreGoneThrough, AreStopped, GoesThrough, IsStopped, IsTraceFailure, NotesTrace, RefusesAt, ReportsCoverage, WritesReport, are_several, coverage_text, cut_line, cut_of, note_front};
+ghost use Rattle.fbsim_command.specs.InsideNotes.{SaysInside};
+ghost use Rattle.fbsim_command.specs.Notes.{IsUnnoted, Notes, NotesEnd, noted_of};
+ghost use Rattle.fbsim_command.specs.Covering.{AreGoneThrough, AreStopped, GoesThrough, IsStopped, IsTraceFailure, NotesWalk, RefusesAt, ReportsCoverage, WritesReport, are_several, coverage_text, cut_line, cut_of, note_front};
 
 use crate::expect::refused_trace;
 use crate::failure::{Failure, RefusalLine};
@@ -100,7 +99,7 @@ fn note_of_refusal(
     line: u64,
     refused: &RefusedLine,
 ) -> Result<Option<String>, AllocError>
-    ensures { IfOk (noted_of result) (NotesTrace coverage.now) }
+    ensures { IfOk (noted_of result) (Notes coverage.now.why (SaysInside system.now refused.now (note_front (are_several coverage.now) name.now) line)) }
 {
     let front = front_of(alloc, are_several(coverage), name)?;
     note_of_inside(alloc, coverage.why, front.as_str(), system, line, refused)
@@ -144,8 +143,7 @@ fn note_of_fault(
     error: &InspectError,
     refused: &RefusedLine,
 ) -> Result<Option<String>, AllocError>
-    ensures noted { IfOk (noted_of result) (NotesTrace coverage.now) }
-    ensures failing { (failure : Failure) → IsTraceFailure (are_several coverage.now) name.now error.now failure → NotesFailing coverage.now.why (noted_of result) failure }
+    ensures { NotesWalk system.now coverage.now name.now refused.now error.now (noted_of result) }
 {
     match error {
         InspectError::Refused(line) => {
@@ -192,10 +190,10 @@ fn cover_one<S: Streams>(
 ) -> Result<Gleaned, Failure>
     requires names { HasNames system.now }
     requires room { gleaned.cut + 1 < 2 ^ 64 }
+    requires unnoted { IsUnnoted (noted_of note.old) }
     ensures covered { IfOk result (GoesThrough S.opens system.now coverage.now name.now source.old source.new gleaned) }
-    ensures stopped { IfErr result (IsStopped S.opens (IsWrongIn (cut_of coverage.now) system.now coverage.now.steps) (are_several coverage.now) name.now source.old source.new) }
-    ensures noted { IfOk (noted_of note.old) (NotesTrace coverage.now) → IfOk (noted_of note.new) (NotesTrace coverage.now) }
-    ensures failing { IfErr result (NotesFailing coverage.now.why (noted_of note.new)) }
+    ensures unnoted { IfOk result (λ gleaned. IsUnnoted (noted_of note.new)) }
+    ensures stopped { IfErr result (IsStopped S.opens system.now coverage.now name.now source.old source.new (noted_of note.new)) }
 {
     let mut trace = match source.open(alloc, name) {
         Ok(trace) => trace,
@@ -227,11 +225,11 @@ fn cover_all<S: Streams>(
     note: &mut Result<Option<String>, AllocError>,
     source: &mut S,
 ) -> Result<Gleaned, Failure>
-    requires { HasNames system.now }
+    requires names { HasNames system.now }
+    requires unnoted { IsUnnoted (noted_of note.old) }
     ensures covered { IfOk result (AreGoneThrough S.opens system.now coverage.now source.old source.new) }
-    ensures stopped { IfErr result (AreStopped S.opens system.now coverage.now source.old source.new) }
-    ensures noted { IfOk (noted_of note.old) (NotesTrace coverage.now) → IfOk (noted_of note.new) (NotesTrace coverage.now) }
-    ensures failing { IfErr result (NotesFailing coverage.now.why (noted_of note.new)) }
+    ensures unnoted { IfOk result (λ covered. IsUnnoted (noted_of note.new)) }
+    ensures stopped { IfErr result (AreStopped S.opens system.now coverage.now source.old source.new (noted_of note.new)) }
 {
     let mut gleaned = Gleaned {
         marks: Marks::of(alloc, system)?,
@@ -279,12 +277,12 @@ fn report<S: Streams>(
     note: &mut Result<Option<String>, AllocError>,
     source: &mut S,
 ) -> Result<(Vec<u8>, bool), Failure>
-    requires { HasNames system.now }
+    requires names { HasNames system.now }
+    requires unnoted { IsUnnoted (noted_of note.old) }
     ensures report { IfOk result (λ r. (gleaned : Gleaned) × AreGoneThrough S.opens system.now coverage.now source.old source.new gleaned
         × (r.0.items ≡ coverage_text system.now coverage.now gleaned) × (r.1 ≡ spec.is_too_little system.now coverage.now.least gleaned.marks)) }
-    ensures stopped { IfErr result (AreStopped S.opens system.now coverage.now source.old source.new) }
-    ensures noted { IfOk (noted_of note.old) (NotesTrace coverage.now) → IfOk (noted_of note.new) (NotesTrace coverage.now) }
-    ensures failing { IfErr result (NotesFailing coverage.now.why (noted_of note.new)) }
+    ensures unnoted { IfOk result (λ covered. IsUnnoted (noted_of note.new)) }
+    ensures stopped { IfErr result (AreStopped S.opens system.now coverage.now source.old source.new (noted_of note.new)) }
 {
     let gleaned = cover_all(alloc, system, coverage, note, source)?;
     let mut text = report_of(alloc, system, &gleaned.marks)?;
@@ -313,9 +311,8 @@ fn write_report<S: Streams, W: Write>(
     source: &mut S,
     out: &mut W,
 ) -> Result<Done, Failure>
-    ensures written { WritesReport S.opens inputs.now coverage.now source.old source.new (W.contents out.old) (W.contents out.new) result }
-    ensures noted { IfOk (noted_of note.old) (NotesTrace coverage.now) → IfOk (noted_of note.new) (NotesTrace coverage.now) }
-    ensures failing { IfErr result (NotesFailing coverage.now.why (noted_of note.new)) }
+    requires { IsUnnoted (noted_of note.old) }
+    ensures { WritesReport S.opens inputs.now coverage.now source.old source.new (W.contents out.old) (W.contents out.new) (noted_of note.new) result }
 {
     let system = open_inputs(alloc, inputs)?;
     let reported = report(alloc, &system, coverage, note, source);

@@ -4,8 +4,8 @@ ghost use Rattle.std.specs.Prelude.{◌≡◌, ◌&&◌, IfErr, IfOk, OnOk, ◌*
 ghost use Rattle.fb_expect.specs.Parting.{MayPart};
 ghost use Rattle.fbsim_command.specs.Comparing.{Compares, Differs, NotesEither, NotesUnread};
 ghost use Rattle.fbsim_command.specs.Failures.{refused_trace};
-ghost use Rattle.fbsim_command.specs.Expecting.{AreRules, AreUnheld, Expects, Holds, IsHeld, IsRefusedAt, IsTraceFailure, IsUndeclared, IsUnheld, MayDeclare, NotesTrace, PutsAll, PutsOne, RefusesFor, Reports, cut_of, head_of, own_of, part_of, tail_of, types_of};
-ghost use Rattle.fbsim_command.specs.Notes.{NotesEnd, NotesFailing, noted_of};
+ghost use Rattle.fbsim_command.specs.Expecting.{AreRules, AreUnheld, Expects, Holds, IsHeld, IsRefusedAt, IsTraceFailure, IsUndeclared, IsUnheld, MayDeclare, NotesError, PutsAll, PutsOne, RefusesFor, Reports, cut_of, head_of, own_of, part_of, tail_of, types_of};
+ghost use Rattle.fbsim_command.specs.Notes.{IsUnnoted, NotesEnd, noted_of};
 ghost use Rattle.fbsim_command.specs.Outcomes.{Held};
 ghost use Rattle.fbsim_command.specs.OwnLines.{EndsIn};
 ghost use Rattle.fbsim_command.specs.Texts.{given_of, may_lines_of};
@@ -80,8 +80,7 @@ fn note_of_fault(
     name: &str,
     error: &TraceError,
 ) -> Result<Option<String>, AllocError>
-    ensures noted { IfOk (noted_of result) (NotesTrace expect.now) }
-    ensures failing { (failure : Failure) → IsTraceFailure name.now error.now failure → NotesFailing expect.now.why (noted_of result) failure }
+    ensures { NotesError expect.now.why name.now error.now (noted_of result) }
 {
     match error {
         TraceError::Read => note_of_unread(alloc, expect, name),
@@ -98,10 +97,10 @@ fn hold<S: Streams>(
     note: &mut Result<Option<String>, AllocError>,
     source: &mut S,
 ) -> Result<Vec<Judged>, Failure>
+    requires { IsUnnoted (noted_of note.old) }
     ensures held { IfOk result (λ js. IsHeld S.opens expect.now rules.now source.old source.new name.now js.items) }
-    ensures unheld { IfErr result (IsUnheld S.opens expect.now source.old source.new name.now) }
-    ensures noted { IfOk (noted_of note.old) (NotesTrace expect.now) → IfOk (noted_of note.new) (NotesTrace expect.now) }
-    ensures failing { IfErr result (NotesFailing expect.now.why (noted_of note.new)) }
+    ensures unnoted { IfOk result (λ js. IsUnnoted (noted_of note.new)) }
+    ensures unheld { IfErr result (IsUnheld S.opens expect.now source.old source.new name.now (noted_of note.new)) }
 {
     let mut trace = match source.open(alloc, name) {
         Ok(trace) => trace,
@@ -184,10 +183,10 @@ fn put_one<S: Streams>(
     note: &mut Result<Option<String>, AllocError>,
     source: &mut S,
 ) -> Result<bool, Failure>
+    requires { IsUnnoted (noted_of note.old) }
     ensures put { IfOk result (PutsOne S.opens expect.now rules.now at.entry.0 at.entry.1 source.old source.new text.old.items text.new.items) }
-    ensures unheld { IfErr result (IsUnheld S.opens expect.now source.old source.new at.entry.1.now) }
-    ensures noted { IfOk (noted_of note.old) (NotesTrace expect.now) → IfOk (noted_of note.new) (NotesTrace expect.now) }
-    ensures failing { IfErr result (NotesFailing expect.now.why (noted_of note.new)) }
+    ensures unnoted { IfOk result (λ well. IsUnnoted (noted_of note.new)) }
+    ensures unheld { IfErr result (IsUnheld S.opens expect.now source.old source.new at.entry.1.now (noted_of note.new)) }
 {
     let (_, trace) = at;
     let judged = hold(alloc, expect, rules, trace, note, source)?;
@@ -204,10 +203,10 @@ fn put_all<S: Streams>(
     note: &mut Result<Option<String>, AllocError>,
     source: &mut S,
 ) -> Result<bool, Failure>
+    requires { IsUnnoted (noted_of note.old) }
     ensures put { IfOk result (PutsAll S.opens expect.now rules.now source.old source.new text.old.items text.new.items) }
-    ensures unheld { IfErr result (AreUnheld S.opens expect.now rules.now source.old source.new) }
-    ensures noted { IfOk (noted_of note.old) (NotesTrace expect.now) → IfOk (noted_of note.new) (NotesTrace expect.now) }
-    ensures failing { IfErr result (NotesFailing expect.now.why (noted_of note.new)) }
+    ensures unnoted { IfOk result (λ well. IsUnnoted (noted_of note.new)) }
+    ensures unheld { IfErr result (AreUnheld S.opens expect.now rules.now source.old source.new (noted_of note.new)) }
 {
     let mut is_well = true;
     for (index, trace) in expect.traces.iter().enumerate() {
@@ -246,10 +245,10 @@ fn report<S: Streams>(
     note: &mut Result<Option<String>, AllocError>,
     source: &mut S,
 ) -> Result<(Vec<u8>, bool), Failure>
+    requires { IsUnnoted (noted_of note.old) }
     ensures reported { IfOk result (λ p. Reports S.opens expect.now rules.now source.old source.new p.1 p.0.items) }
-    ensures unheld { IfErr result (AreUnheld S.opens expect.now rules.now source.old source.new) }
-    ensures noted { IfOk (noted_of note.old) (NotesTrace expect.now) → IfOk (noted_of note.new) (NotesTrace expect.now) }
-    ensures failing { IfErr result (NotesFailing expect.now.why (noted_of note.new)) }
+    ensures unnoted { IfOk result (λ well. IsUnnoted (noted_of note.new)) }
+    ensures unheld { IfErr result (AreUnheld S.opens expect.now rules.now source.old source.new (noted_of note.new)) }
 {
     let mut text = head(alloc, expect, rules)?;
     let is_well = put_all(alloc, expect, rules, &mut text, note, source)?;
@@ -315,9 +314,8 @@ fn hold_rules<S: Streams, W: Write>(
     source: &mut S,
     out: &mut W,
 ) -> Result<Done, Failure>
-    ensures held { Holds S.opens expect.now source.old source.new bytes.now (option_map given_of declared.now) (W.contents out.old) (W.contents out.new) result }
-    ensures noted { IfOk (noted_of note.old) (NotesTrace expect.now) → IfOk (noted_of note.new) (NotesTrace expect.now) }
-    ensures failing { IfErr result (NotesFailing expect.now.why (noted_of note.new)) }
+    requires { IsUnnoted (noted_of note.old) }
+    ensures { Holds S.opens expect.now source.old source.new bytes.now (option_map given_of declared.now) (W.contents out.old) (W.contents out.new) (noted_of note.new) result }
 {
     let rules = checked_rules(alloc, bytes, declared)?;
     let (text, is_well) = report(alloc, expect, rules.as_slice(), note, source)?;

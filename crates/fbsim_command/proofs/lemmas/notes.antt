@@ -1,4 +1,3 @@
 pub mod NotedLines
 pub mod Noting
 pub mod Located
-pub mod FailingFiles

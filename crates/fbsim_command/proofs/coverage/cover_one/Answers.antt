@@ -1,22 +1,17 @@
-use Rattle.fbsim_command.proofs.lemmas.Common.{◌∙◌, Bool, Err, ap, subst, sym, system_of, IsWrongIn, Failure}
+use Rattle.fbsim_command.proofs.lemmas.Common.{◌∙◌, Bool, Err, ap, subst, sym, system_of, noted_of}
 use Rattle.fb_inspect.specs.declared.error.InspectError.{InspectError}
 use Rattle.fb_wave.specs.Named.{HasNames}
 use Rattle.fbsim_command.specs.Covering.{IsStopped, IsTraceFailure, are_several, cut_of}
-use Rattle.fbsim_command.specs.Notes.{noted_of}
-use Rattle.fbsim_command.proofs.lemmas.calls.CoverageCalls.{failed-at, goes-through, open-noted, unopened}
+use Rattle.fbsim_command.proofs.lemmas.calls.CoverageCalls.{failed-at, goes-through, unopened}
 use Rattle.fbsim_command.proofs.lemmas.calls.Inspecting.{never_names, never_unknown, wrong-covered}
-use Rattle.std.proofs.Common.{Bool, codes, subst}
-use Rattle.fbsim_command.specs.Covering.{IsTraceFailure}
-use Rattle.fbsim_command.proofs.lemmas.notes.FailingFiles.{open-failing}
+use Rattle.fbsim_command.proofs.lemmas.notes.NotedLines.{found-covered}
 use Rattle.fbsim_command.proofs.coverage.cover_one.Goals as goal
 
 pub returns-in-Err-clause-stopped : goal.returns-in-Err-clause-stopped
 returns-in-Err-clause-stopped g c =
-    subst (λ (f : Failure). IsStopped g.S.Streams.opens (IsWrongIn (cut_of c.args.coverage.now) c.args.system.now c.args.coverage.now.steps) (are_several c.args.coverage.now) c.args.name.now c.args.source.now c.open.new.self f) (sym c.from.ensures)
-    (unopened g.S.Streams.opens (IsWrongIn (cut_of c.args.coverage.now) c.args.system.now c.args.coverage.now.steps) (are_several c.args.coverage.now) c.args.source.now c.open.new.self c.args.name.now c.in-Err.fault c.in-Err.ensures)
-
-pub returns-in-Err-clause-noted : goal.returns-in-Err-clause-noted
-returns-in-Err-clause-noted g c = λ before. open-noted c.args.coverage.now c.args.name.now c.in-Err.fault (noted_of c.note_where_asked.result) c.note_where_asked.ensures
+    let note = noted_of c.note_where_asked.result in
+    subst (IsStopped g.S.Streams.opens c.args.system.now c.args.coverage.now c.args.name.now c.args.source.now c.open.new.self note) (sym c.from.ensures)
+    (unopened g.S.Streams.opens c.args.system.now c.args.coverage.now c.args.name.now c.args.source.now c.open.new.self note c.in-Err.fault c.in-Err.ensures c.note_where_asked.ensures)
 
 pub returns-in-Ok-cover-clause-covered : goal.returns-in-Ok-cover-clause-covered
 returns-in-Ok-cover-clause-covered g c =
@@ -33,18 +28,10 @@ failure_of_trace-requires-clause-paths g c = λ is. never_unknown c.cover.result
 
 pub returns-clause-stopped : goal.returns-clause-stopped
 returns-clause-stopped g c =
-    failed-at g.S.Streams.opens (IsWrongIn (cut_of c.args.coverage.now) c.args.system.now c.args.coverage.now.steps) (are_several c.args.coverage.now) c.args.source.now c.open.new.self c.args.name.now _ c.in-Err-cover.error c.failure_of_trace.result c.in-Ok.ensures
-    (wrong-covered (cut_of c.args.coverage.now) c.args.system.now c.args.coverage.now.steps _ c.cover.result c.in-Err-cover.error c.requires.names c.in-Err-cover.is c.cover.ensures.refused (λ has few may. c.cover.ensures.uncut has few (c.cut_of.ensures ∙ may)))
-    (subst (λ (b : Bool). IsTraceFailure b c.args.name.now c.in-Err-cover.error c.failure_of_trace.result) c.are_several.ensures c.failure_of_trace.ensures)
-
-pub returns-clause-noted : goal.returns-clause-noted
-returns-clause-noted g c = λ before. c.note_of_fault.ensures.noted
-
-pub returns-in-Err-clause-failing : goal.returns-in-Err-clause-failing
-returns-in-Err-clause-failing g c =
-    open-failing c.args.coverage.now.why (codes "trace") c.args.name.now c.in-Err.fault c.from.result (noted_of c.note_where_asked.result) c.from.ensures c.note_where_asked.ensures
-
-pub returns-clause-failing : goal.returns-clause-failing
-returns-clause-failing g c =
-    c.note_of_fault.ensures.failing c.failure_of_trace.result
+    let i = c.args.system.now in
+    let x = c.args.coverage.now in
+    failed-at g.S.Streams.opens i x c.args.name.now c.args.source.now c.open.new.self _ c.cover.new.refused (noted_of c.note_of_fault.result) c.in-Err-cover.error c.failure_of_trace.result c.in-Ok.ensures
+    (wrong-covered (cut_of x) i x.steps _ c.cover.result c.in-Err-cover.error c.requires.names c.in-Err-cover.is c.cover.ensures.refused (λ has few may. c.cover.ensures.uncut has few (c.cut_of.ensures ∙ may)))
+    (found-covered i x.steps _ c.cover.new.refused c.cover.result c.in-Err-cover.error c.requires.names c.in-Err-cover.is c.cover.ensures.found)
+    c.note_of_fault.ensures
     (subst (λ (b : Bool). IsTraceFailure b c.args.name.now c.in-Err-cover.error c.failure_of_trace.result) c.are_several.ensures c.failure_of_trace.ensures)

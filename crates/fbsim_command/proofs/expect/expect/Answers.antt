@@ -1,9 +1,9 @@
-use Rattle.fbsim_command.proofs.lemmas.Common.{List, ℕ, option_map, inl, inr, noted_of, subst, Holds, types_of, EndsIn, given_of}
+use Rattle.fbsim_command.proofs.lemmas.Common.{List, option_map, inl, inr, noted_of, subst, Holds, types_of, EndsIn, given_of}
 use Rattle.clap.specs.Words.{Text}
-use Rattle.fbsim_command.specs.Expecting.{own_of}
+use Rattle.fbsim_command.specs.Expecting.{NotesRules, own_of}
+use Rattle.fbsim_command.specs.Notes.{Follows}
 use Rattle.fbsim_command.specs.Texts.{may_lines_of}
-use Rattle.fbsim_command.proofs.lemmas.notes.FailingFiles.{traces-noted}
-use Rattle.fbsim_command.proofs.lemmas.rules.Declaring.{noted-held, read-and-held, unread}
+use Rattle.fbsim_command.proofs.lemmas.rules.Declaring.{read-and-held, unread}
 use Rattle.fbsim_command.specs.declared.join.FileLines.{FileLines}
 use Rattle.fbsim_command.proofs.expect.expect.Goals as goal
 
@@ -32,8 +32,8 @@ returns g c =
     let trace = noted_of c.hold_rules-end.new.note in
     let inner = c.hold_rules-end.result in
     read-and-held g.S.Source.gives g.S.Streams.opens x (g.W.Write.contents c.args.out.now) c.args.source.now c.read.new.self c.read_declared.new.source c.hold_rules-end.new.source _
-    c.in-Ok.bytes.items lines declared inner c.end_of-end.result note c.in-Ok.ensures.gives c.in-Ok-read_declared.ensures.read
+    c.in-Ok.bytes.items lines declared inner c.end_of-end.result trace note c.in-Ok.ensures.gives c.in-Ok-read_declared.ensures.read
     (subst (λ (bytes : Text). Holds g.S.Streams.opens x c.read_declared.new.source c.hold_rules-end.new.source bytes declared
-    (g.W.Write.contents c.args.out.now) (g.W.Write.contents c.hold_rules-end.new.out) inner) c.as_slice-bytes.ensures.value c.hold_rules-end.ensures.held)
-    (noted-held x lines declared inner c.in-Ok.bytes.items c.as_slice-bytes.result.now note trace c.as_slice-bytes.ensures.value c.note_to_held-note.ensures (traces-noted x inner trace (c.hold_rules-end.ensures.noted tt) c.hold_rules-end.ensures.failing))
+    (g.W.Write.contents c.args.out.now) (g.W.Write.contents c.hold_rules-end.new.out) trace inner) c.as_slice-bytes.ensures.value c.hold_rules-end.ensures)
+    (subst (λ (bytes : Text). Follows trace (NotesRules x bytes lines declared inner) note) c.as_slice-bytes.ensures.value c.note_to_held-note.ensures)
     (subst (λ (ls : List FileLines). EndsIn (types_of x) (own_of x.declaration) ls inner c.end_of-end.result) c.lines_in.ensures c.end_of-end.ensures)

@@ -1,19 +1,17 @@
-use Rattle.fbsim_command.proofs.lemmas.Common.{Bor, List, [], length, take, get_or, subst, ◌<◌, ◌≤◌, take_all, AreUnheld, IsUnheld}
+use Rattle.fbsim_command.proofs.lemmas.Common.{Bor, List, [], length, noted_of, take, get_or, subst, ◌<◌, ◌≤◌, take_all, AreUnheld, IsUnheld}
 use Rattle.clap.specs.Words.{Text}
 use Rattle.fbsim_command.proofs.lemmas.rules.HeldRules.{comes-to, passed-on, puts-all, puts-more-of, puts-none, unheld-at}
-use Rattle.fbsim_command.specs.Notes.{noted_of}
-use Rattle.fbsim_command.proofs.lemmas.notes.FailingFiles.{failing-on}
 use Rattle.fbsim_command.proofs.expect.put_all.Goals as goal
 
 pub loop-index-init : goal.loop-index-init
-loop-index-init g c = (puts-none g.S.Streams.opens c.args.expect.now c.args.rules.now c.args.expect.now.traces.items c.args.source.now c.args.text.now.items, λ noted. noted)
+loop-index-init g c = (puts-none g.S.Streams.opens c.args.expect.now c.args.rules.now c.args.expect.now.traces.items c.args.source.now c.args.text.now.items, c.requires)
 
 pub loop-index-preserved : goal.loop-index-preserved
 loop-index-preserved g c = (
   puts-more-of g.S.Streams.opens c.args.expect.now c.args.rules.now c.args.expect.now.traces.items c.deref-trace-items.result.now c.loop-index.index _ c.args.source.now c.loop-index.source
       c.put_one.new.source c.args.text.now.items c.loop-index.text.items c.put_one.new.text.items c.loop-index.is_well c.in_ok-ok.ok c.both-is_well.result c.deref-trace-items.ensures.value
       c.loop-index-test.true c.loop-index.invariant.0 c.in_ok-ok.ensures.put c.both-is_well.ensures,
-  λ noted. c.put_one.ensures.noted (c.loop-index.invariant.1 noted),
+  c.in_ok-ok.ensures.unnoted,
 )
 
 pub returns-in_err-ok-clause-unheld : goal.returns-in_err-ok-clause-unheld
@@ -22,11 +20,12 @@ returns-in_err-ok-clause-unheld g c =
     let i = c.loop-index.index in
     let same = c.deref-trace-items.ensures.value in
     let none : Bor Text = record { ref_ptr = (0, 0); now = [] } in
-    passed-on c.from_residual.result _ (AreUnheld g.S.Streams.opens x c.args.rules.now c.args.source.now c.put_one.new.source) c.from_residual.ensures.1
-    (unheld-at g.S.Streams.opens x c.args.rules.now _ c.args.source.now c.loop-index.source c.put_one.new.source _
+    let note = noted_of c.put_one.new.note in
+    passed-on c.from_residual.result _ (AreUnheld g.S.Streams.opens x c.args.rules.now c.args.source.now c.put_one.new.source note) c.from_residual.ensures.1
+    (unheld-at g.S.Streams.opens x c.args.rules.now _ c.args.source.now c.loop-index.source c.put_one.new.source note _
     (comes-to g.S.Streams.opens x c.args.rules.now i none c.args.source.now c.loop-index.source c.args.text.now.items c.loop-index.text.items c.loop-index.is_well
     (subst (λ (vs : List (Bor Text)). i < length vs) same c.loop-index-test.true) c.loop-index.invariant.0)
-    (subst (λ (vs : List (Bor Text)). IsUnheld g.S.Streams.opens x c.loop-index.source c.put_one.new.source (get_or vs i none).now c.in_err-ok.field-0.0) same c.in_err-ok.ensures.unheld))
+    (subst (λ (vs : List (Bor Text)). IsUnheld g.S.Streams.opens x c.loop-index.source c.put_one.new.source (get_or vs i none).now note c.in_err-ok.field-0.0) same c.in_err-ok.ensures.unheld))
 
 pub returns-clause-put : goal.returns-clause-put
 returns-clause-put g c =
@@ -35,11 +34,5 @@ returns-clause-put g c =
     puts-all g.S.Streams.opens c.args.expect.now c.args.rules.now ts (take c.loop-index.index ts) c.args.source.now c.loop-index.source c.args.text.now.items c.loop-index.text.items c.loop-index.is_well
     (take_all c.loop-index.index ts end) c.loop-index.invariant.0
 
-pub returns-in_err-ok-clause-noted : goal.returns-in_err-ok-clause-noted
-returns-in_err-ok-clause-noted g c = λ noted. c.put_one.ensures.noted (c.loop-index.invariant.1 noted)
-
-pub returns-clause-noted : goal.returns-clause-noted
-returns-clause-noted g c = c.loop-index.invariant.1
-
-pub returns-in_err-ok-clause-failing : goal.returns-in_err-ok-clause-failing
-returns-in_err-ok-clause-failing g c = failing-on c.args.expect.now.why (noted_of c.put_one.new.note) c.from_residual.result _ c.from_residual.ensures.1 c.in_err-ok.ensures.failing
+pub returns-clause-unnoted : goal.returns-clause-unnoted
+returns-clause-unnoted g c = c.loop-index.invariant.1

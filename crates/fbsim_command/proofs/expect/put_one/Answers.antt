@@ -1,25 +1,19 @@
-use Rattle.fbsim_command.proofs.lemmas.Common.{IsUnheld, Memory}
+use Rattle.fbsim_command.proofs.lemmas.Common.{noted_of, IsUnheld, Memory}
 use Rattle.fbsim_command.proofs.lemmas.rules.HeldRules.{passed-on, put-one}
-use Rattle.fbsim_command.specs.Notes.{noted_of}
-use Rattle.fbsim_command.proofs.lemmas.notes.FailingFiles.{failing-on, memory-failing}
 use Rattle.fbsim_command.proofs.expect.put_one.Goals as goal
 
 pub returns-in_err-judged-clause-unheld : goal.returns-in_err-judged-clause-unheld
 returns-in_err-judged-clause-unheld g c =
-    passed-on c.from_residual.result _ (IsUnheld g.S.Streams.opens c.args.expect.now c.args.source.now c.hold.new.source c.args.at.1.now) c.from_residual.ensures.1 c.in_err-judged.ensures.unheld
+    passed-on c.from_residual.result _ (IsUnheld g.S.Streams.opens c.args.expect.now c.args.source.now c.hold.new.source c.args.at.1.now (noted_of c.hold.new.note)) c.from_residual.ensures.1
+    c.in_err-judged.ensures.unheld
 
 pub returns-in_err-put_part-clause-unheld : goal.returns-in_err-put_part-clause-unheld
 returns-in_err-put_part-clause-unheld g c =
-    passed-on c.from_residual-in_err-put_part.result Memory (IsUnheld g.S.Streams.opens c.args.expect.now c.args.source.now c.hold.new.source c.args.at.1.now) c.from_residual-in_err-put_part.ensures.1 tt
+    passed-on c.from_residual-in_err-put_part.result Memory (IsUnheld g.S.Streams.opens c.args.expect.now c.args.source.now c.hold.new.source c.args.at.1.now (noted_of c.hold.new.note))
+    c.from_residual-in_err-put_part.ensures.1 c.in_ok-judged.ensures.unnoted
 
 pub returns-clause-put : goal.returns-clause-put
 returns-clause-put g c =
     put-one g.S.Streams.opens c.args.expect.now c.args.rules.now c.args.at.0 c.args.at.1 c.args.source.now c.hold.new.source c.args.text.now.items c.put_part.new.text.items
     c.are_well.result c.in_ok-judged.judged.items c.as_slice.result.now c.as_slice-2.result.now c.in_ok-judged.ensures.held
     c.in_ok-put_part.ensures c.as_slice.ensures.value c.as_slice-2.ensures.value c.are_well.ensures
-
-pub returns-in_err-judged-clause-failing : goal.returns-in_err-judged-clause-failing
-returns-in_err-judged-clause-failing g c = failing-on c.args.expect.now.why (noted_of c.hold.new.note) c.from_residual.result _ c.from_residual.ensures.1 c.in_err-judged.ensures.failing
-
-pub returns-in_err-put_part-clause-failing : goal.returns-in_err-put_part-clause-failing
-returns-in_err-put_part-clause-failing g c = failing-on c.args.expect.now.why (noted_of c.hold.new.note) c.from_residual-in_err-put_part.result _ c.from_residual-in_err-put_part.ensures.1 (memory-failing c.args.expect.now.why (noted_of c.hold.new.note))

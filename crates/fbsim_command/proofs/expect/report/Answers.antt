@@ -1,33 +1,22 @@
-use Rattle.fbsim_command.proofs.lemmas.Common.{AreUnheld, Memory}
+use Rattle.fbsim_command.proofs.lemmas.Common.{noted_of, AreUnheld, Memory}
 use Rattle.fbsim_command.proofs.lemmas.rules.HeldRules.{passed-on, rules_reported}
-use Rattle.fbsim_command.specs.Notes.{noted_of}
-use Rattle.fbsim_command.proofs.lemmas.notes.FailingFiles.{failing-on, memory-failing}
 use Rattle.fbsim_command.proofs.expect.report.Goals as goal
 
 pub returns-in_err-text-clause-unheld : goal.returns-in_err-text-clause-unheld
 returns-in_err-text-clause-unheld g c =
-    passed-on c.from_residual.result Memory (AreUnheld g.S.Streams.opens c.args.expect.now c.args.rules.now c.args.source.now c.args.source.now) c.from_residual.ensures.1 tt
+    passed-on c.from_residual.result Memory (AreUnheld g.S.Streams.opens c.args.expect.now c.args.rules.now c.args.source.now c.args.source.now (noted_of c.args.note.now)) c.from_residual.ensures.1 c.requires
 
 pub returns-in_err-is_well-clause-unheld : goal.returns-in_err-is_well-clause-unheld
 returns-in_err-is_well-clause-unheld g c =
-    passed-on c.from_residual-in_err-is_well.result _ (AreUnheld g.S.Streams.opens c.args.expect.now c.args.rules.now c.args.source.now c.put_all.new.source)
+    passed-on c.from_residual-in_err-is_well.result _ (AreUnheld g.S.Streams.opens c.args.expect.now c.args.rules.now c.args.source.now c.put_all.new.source (noted_of c.put_all.new.note))
     c.from_residual-in_err-is_well.ensures.1 c.in_err-is_well.ensures.unheld
 
 pub returns-in_err-put_tail-clause-unheld : goal.returns-in_err-put_tail-clause-unheld
 returns-in_err-put_tail-clause-unheld g c =
-    passed-on c.from_residual-in_err-put_tail.result Memory (AreUnheld g.S.Streams.opens c.args.expect.now c.args.rules.now c.args.source.now c.put_all.new.source)
-    c.from_residual-in_err-put_tail.ensures.1 tt
+    passed-on c.from_residual-in_err-put_tail.result Memory (AreUnheld g.S.Streams.opens c.args.expect.now c.args.rules.now c.args.source.now c.put_all.new.source (noted_of c.put_all.new.note))
+    c.from_residual-in_err-put_tail.ensures.1 c.in_ok-is_well.ensures.unnoted
 
 pub returns-clause-reported : goal.returns-clause-reported
 returns-clause-reported g c =
     rules_reported g.S.Streams.opens c.args.expect.now c.args.rules.now c.args.source.now c.put_all.new.source c.in_ok-text.text.items c.put_all.new.text.items c.put_tail.new.text.items
     c.in_ok-is_well.is_well c.in_ok-text.ensures c.in_ok-is_well.ensures.put c.in_ok-put_tail.ensures
-
-pub returns-in_err-text-clause-failing : goal.returns-in_err-text-clause-failing
-returns-in_err-text-clause-failing g c = failing-on c.args.expect.now.why (noted_of c.args.note.now) c.from_residual.result _ c.from_residual.ensures.1 (memory-failing c.args.expect.now.why (noted_of c.args.note.now))
-
-pub returns-in_err-is_well-clause-failing : goal.returns-in_err-is_well-clause-failing
-returns-in_err-is_well-clause-failing g c = failing-on c.args.expect.now.why (noted_of c.put_all.new.note) c.from_residual-in_err-is_well.result _ c.from_residual-in_err-is_well.ensures.1 c.in_err-is_well.ensures.failing
-
-pub returns-in_err-put_tail-clause-failing : goal.returns-in_err-put_tail-clause-failing
-returns-in_err-put_tail-clause-failing g c = failing-on c.args.expect.now.why (noted_of c.put_all.new.note) c.from_residual-in_err-put_tail.result _ c.from_residual-in_err-put_tail.ensures.1 (memory-failing c.args.expect.now.why (noted_of c.put_all.new.note))

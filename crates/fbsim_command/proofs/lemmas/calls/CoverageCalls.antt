@@ -1,5 +1,5 @@
 -- Traces that are gone through one after the other, and how the report of what they cover ends.
-use Rattle.fbsim_command.proofs.lemmas.Common.{◌≡◌, ◌<◌, ◌≤◌, ◌+◌, ◌⊎◌, ℕ, Bool, true, false, Bor, List, [], ◌∷◌, ◌++◌, drop, get_or, length, map, option_map, take, codes, Option, Some, None, Result, Ok, Err, refl, sym, ◌∙◌, ap, subst, inl, inr, arith, Appends, IfErr, IfOk, IfSome, IsTrue, drop_more, map-append, take-append-drop, take_all, take_more, Inputs, system_of, IsErrAnd, OfRefusal, Given, Declares, Cut, WritesPart, failure_of_source, Notes, NotesOf, End, Held, IsWrongIn, Opening, Failure, Refused, RefusedTrace, File, Write, Memory, Line, BadOption, SourceFault}
+use Rattle.fbsim_command.proofs.lemmas.Common.{◌≡◌, ◌<◌, ◌≤◌, ◌+◌, ℕ, Bool, true, false, Bor, List, [], ◌∷◌, ◌++◌, drop, get_or, length, map, take, codes, Some, None, Ok, Err, refl, sym, ◌∙◌, ap, subst, inl, inr, arith, Appends, IfOk, IfSome, drop_more, map-append, take-append-drop, take_all, take_more, Inputs, system_of, IsErrAnd, OfRefusal, Given, Declares, Cut, WritesPart, failure_of_source, Notes, End, Held, IsWrongIn, Opening, Failure, Refused, RefusedTrace, File, Write, Memory, Line, BadOption, SourceFault}
 use Rattle.fbsim_command.specs.Outcomes.{IsUndeclared}
 use Rattle.clap.specs.Words.{Text}
 use Rattle.fb_coverage.specs.Reports.{report_text}
@@ -9,67 +9,93 @@ use Rattle.fb_inspect.specs.declared.error.InspectError.{InspectError}
 use Rattle.fb_inspect.specs.declared.error.InspectError.TheVariants as inspection
 use Rattle.fb_inspect.specs.declared.walk.Extent.{Extent}
 use Rattle.fb_inspect.specs.declared.walk.Extent.TheVariants as extent
-use Rattle.fbsim_command.specs.Covering.{AreGoneThrough, AreStopped, GoThrough, GoesThrough, IsFirst, IsReport, IsStopped, IsTraceFailure, IsUnreported, NotesTrace, RefusesAt, StopsAt, WritesReport, are_several, cut_count, coverage_text, covered_by, cut_line, cut_of, files_of, is_too_little, note_front}
+use Rattle.fbsim_command.specs.Covering.{AreGoneThrough, AreStopped, GoThrough, GoesThrough, IsFirst, IsReport, IsStopped, IsTraceFailure, IsUnreported, NotesRefusal, NotesWalk, RefusesAt, RefusesOne, StopsAt, WritesReport, are_several, cut_count, coverage_text, covered_by, cut_line, cut_of, is_too_little, note_front}
 use Rattle.fb_inspect.specs.declared.refused.finding.RefusedLine.{RefusedLine}
-use Rattle.fbsim_command.specs.InsideNotes.{SaysInside, SaysLine}
-use Rattle.fbsim_command.specs.Notes.{Noted, SaysUnread}
+use Rattle.fbsim_command.specs.InsideNotes.{IsFoundAt, SaysInside}
+use Rattle.fbsim_command.specs.Notes.{IsUnnoted, Noted, NotesEnd, SaysUnread}
 use Rattle.fbsim_line.specs.declared.coverage_line.Coverage.{Coverage}
 use Rattle.fbsim_command.specs.declared.coverage.Gleaned.{Gleaned}
 use Rattle.fbsim_command.specs.declared.statuses.Done.{Done}
 use Rattle.fbsim_command.specs.declared.sources.SourceFault.TheVariants as source
-use Rattle.fbsim_command.specs.declared.join.FileLines.{FileLines}
 
 abbrev pub now : Bor Text → Text
 now t = t.now
 
 -- ---- A trace
 
+-- nothing was noted of it
+nothing-said : (x : Coverage) (name : Text) (note : Noted) → IfOk note (Notes x.why (SaysUnread (codes "trace") name source.Memory)) → IsUnnoted note
+nothing-said x name (Err e) said = tt
+nothing-said x name (Ok None) said = refl
+nothing-said x name (Ok (Some n)) said = absurd said.1.is_matter
+
 -- it is not opened
 pub unopened :
-    {S : Type 0} (opens : Opening S) (wrong : Held → ℕ → Type 0) (is_named : Bool) (from to : S) (name : Text) (fault : SourceFault) → opens from name (Err fault) to
-    → IsStopped opens wrong is_named name from to (failure_of_source fault)
-unopened opens wrong is_named from to name source.File is = inl (source.File, refl, is)
-unopened opens wrong is_named from to name source.Folder is = inl (source.Folder, refl, is)
-unopened opens wrong is_named from to name source.Memory is = tt
+    {S : Type 0} (opens : Opening S) (i : Inputs) (x : Coverage) (name : Text) (from to : S) (note : Noted) (fault : SourceFault) → opens from name (Err fault) to
+    → IfOk note (Notes x.why (SaysUnread (codes "trace") name fault)) → IsStopped opens i x name from to note (failure_of_source fault)
+unopened opens i x name from to note source.File is said = inl (record { fault = source.File; of_file = refl; unopened = is; noted = said })
+unopened opens i x name from to note source.Folder is said = inl (record { fault = source.Folder; of_file = refl; unopened = is; noted = said })
+unopened opens i x name from to note source.Memory is said = inl (nothing-said x name note said)
+
+-- what was found at the line is what the note says
+found-noted :
+    (i : Inputs) (x : Coverage) (name : Text) (r : RefusedLine) (trace : Held) (line : ℕ) (note : Noted) → IsFoundAt i x.steps trace line r
+    → IfOk note (Notes x.why (SaysInside i r (note_front (are_several x) name) line)) → NotesRefusal i x name trace line note
+found-noted i x name r trace line (Err e) found said = tt
+found-noted i x name r trace line (Ok None) found said = λ asked. (r, found, said asked)
+found-noted i x name r trace line (Ok (Some n)) found said = (said.0, (r, found, said.1))
 
 -- it is refused
 pub refused-at :
-    {S : Type 0} (opens : Opening S) (wrong : Held → ℕ → Type 0) (is_named : Bool) (from to : S) (name : Text) (line : ℕ) (trace : Held) (f : Failure) → opens from name (Ok trace) to → wrong trace line → RefusesAt is_named name line f
-    → IsStopped opens wrong is_named name from to f
-refused-at opens wrong is_named from to name line trace (Refused refusal) is bad_line reported = record { trace = trace; opened = is; line = line; is_wrong = bad_line; reported = reported }
-refused-at opens wrong is_named from to name line trace (RefusedTrace text) is bad_line reported = record { trace = trace; opened = is; line = line; is_wrong = bad_line; reported = reported }
-refused-at opens wrong is_named from to name line trace Memory is bad_line reported = tt
-refused-at opens wrong is_named from to name line trace File is bad_line reported = never is_named reported
+    {S : Type 0} (opens : Opening S) (i : Inputs) (x : Coverage) (name : Text) (from to : S) (line : ℕ) (trace : Held) (note : Noted) (f : Failure) → opens from name (Ok trace) to → IsWrongIn (cut_of x) i x.steps trace line
+    → NotesRefusal i x name trace line note → RefusesAt (are_several x) name line f → IsStopped opens i x name from to note f
+refused-at {S} opens i x name from to line trace note f is bad_line noted reported = by f reported
   where
-    never : (b : Bool) → RefusesAt b name line File → IsStopped opens wrong is_named name from to File
-    never true bad = absurd bad
-    never false bad = absurd bad
-refused-at opens wrong is_named from to name line trace (Write n) is bad_line reported = never is_named reported
-  where
-    never : (b : Bool) → RefusesAt b name line (Write n) → IsStopped opens wrong is_named name from to (Write n)
-    never true bad = absurd bad
-    never false bad = absurd bad
-refused-at opens wrong is_named from to name line trace (Line message) is bad_line reported = never is_named reported
-  where
-    never : (b : Bool) → RefusesAt b name line (Line message) → IsStopped opens wrong is_named name from to (Line message)
-    never true bad = absurd bad
-    never false bad = absurd bad
-refused-at opens wrong is_named from to name line trace BadOption is bad_line reported = never is_named reported
-  where
-    never : (b : Bool) → RefusesAt b name line BadOption → IsStopped opens wrong is_named name from to BadOption
-    never true bad = absurd bad
-    never false bad = absurd bad
+    one : (g : Failure) → RefusesAt (are_several x) name line g → RefusesOne opens i x name from to note g
+    one g at = record { trace = trace; opened = is; line = line; is_wrong = bad_line; reported = at; noted = noted }
+
+    never : (b : Bool) (g : Failure) → RefusesAt b name line g → (RefusesAt true name line g → ⊥) → (RefusesAt false name line g → ⊥) → ⊥
+    never true g at named unnamed = named at
+    never false g at named unnamed = unnamed at
+
+    by : (g : Failure) → RefusesAt (are_several x) name line g → IsStopped opens i x name from to note g
+    by (Refused refusal) at = one (Refused refusal) at
+    by (RefusedTrace text) at = one (RefusedTrace text) at
+    by Memory at = inr (one Memory at)
+    by File at = absurd (never (are_several x) File at (λ bad. bad) (λ bad. bad))
+    by (Write n) at = absurd (never (are_several x) (Write n) at (λ bad. bad) (λ bad. bad))
+    by (Line message) at = absurd (never (are_several x) (Line message) at (λ bad. bad) (λ bad. bad))
+    by BadOption at = absurd (never (are_several x) BadOption at (λ bad. bad) (λ bad. bad))
 
 -- the same for each error
 pub failed-at :
-    {S : Type 0} (opens : Opening S) (wrong : Held → ℕ → Type 0) (is_named : Bool) (from to : S) (name : Text) (trace : Held) (e : InspectError) (f : Failure) → opens from name (Ok trace) to → OfRefusal (wrong trace) e
-    → IsTraceFailure is_named name e f → IsStopped opens wrong is_named name from to f
-failed-at opens wrong is_named from to name trace (inspection.Refused line) f is bad reported = refused-at opens wrong is_named from to name line trace f is bad reported
-failed-at opens wrong is_named from to name trace inspection.Memory f is bad reported = subst (IsStopped opens wrong is_named name from to) (sym reported) tt
-failed-at opens wrong is_named from to name trace inspection.Read f is bad reported = subst (IsStopped opens wrong is_named name from to) (sym reported) (inr (trace, is))
-failed-at opens wrong is_named from to name trace (inspection.Write n) f is bad reported = subst (IsStopped opens wrong is_named name from to) (sym reported) tt
-failed-at opens wrong is_named from to name trace inspection.Names f is bad reported = absurd reported
-failed-at opens wrong is_named from to name trace inspection.Unknown f is bad reported = absurd reported
+    {S : Type 0} (opens : Opening S) (i : Inputs) (x : Coverage) (name : Text) (from to : S) (trace : Held) (r : RefusedLine) (note : Noted) (e : InspectError) (f : Failure) → opens from name (Ok trace) to
+    → OfRefusal (IsWrongIn (cut_of x) i x.steps trace) e → OfRefusal (λ line. IsFoundAt i x.steps trace line r) e → NotesWalk i x name r e note → IsTraceFailure (are_several x) name e f → IsStopped opens i x name from to note f
+failed-at opens i x name from to trace r note (inspection.Refused line) f is bad found said reported =
+    refused-at opens i x name from to line trace note f is bad (found-noted i x name r trace line note found said) reported
+failed-at opens i x name from to trace r note inspection.Memory f is bad found said reported = subst (IsStopped opens i x name from to note) (sym reported) (inl said)
+failed-at opens i x name from to trace r note inspection.Read f is bad found said reported =
+    subst (IsStopped opens i x name from to note) (sym reported) (inr (record { trace = trace; opened = is; noted = said }))
+failed-at opens i x name from to trace r note (inspection.Write n) f is bad found said reported = subst (IsStopped opens i x name from to note) (sym reported) (inl said)
+failed-at opens i x name from to trace r note inspection.Names f is bad found said reported = absurd reported
+failed-at opens i x name from to trace r note inspection.Unknown f is bad found said reported = absurd reported
+
+-- the note to a trace that is opened and not gone through, by its error
+pub refusal-noted :
+    (i : Inputs) (x : Coverage) (name : Text) (r : RefusedLine) (e : InspectError) (line : ℕ) (note : Noted) → e ≡ inspection.Refused line
+    → IfOk note (Notes x.why (SaysInside i r (note_front (are_several x) name) line)) → NotesWalk i x name r e note
+refusal-noted i x name r e line note is said = subst (λ (d : InspectError). NotesWalk i x name r d note) (sym is) said
+
+pub end-noted : (i : Inputs) (x : Coverage) (name : Text) (r : RefusedLine) (e : InspectError) (note : Noted) → e ≡ inspection.Read → IfOk note (NotesEnd x.why name) → NotesWalk i x name r e note
+end-noted i x name r e note is said = subst (λ (d : InspectError). NotesWalk i x name r d note) (sym is) said
+
+pub walk-unnoted : (i : Inputs) (x : Coverage) (name : Text) (r : RefusedLine) (e : InspectError) (note : Noted) → ((line : ℕ) → e ≡ inspection.Refused line → ⊥) → (e ≡ inspection.Read → ⊥) → IsUnnoted note → NotesWalk i x name r e note
+walk-unnoted i x name r (inspection.Refused line) note refused read none = absurd (refused line refl)
+walk-unnoted i x name r inspection.Read note refused read none = absurd (read refl)
+walk-unnoted i x name r inspection.Memory note refused read none = none
+walk-unnoted i x name r (inspection.Write n) note refused read none = none
+walk-unnoted i x name r inspection.Names note refused read none = none
+walk-unnoted i x name r inspection.Unknown note refused read none = none
 
 -- it is gone through
 pub goes-through :
@@ -124,11 +150,11 @@ module _ {S : Type 0} (opens : Opening S) (i : Inputs) (x : Coverage) (first : G
 
   -- a trace that is not gone through
   pub stops-at :
-      (k : ℕ) (d : Bor Text) (from mid to : S) (m : Gleaned) (f : Failure) → k < length own → GoThrough opens i x (map now (take k own)) from mid first m
-      → IsStopped opens (IsWrongIn (cut_of x) i x.steps) (are_several x) (get_or own k d).now mid to f → AreStopped opens i x from to f
-  stops-at k d from mid to m f within gone is = by f is
+      (k : ℕ) (d : Bor Text) (from mid to : S) (m : Gleaned) (note : Noted) (f : Failure) → k < length own → GoThrough opens i x (map now (take k own)) from mid first m
+      → IsStopped opens i x (get_or own k d).now mid to note f → AreStopped opens i x from to note f
+  stops-at k d from mid to m note f within gone is = by f is
     where
-      all : (g : Failure) → IsStopped opens (IsWrongIn (cut_of x) i x.steps) (are_several x) (get_or own k d).now mid to g → StopsAt opens i x from to g
+      all : (g : Failure) → IsStopped opens i x (get_or own k d).now mid to note g → StopsAt opens i x from to note g
       all g stopped = record {
         before = map now (take k own);
         name = (get_or own k d).now;
@@ -144,11 +170,11 @@ module _ {S : Type 0} (opens : Opening S) (i : Inputs) (x : Coverage) (first : G
         stopped = stopped;
       }
 
-      by : (g : Failure) → IsStopped opens (IsWrongIn (cut_of x) i x.steps) (are_several x) (get_or own k d).now mid to g → AreStopped opens i x from to g
+      by : (g : Failure) → IsStopped opens i x (get_or own k d).now mid to note g → AreStopped opens i x from to note g
       by (Refused refusal) is = all (Refused refusal) is
       by (RefusedTrace text) is = all (RefusedTrace text) is
       by File is = all File is
-      by Memory is = tt
+      by Memory is = inr (all Memory is)
       by (Write n) is = absurd is
       by (Line message) is = absurd is
       by BadOption is = absurd is
@@ -162,11 +188,11 @@ module _ {S : Type 0} (opens : Opening S) (i : Inputs) (x : Coverage) (first : G
       (subst (λ (vs : List (Bor Text)). GoesThrough opens i x (get_or vs k d).now mid to m new) same one)
 
   pub stops-at-of :
-      (us : List (Bor Text)) (k : ℕ) (d : Bor Text) (from mid to : S) (m : Gleaned) (f : Failure) → us ≡ own → k < length us
-      → GoThrough opens i x (map now (take k own)) from mid first m → IsStopped opens (IsWrongIn (cut_of x) i x.steps) (are_several x) (get_or us k d).now mid to f → AreStopped opens i x from to f
-  stops-at-of us k d from mid to m f same within gone is =
-      stops-at k d from mid to m f (subst (λ (vs : List (Bor Text)). k < length vs) same within) gone
-      (subst (λ (vs : List (Bor Text)). IsStopped opens (IsWrongIn (cut_of x) i x.steps) (are_several x) (get_or vs k d).now mid to f) same is)
+      (us : List (Bor Text)) (k : ℕ) (d : Bor Text) (from mid to : S) (m : Gleaned) (note : Noted) (f : Failure) → us ≡ own → k < length us
+      → GoThrough opens i x (map now (take k own)) from mid first m → IsStopped opens i x (get_or us k d).now mid to note f → AreStopped opens i x from to note f
+  stops-at-of us k d from mid to m note f same within gone is =
+      stops-at k d from mid to m note f (subst (λ (vs : List (Bor Text)). k < length vs) same within) gone
+      (subst (λ (vs : List (Bor Text)). IsStopped opens i x (get_or vs k d).now mid to note f) same is)
 
   -- after the last
   pub gone-all :
@@ -191,24 +217,24 @@ report_is i x g front text n reported put many =
 
 module _ {S : Type 0} (opens : Opening S) (given : Given) (x : Coverage) where
   -- nothing is reported where the inputs are refused
-  pub refused : (from : S) (f : Failure) → IsUndeclared given f → IsUnreported opens given x from from f
-  refused from (Refused refusal) is = inl (is, refl)
-  refused from Memory is = tt
-  refused from (RefusedTrace text) is = absurd is
-  refused from File is = absurd is
-  refused from (Write n) is = absurd is
-  refused from (Line message) is = absurd is
-  refused from BadOption is = absurd is
+  pub refused : (from : S) (note : Noted) (f : Failure) → IsUnnoted note → IsUndeclared given f → IsUnreported opens given x from from note f
+  refused from note (Refused refusal) none is = inl (is, refl, none)
+  refused from note Memory none is = inl none
+  refused from note (RefusedTrace text) none is = absurd is
+  refused from note File none is = absurd is
+  refused from note (Write n) none is = absurd is
+  refused from note (Line message) none is = absurd is
+  refused from note BadOption none is = absurd is
 
   -- nothing is reported where a trace is not gone through
-  pub may-stop : (i : Inputs) (from to : S) (f : Failure) → Declares given i → AreStopped opens i x from to f → IsUnreported opens given x from to f
-  may-stop i from to (Refused refusal) declared is = inr (i, declared, is)
-  may-stop i from to (RefusedTrace text) declared is = (i, declared, is)
-  may-stop i from to File declared is = (i, declared, is)
-  may-stop i from to Memory declared is = tt
-  may-stop i from to (Write n) declared is = absurd is
-  may-stop i from to (Line message) declared is = absurd is
-  may-stop i from to BadOption declared is = absurd is
+  pub may-stop : (i : Inputs) (from to : S) (note : Noted) (f : Failure) → Declares given i → AreStopped opens i x from to note f → IsUnreported opens given x from to note f
+  may-stop i from to note (Refused refusal) declared is = inr (i, declared, is)
+  may-stop i from to note (RefusedTrace text) declared is = (i, declared, is)
+  may-stop i from to note File declared is = (i, declared, is)
+  may-stop i from to note Memory declared is = inr (i, declared, is)
+  may-stop i from to note (Write n) declared is = absurd is
+  may-stop i from to note (Line message) declared is = absurd is
+  may-stop i from to note BadOption declared is = absurd is
 
   pub reported :
       (i : Inputs) (from to : S) (text : Text) (less : Bool) → Declares given i
@@ -217,36 +243,36 @@ module _ {S : Type 0} (opens : Opening S) (given : Given) (x : Coverage) where
 
   -- the report is written
   pub written :
-      (from to : S) (old new : Held) (text bytes : Text) (less : Bool) (d : Done) → IsReport opens given x from to text less → bytes ≡ text → Appends old new bytes → d ≡ covered_by less
-      → WritesReport opens given x from to old new (Ok d)
-  written from to old new text bytes true d is same got by =
-      subst (λ (e : Done). WritesReport opens given x from to old new (Ok e)) (sym by) (text, is, subst (Appends old new) same got)
-  written from to old new text bytes false d is same got by =
-      subst (λ (e : Done). WritesReport opens given x from to old new (Ok e)) (sym by) (text, is, subst (Appends old new) same got)
+      (from to : S) (old new : Held) (note : Noted) (text bytes : Text) (less : Bool) (d : Done) → IsUnnoted note → IsReport opens given x from to text less → bytes ≡ text → Appends old new bytes → d ≡ covered_by less
+      → WritesReport opens given x from to old new note (Ok d)
+  written from to old new note text bytes true d none is same got by =
+      subst (λ (e : Done). WritesReport opens given x from to old new note (Ok e)) (sym by) (text, is, subst (Appends old new) same got, none)
+  written from to old new note text bytes false d none is same got by =
+      subst (λ (e : Done). WritesReport opens given x from to old new note (Ok e)) (sym by) (text, is, subst (Appends old new) same got, none)
 
   -- a failure that is passed on writes nothing
-  pub unreported : (from to : S) (old : Held) (end : End) (f : Failure) → IsErrAnd end (λ g. g ≡ f) → IsUnreported opens given x from to f → WritesReport opens given x from to old old end
-  unreported from to old (Ok d) f bad is = absurd bad
-  unreported from to old (Err g) f same is = by g (subst (IsUnreported opens given x from to) (sym same) is)
+  pub unreported : (from to : S) (old : Held) (note : Noted) (end : End) (f : Failure) → IsErrAnd end (λ g. g ≡ f) → IsUnreported opens given x from to note f → WritesReport opens given x from to old old note end
+  unreported from to old note (Ok d) f bad is = absurd bad
+  unreported from to old note (Err g) f same is = by g (subst (IsUnreported opens given x from to note) (sym same) is)
     where
-      by : (g : Failure) → IsUnreported opens given x from to g → WritesReport opens given x from to old old (Err g)
+      by : (g : Failure) → IsUnreported opens given x from to note g → WritesReport opens given x from to old old note (Err g)
       by (Refused refusal) is = (is, refl)
       by (RefusedTrace text) is = (is, refl)
       by File is = (is, refl)
-      by Memory is = refl
+      by Memory is = (is, refl)
       by (Write n) is = absurd is
       by (Line message) is = absurd is
       by BadOption is = absurd is
 
   -- a report of which a part is written
   pub unwritten :
-      (from to : S) (old new : Held) (text bytes : Text) (less : Bool) (end : End) (f : Failure) → IsReport opens given x from to text less → bytes ≡ text → IsErrAnd end (λ g. g ≡ f)
-      → WritesPart old new bytes f → WritesReport opens given x from to old new end
-  unwritten from to old new text bytes less (Ok d) f is same bad part = absurd bad
-  unwritten from to old new text bytes less (Err g) f is same passed part = by g (subst (WritesPart old new bytes) (sym passed) part)
+      (from to : S) (old new : Held) (note : Noted) (text bytes : Text) (less : Bool) (end : End) (f : Failure) → IsUnnoted note → IsReport opens given x from to text less → bytes ≡ text → IsErrAnd end (λ g. g ≡ f)
+      → WritesPart old new bytes f → WritesReport opens given x from to old new note end
+  unwritten from to old new note text bytes less (Ok d) f none is same bad part = absurd bad
+  unwritten from to old new note text bytes less (Err g) f none is same passed part = by g (subst (WritesPart old new bytes) (sym passed) part)
     where
-      by : (g : Failure) → WritesPart old new bytes g → WritesReport opens given x from to old new (Err g)
-      by (Write n) part = (bytes, less, subst (λ (z : Text). IsReport opens given x from to z less) (sym same) is, part)
+      by : (g : Failure) → WritesPart old new bytes g → WritesReport opens given x from to old new note (Err g)
+      by (Write n) part = (bytes, less, subst (λ (z : Text). IsReport opens given x from to z less) (sym same) is, part, none)
       by (Refused refusal) part = absurd part
       by (RefusedTrace message) part = absurd part
       by File part = absurd part
@@ -261,16 +287,6 @@ reported-failure failed fault is = ap (λ (f : Failure). Err f) is
 -- the note to a line of a trace, which is named where there are several
 pub trace-noted :
     (x : Coverage) (i : Inputs) (r : RefusedLine) (several : Bool) (front name : Text) (line : ℕ) (note : Noted) → several ≡ are_several x → front ≡ note_front several name
-    → IfOk note (Notes x.why (SaysInside i r front line)) → IfOk note (NotesTrace x)
-trace-noted x i r several front name line (Err e) same is said = tt
-trace-noted x i r several front name line (Ok None) same is said = tt
-trace-noted x i r several front name line (Ok (Some n)) same is said = (
-  said.0,
-  (name, inl (line, subst (λ (f : Text). SaysLine f line n) (is ∙ ap (λ (b : Bool). note_front b name) same) (record { words = said.1.0; is = said.1.3 }))),
-)
-
--- the note to a trace that is not opened
-pub open-noted : (x : Coverage) (name : Text) (fault : SourceFault) (note : Noted) → IfOk note (Notes x.why (SaysUnread (codes "trace") name fault)) → IfOk note (NotesTrace x)
-open-noted x name fault (Err e) said = tt
-open-noted x name fault (Ok None) said = tt
-open-noted x name fault (Ok (Some n)) said = (said.0, (name, inr (inl (fault, said.1))))
+    → IfOk note (Notes x.why (SaysInside i r front line)) → IfOk note (Notes x.why (SaysInside i r (note_front (are_several x) name) line))
+trace-noted x i r several front name line note same is said =
+    subst (λ (f : Text). IfOk note (Notes x.why (SaysInside i r f line))) (is ∙ ap (λ (b : Bool). note_front b name) same) said

@@ -1,5 +1,5 @@
 -- The note to the line at which a trace is refused.
-use Rattle.fbsim_command.proofs.lemmas.Common.{◌≡◌, ◌≤◌, ℕ, Bool, Option, Some, None, Result, Ok, Err, sym, ap, subst, ◌∙◌, refl, IfErr, IfOk, IfSome, IsTrue, Inputs, system_of, Given, Declares, End, Held, Failure, Noted, Notes, OfRefusal, IsRefusal, RunError, ReadError, Refused, File, Memory, Write}
+use Rattle.fbsim_command.proofs.lemmas.Common.{◌≡◌, ◌≤◌, ℕ, Bool, Option, Some, None, Result, Ok, Err, sym, ap, subst, ◌∙◌, refl, IfErr, IfOk, IfSome, Inputs, system_of, Given, Declares, End, Held, Failure, Noted, Notes, OfRefusal, RunError, ReadError, Refused, File, Memory, Write}
 use Rattle.fb_types.proofs.Common.{MatchOption, codes, true}
 use Rattle.clap.specs.Words.{Text}
 use Rattle.fb_read.specs.Errors.{number_of as read_number}
@@ -7,10 +7,11 @@ use Rattle.fb_read.specs.declared.error.ReadError.TheVariants as read
 use Rattle.fb_check.specs.Refusals as check
 use Rattle.fb_inputs.specs.Refusals as input
 use Rattle.fb_inspect.specs.OfSystem.{IsWrongFor}
+use Rattle.fb_inspect.specs.walk.Looks.{most}
+use Rattle.fb_wave.specs.Named.{HasNames}
 use Rattle.fb_inspect.specs.declared.error.InspectError.{InspectError}
 use Rattle.fb_inspect.specs.declared.error.InspectError.TheVariants as inspection
 use Rattle.fb_inspect.specs.declared.refused.finding.RefusedLine.{RefusedLine}
-use Rattle.fb_sim.specs.declared.outcome.Refusal as sim
 use Rattle.fb_sim.specs.declared.outcome.Refusal.TheVariants as of
 use Rattle.fb_sim.specs.declared.outcome.RunError.TheVariants as run
 use Rattle.fb_wave.specs.CurrentLines.{IsRefusedLine}
@@ -135,6 +136,15 @@ found-so H L W (Err inspection.Unknown) has found = tt
 found-so H L W (Err inspection.Memory) has found = tt
 found-so H L W (Err inspection.Read) has found = tt
 found-so H L W (Err (inspection.Write n)) has found = tt
+
+-- what was found at the line for which a walk refuses a trace
+pub found-covered :
+    {A : Type 0} (i : Inputs) (steps : ℕ) (trace : Held) (found : RefusedLine) (r : Result A InspectError) (e : InspectError) → HasNames (system_of i) → r ≡ Err e
+    → (HasNames (system_of i) → steps ≤ most → IfErr r (OfRefusal (λ n. IfSome trace (IsWrongFor i steps (record { number = n; finding = found.finding }) found.current.text.items))))
+    → OfRefusal (λ n. IsFoundAt i steps trace n found) e
+found-covered {A} i steps trace found r e names is says =
+    subst (λ (s : Result A InspectError). IfErr s (OfRefusal (λ n. IsFoundAt i steps trace n found))) is
+    (found-so (HasNames (system_of i)) (steps ≤ most) (λ n. IfSome trace (IsWrongFor i steps (record { number = n; finding = found.finding }) found.current.text.items)) r names says)
 
 -- ---- Lines of a dump
 

@@ -1,10 +1,9 @@
 -- The declaration in which the names of rules must be, where one is named.
-use Rattle.fbsim_command.proofs.lemmas.Common.{◌≡◌, ◌⊎◌, ℕ, Bor, List, [], map, Option, Some, None, Ok, Err, refl, sym, ap, subst, inl, inr, Given, Holds, types_of, failure_of_source, End, Held, IfOk, IsFirstOf, Noted, EndsIn, Reading, AreRead, IsUnread, Opening, Expect, Failure, Task, SourceFault, Part}
+use Rattle.fbsim_command.proofs.lemmas.Common.{◌≡◌, Bor, List, [], map, Option, Some, None, Ok, Err, refl, sym, ap, subst, inl, inr, Given, Holds, types_of, failure_of_source, End, Held, Noted, EndsIn, Reading, AreRead, IsUnread, Opening, Expect, Failure, Task, SourceFault, Part}
 use Rattle.clap.specs.Words.{Text}
-use Rattle.fbsim_command.specs.Expecting.{AreUnread, Expects, IsUndeclared, MayDeclare, NotesRules, NotesTraces, asked_rules, files_of, own_of}
+use Rattle.fbsim_command.specs.Expecting.{AreUnread, Expects, IsUndeclared, MayDeclare, NotesRules, asked_rules, files_of, own_of}
 use Rattle.fbsim_command.specs.Notes.{Follows}
 use Rattle.fbsim_command.specs.declared.join.FileLines.{FileLines}
-use Rattle.fbsim_command.proofs.lemmas.notes.Noting.{first-then}
 
 pub declares-none : {S : Type 0} (reads : Reading S) (x : Expect) (o : Option (Bor Text)) (s : S) → o ≡ None → MayDeclare reads x o s s [] None
 declares-none reads x o s none = subst (λ (o : Option (Bor Text)). MayDeclare reads x o s s [] None) (sym none) (refl, refl)
@@ -29,13 +28,6 @@ undeclared reads x o name old new part fault types task is typed same unread =
 
 -- ---- The call
 
--- the note is that to a trace, or to the rules
-pub noted-held :
-    (x : Expect) (lines : List FileLines) (declared : Option Given) (inner : End) (bytes read : Text) (note trace : Noted) → read ≡ bytes
-    → Follows trace (NotesRules x read lines declared inner) note → IfOk trace (NotesTraces x inner) → IfOk note (IsFirstOf (NotesTraces x inner) (NotesRules x bytes lines declared inner))
-noted-held x lines declared inner bytes read note trace same last said =
-    first-then (NotesTraces x inner) (NotesRules x bytes lines declared inner) trace note said (subst (λ (b : Text). Follows trace (NotesRules x b lines declared inner) note) same last)
-
 module _ {S : Type 0} (reads : Reading S) (opens : Opening S) (x : Expect) (a : Held) where
   -- a file is not read
   pub unread :
@@ -44,10 +36,10 @@ module _ {S : Type 0} (reads : Reading S) (opens : Opening S) (x : Expect) (a : 
 
   -- all are
   pub read-and-held :
-      (old mid between new : S) (b : Held) (bytes : Text) (lines : List FileLines) (declared : Option Given) (inner end : End) (note : Noted) → reads old x.rules.now asked_rules (Ok bytes) mid
-      → MayDeclare reads x x.declaration mid between lines declared → Holds opens x between new bytes declared a b inner → IfOk note (IsFirstOf (NotesTraces x inner) (NotesRules x bytes lines declared inner))
+      (old mid between new : S) (b : Held) (bytes : Text) (lines : List FileLines) (declared : Option Given) (inner end : End) (of_trace note : Noted) → reads old x.rules.now asked_rules (Ok bytes) mid
+      → MayDeclare reads x x.declaration mid between lines declared → Holds opens x between new bytes declared a b of_trace inner → Follows of_trace (NotesRules x bytes lines declared inner) note
       → EndsIn (types_of x) (own_of x.declaration) lines inner end → Expects reads opens old new x a b end note
-  read-and-held old mid between new b bytes lines declared inner end note rules declaration done noted ends =
+  read-and-held old mid between new b bytes lines declared inner end of_trace note rules declaration done noted ends =
       inl (record {
         between = between;
         bytes = bytes;
@@ -55,6 +47,7 @@ module _ {S : Type 0} (reads : Reading S) (opens : Opening S) (x : Expect) (a : 
         declared = declared;
         read = record { between = mid; rules = rules; declaration = declaration };
         inner = inner;
+        of_trace = of_trace;
         done = done;
         noted = noted;
         ends = ends;

@@ -1,5 +1,5 @@
 -- Rules that are held against traces, one after the other.
-use Rattle.fbsim_command.proofs.lemmas.Common.{◌≡◌, ℕ, suc, ◌+◌, ◌<◌, Bool, true, false, Bor, List, [], ◌∷◌, ◌++◌, length, get_or, map, take, drop, Option, Some, None, option_map, codes, Result, Ok, Err, refl, sym, ap, ◌∙◌, subst, append_assoc, append-nil, inl, inr, arith, ◌&&◌, IfErr, IfOk, IfSome, OnOk, if◌then◌else◌, nat_lt, Appends, drop_more, length-map, map-append, take-append-drop, take_more, IsErrAnd, Given, AreUnheld, Holds, IsUnheld, WritesPart, failure_of_source, End, Held, Opening, Expect, Failure, Refused, RefusedTrace, File, Write, Memory, Line, BadOption, SourceFault}
+use Rattle.fbsim_command.proofs.lemmas.Common.{◌≡◌, ℕ, suc, ◌+◌, ◌<◌, Bool, true, false, Bor, List, [], ◌∷◌, ◌++◌, length, get_or, map, take, drop, Option, Some, None, codes, Result, Ok, Err, refl, sym, ap, ◌∙◌, subst, append_assoc, append-nil, inl, inr, arith, ◌&&◌, IfErr, IfOk, IfSome, OnOk, if◌then◌else◌, nat_lt, Appends, drop_more, length-map, map-append, take-append-drop, take_more, IsErrAnd, Given, AreUnheld, Holds, IsUnheld, WritesPart, failure_of_source, End, Held, Opening, Expect, Failure, Refused, RefusedTrace, File, Write, Memory, Line, BadOption, SourceFault}
 use Rattle.fb_types.proofs.Common.{◌*◌, is_ok, length-take-le, list_all-append}
 use Rattle.clap.specs.Words.{Text}
 use Rattle.fb_expect.specs.Judging as judging
@@ -11,8 +11,8 @@ use Rattle.fb_expect.specs.Suites.{suite, suites_tail}
 use Rattle.fb_expect.specs.declared.judging.Cut.{Cut}
 use Rattle.fb_expect.specs.declared.judging.Judged.{Judged}
 use Rattle.fb_expect.specs.declared.rule.Rule.{Rule}
-use Rattle.fbsim_command.specs.Notes.{Noted, Notes, SaysUnread}
-use Rattle.fbsim_command.specs.Expecting.{AreHeld, AreRules, ComesTo, IsHeld, IsRefusedAt, IsTraceFailure, IsWrongLine, NotesTrace, Puts, PutsOne, Reports, all_well, cut_of, head_of, part_of, points_of, tail_of}
+use Rattle.fbsim_command.specs.Notes.{IsUnnoted, Noted, Notes, NotesEnd, SaysUnread}
+use Rattle.fbsim_command.specs.Expecting.{AreHeld, AreRules, ComesTo, IsHeld, IsRefusedAt, IsTraceFailure, IsWrongLine, NotesError, Puts, PutsOne, Reports, all_well, cut_of, head_of, part_of, points_of, tail_of}
 use Rattle.fbsim_command.specs.Failures.{IsPartWritten}
 use Rattle.fbsim_command.specs.declared.sources.SourceFault.TheVariants as source
 use Rattle.fbsim_command.specs.declared.statuses.Done.TheVariants.{Met, Unmet}
@@ -27,33 +27,43 @@ pub passed-on : {B : Type 0} (r : Result B Failure) (f : Failure) (P : Failure �
 passed-on (Ok b) f P bad p = absurd bad
 passed-on (Err g) f P same p = subst P (sym same) p
 
+-- nothing was noted of it
+nothing-said : (x : Expect) (name : Text) (note : Noted) → IfOk note (Notes x.why (SaysUnread (codes "trace") name source.Memory)) → IsUnnoted note
+nothing-said x name (Err e) said = tt
+nothing-said x name (Ok None) said = refl
+nothing-said x name (Ok (Some n)) said = absurd said.1.is_matter
+
 -- it is not opened
 pub unopened :
-    {S : Type 0} (opens : Opening S) (x : Expect) (old new : S) (name : Text) (fault : SourceFault) → opens old name (Err fault) new → IsUnheld opens x old new name (failure_of_source fault)
-unopened opens x old new name source.File is = inl (source.File, refl, is)
-unopened opens x old new name source.Folder is = inl (source.Folder, refl, is)
-unopened opens x old new name source.Memory is = tt
+    {S : Type 0} (opens : Opening S) (x : Expect) (old new : S) (name : Text) (note : Noted) (fault : SourceFault) → opens old name (Err fault) new
+    → IfOk note (Notes x.why (SaysUnread (codes "trace") name fault)) → IsUnheld opens x old new name note (failure_of_source fault)
+unopened opens x old new name note source.File is said = inl (record { fault = source.File; of_file = refl; unopened = is; noted = said })
+unopened opens x old new name note source.Folder is said = inl (record { fault = source.Folder; of_file = refl; unopened = is; noted = said })
+unopened opens x old new name note source.Memory is said = nothing-said x name note said
 
--- the note to a trace that is not opened
-pub open-noted : (x : Expect) (name : Text) (fault : SourceFault) (note : Noted) → IfOk note (Notes x.why (SaysUnread (codes "trace") name fault)) → IfOk note (NotesTrace x)
-open-noted x name fault (Err e) said = tt
-open-noted x name fault (Ok None) said = tt
-open-noted x name fault (Ok (Some n)) said = (said.0, (name, inl (fault, said.1)))
+-- the note to a trace that is opened and not held, by its error
+pub end-noted : (why : Bool) (name : Text) (e : TraceError) (note : Noted) → e ≡ trace_error.Read → IfOk note (NotesEnd why name) → NotesError why name e note
+end-noted why name e note is said = subst (λ (d : TraceError). NotesError why name d note) (sym is) said
+
+pub error-unnoted : (why : Bool) (name : Text) (e : TraceError) (note : Noted) → (e ≡ trace_error.Read → ⊥) → IsUnnoted note → NotesError why name e note
+error-unnoted why name trace_error.Read note other none = absurd (other refl)
+error-unnoted why name trace_error.Memory note other none = none
+error-unnoted why name (trace_error.Refused line) note other none = none
 
 -- it is refused
 pub refused-at :
-    {A : Type 0} {S : Type 0} (opens : Opening S) (x : Expect) (cut : Cut) (old new : S) (name : Text) (line : ℕ) (trace : Held) (r : Result A TraceError) (f : Failure) → opens old name (Ok trace) new
-    → cut ≡ cut_of x → r ≡ Err (trace_error.Refused line) → IfErr r (IsRefusal cut trace) → IsRefusedAt name line f → IsUnheld opens x old new name f
-refused-at {A = A} opens x cut old new name line trace r f is same refused wrong reported = by f reported
+    {A : Type 0} {S : Type 0} (opens : Opening S) (x : Expect) (cut : Cut) (old new : S) (name : Text) (line : ℕ) (trace : Held) (note : Noted) (r : Result A TraceError) (f : Failure) → opens old name (Ok trace) new
+    → cut ≡ cut_of x → r ≡ Err (trace_error.Refused line) → IfErr r (IsRefusal cut trace) → IsUnnoted note → IsRefusedAt name line f → IsUnheld opens x old new name note f
+refused-at {A = A} opens x cut old new name line trace note r f is same refused wrong none reported = by f reported
   where
     is_wrong : IsWrongLine x trace line
     is_wrong =
         subst (λ (k : Cut). IfSome trace (λ text. judging.IsRefused k text line)) same
         (subst (λ (s : Result A TraceError). IfErr s (IsRefusal cut trace)) refused wrong)
 
-    by : (g : Failure) → IsRefusedAt name line g → IsUnheld opens x old new name g
-    by (RefusedTrace text) reported = (trace, is, (line, is_wrong, reported))
-    by Memory reported = tt
+    by : (g : Failure) → IsRefusedAt name line g → IsUnheld opens x old new name note g
+    by (RefusedTrace text) reported = (trace, is, (line, is_wrong, reported), none)
+    by Memory reported = none
     by (Refused refusal) reported = absurd reported
     by File reported = absurd reported
     by (Write n) reported = absurd reported
@@ -62,11 +72,12 @@ refused-at {A = A} opens x cut old new name line trace r f is same refused wrong
 
 -- the same for each error
 pub failed-at :
-    {A : Type 0} {S : Type 0} (opens : Opening S) (x : Expect) (cut : Cut) (old new : S) (name : Text) (trace : Held) (r : Result A TraceError) (e : TraceError) (f : Failure) → opens old name (Ok trace) new
-    → cut ≡ cut_of x → r ≡ Err e → IfErr r (IsRefusal cut trace) → IsTraceFailure name e f → IsUnheld opens x old new name f
-failed-at opens x cut old new name trace r (trace_error.Refused line) f is same refused wrong reported = refused-at opens x cut old new name line trace r f is same refused wrong reported
-failed-at opens x cut old new name trace r trace_error.Memory f is same refused wrong reported = subst (IsUnheld opens x old new name) (sym reported) tt
-failed-at opens x cut old new name trace r trace_error.Read f is same refused wrong reported = subst (IsUnheld opens x old new name) (sym reported) (inr (trace, is))
+    {A : Type 0} {S : Type 0} (opens : Opening S) (x : Expect) (cut : Cut) (old new : S) (name : Text) (trace : Held) (note : Noted) (r : Result A TraceError) (e : TraceError) (f : Failure) → opens old name (Ok trace) new
+    → cut ≡ cut_of x → r ≡ Err e → IfErr r (IsRefusal cut trace) → NotesError x.why name e note → IsTraceFailure name e f → IsUnheld opens x old new name note f
+failed-at opens x cut old new name trace note r (trace_error.Refused line) f is same refused wrong said reported = refused-at opens x cut old new name line trace note r f is same refused wrong said reported
+failed-at opens x cut old new name trace note r trace_error.Memory f is same refused wrong said reported = subst (IsUnheld opens x old new name note) (sym reported) said
+failed-at opens x cut old new name trace note r trace_error.Read f is same refused wrong said reported =
+    subst (IsUnheld opens x old new name note) (sym reported) (inr (record { trace = trace; opened = is; noted = said }))
 
 -- it is held
 pub held-one :
@@ -214,16 +225,16 @@ comes-to opens x rules i d old mid before text well lt puts =
     }
 
 pub unheld-at :
-    {S : Type 0} (opens : Opening S) (x : Expect) (rules : List Rule) (name : Text) (old mid new : S) (f : Failure) → ComesTo opens x rules old mid name
-    → IsUnheld opens x mid new name f → AreUnheld opens x rules old new f
-unheld-at opens x rules name old mid new (RefusedTrace text) comes is =
-    record { name = name; between = mid; comes = comes; trace = is.0; opened = is.1; line = is.2.0; is_wrong = is.2.1; reported = is.2.2 }
-unheld-at opens x rules name old mid new File comes is = record { name = name; between = mid; comes = comes; lacks = is }
-unheld-at opens x rules name old mid new Memory comes is = tt
-unheld-at opens x rules name old mid new (Refused refusal) comes is = absurd is
-unheld-at opens x rules name old mid new (Write n) comes is = absurd is
-unheld-at opens x rules name old mid new (Line message) comes is = absurd is
-unheld-at opens x rules name old mid new BadOption comes is = absurd is
+    {S : Type 0} (opens : Opening S) (x : Expect) (rules : List Rule) (name : Text) (old mid new : S) (note : Noted) (f : Failure) → ComesTo opens x rules old mid name
+    → IsUnheld opens x mid new name note f → AreUnheld opens x rules old new note f
+unheld-at opens x rules name old mid new note (RefusedTrace text) comes is =
+    (record { name = name; between = mid; comes = comes; trace = is.0; opened = is.1; line = is.2.0; is_wrong = is.2.1; reported = is.2.2 }, is.3)
+unheld-at opens x rules name old mid new note File comes is = record { name = name; between = mid; comes = comes; lacks = is }
+unheld-at opens x rules name old mid new note Memory comes is = is
+unheld-at opens x rules name old mid new note (Refused refusal) comes is = absurd is
+unheld-at opens x rules name old mid new note (Write n) comes is = absurd is
+unheld-at opens x rules name old mid new note (Line message) comes is = absurd is
+unheld-at opens x rules name old mid new note BadOption comes is = absurd is
 
 -- what it ends with
 pub tail-put :
@@ -247,39 +258,39 @@ rules_reported opens x rules old new first text all well is puts end =
 
 -- ---- Ends
 
-module _ {S : Type 0} (opens : Opening S) (x : Expect) (bytes-of : Text) (declared : Option Given) (rules : List Rule) (are : AreRules bytes-of declared rules) (old new : S) (a : Held) where
-  pub unheld : (f : Failure) → AreUnheld opens x rules old new f → Holds opens x old new bytes-of declared a a (Err f)
-  unheld (RefusedTrace text) is = (rules, are, is, refl)
+module _ {S : Type 0} (opens : Opening S) (x : Expect) (bytes-of : Text) (declared : Option Given) (rules : List Rule) (are : AreRules bytes-of declared rules) (old new : S) (a : Held) (note : Noted) where
+  pub unheld : (f : Failure) → AreUnheld opens x rules old new note f → Holds opens x old new bytes-of declared a a note (Err f)
+  unheld (RefusedTrace text) is = (rules, are, is.0, refl, is.1)
   unheld File is = (rules, are, is, refl)
-  unheld Memory is = refl
+  unheld Memory is = (refl, is)
   unheld (Refused refusal) is = absurd is
   unheld (Write n) is = absurd is
   unheld (Line message) is = absurd is
   unheld BadOption is = absurd is
 
   pub unwritten :
-      (b : Held) (well : Bool) (text bytes : Text) → bytes ≡ text → Reports opens x rules old new well text → (f : Failure) → WritesPart a b bytes f
-      → Holds opens x old new bytes-of declared a b (Err f)
-  unwritten b well text bytes same reports (Write n) part = (rules, are, (well, text, reports, subst (λ (z : Text). IsPartWritten a b z n) same part))
-  unwritten b well text bytes same reports (RefusedTrace message) part = absurd part
-  unwritten b well text bytes same reports File part = absurd part
-  unwritten b well text bytes same reports Memory part = absurd part
-  unwritten b well text bytes same reports (Refused refusal) part = absurd part
-  unwritten b well text bytes same reports (Line message) part = absurd part
-  unwritten b well text bytes same reports BadOption part = absurd part
+      (b : Held) (well : Bool) (text bytes : Text) → IsUnnoted note → bytes ≡ text → Reports opens x rules old new well text → (f : Failure) → WritesPart a b bytes f
+      → Holds opens x old new bytes-of declared a b note (Err f)
+  unwritten b well text bytes none same reports (Write n) part = (rules, are, (well, text, reports, subst (λ (z : Text). IsPartWritten a b z n) same part), none)
+  unwritten b well text bytes none same reports (RefusedTrace message) part = absurd part
+  unwritten b well text bytes none same reports File part = absurd part
+  unwritten b well text bytes none same reports Memory part = absurd part
+  unwritten b well text bytes none same reports (Refused refusal) part = absurd part
+  unwritten b well text bytes none same reports (Line message) part = absurd part
+  unwritten b well text bytes none same reports BadOption part = absurd part
 
   -- all are well, or not
-  pub met : (b : Held) (well : Bool) (text bytes : Text) → well ≡ true → Reports opens x rules old new well text → bytes ≡ text → Appends a b bytes → Holds opens x old new bytes-of declared a b (Ok Met)
-  met b well text bytes is reports same got =
-      (rules, are, (text, subst (λ (w : Bool). Reports opens x rules old new w text) is reports, subst (λ (z : Text). Appends a b z) same got))
+  pub met : (b : Held) (well : Bool) (text bytes : Text) → IsUnnoted note → well ≡ true → Reports opens x rules old new well text → bytes ≡ text → Appends a b bytes → Holds opens x old new bytes-of declared a b note (Ok Met)
+  met b well text bytes none is reports same got =
+      (rules, are, (text, subst (λ (w : Bool). Reports opens x rules old new w text) is reports, subst (λ (z : Text). Appends a b z) same got), none)
 
-  pub unmet : (b : Held) (well : Bool) (text bytes : Text) → well ≡ false → Reports opens x rules old new well text → bytes ≡ text → Appends a b bytes → Holds opens x old new bytes-of declared a b (Ok Unmet)
-  unmet b well text bytes is reports same got =
-      (rules, are, (text, subst (λ (w : Bool). Reports opens x rules old new w text) is reports, subst (λ (z : Text). Appends a b z) same got))
+  pub unmet : (b : Held) (well : Bool) (text bytes : Text) → IsUnnoted note → well ≡ false → Reports opens x rules old new well text → bytes ≡ text → Appends a b bytes → Holds opens x old new bytes-of declared a b note (Ok Unmet)
+  unmet b well text bytes none is reports same got =
+      (rules, are, (text, subst (λ (w : Bool). Reports opens x rules old new w text) is reports, subst (λ (z : Text). Appends a b z) same got), none)
 
 -- a failure that is passed on
 pub held-passed :
-    {S : Type 0} (opens : Opening S) (x : Expect) (old new : S) (bytes : Text) (declared : Option Given) (a b : Held) (r : End) (f : Failure) → IsErrAnd r (λ g. g ≡ f)
-    → Holds opens x old new bytes declared a b (Err f) → Holds opens x old new bytes declared a b r
-held-passed opens x old new bytes declared a b (Ok d) f bad is = absurd bad
-held-passed opens x old new bytes declared a b (Err g) f same is = subst (λ (h : Failure). Holds opens x old new bytes declared a b (Err h)) (sym same) is
+    {S : Type 0} (opens : Opening S) (x : Expect) (old new : S) (bytes : Text) (declared : Option Given) (a b : Held) (note : Noted) (r : End) (f : Failure) → IsErrAnd r (λ g. g ≡ f)
+    → Holds opens x old new bytes declared a b note (Err f) → Holds opens x old new bytes declared a b note r
+held-passed opens x old new bytes declared a b note (Ok d) f bad is = absurd bad
+held-passed opens x old new bytes declared a b note (Err g) f same is = subst (λ (h : Failure). Holds opens x old new bytes declared a b note (Err h)) (sym same) is

@@ -12,6 +12,7 @@ use Rattle.fb_expect.specs.declared.error.RulesError.{RulesError}
 use Rattle.fb_expect.specs.declared.rule.Rule.{Rule}
 use Rattle.fbsim_command.specs.Expecting.{AreRules, IsUnnamed, Names, RefusesFor}
 use Rattle.fbsim_command.specs.Failures.{failure_of_rules}
+use Rattle.fbsim_command.specs.Notes.{IsUnnoted, Noted}
 
 -- ---- What is declared is refused
 
@@ -65,15 +66,15 @@ alone bytes declared rs none are = subst (λ (o : Option Given). AreRules bytes 
 
 -- nothing is held where rules are refused
 pub held-none :
-    {S : Type 0} (opens : Opening S) (x : Expect) (s : S) (bytes : Text) (declared : Option Given) (a : Held) (f : Failure) → RefusesFor bytes declared f
-    → Holds opens x s s bytes declared a a (Err f)
-held-none opens x s bytes declared a (Refused refusal) is = (is, refl, refl)
-held-none opens x s bytes declared a Memory is = refl
-held-none opens x s bytes declared a (RefusedTrace text) is = absurd is
-held-none opens x s bytes declared a File is = absurd is
-held-none opens x s bytes declared a (Write n) is = absurd is
-held-none opens x s bytes declared a (Line message) is = absurd is
-held-none opens x s bytes declared a BadOption is = absurd is
+    {S : Type 0} (opens : Opening S) (x : Expect) (s : S) (bytes : Text) (declared : Option Given) (a : Held) (note : Noted) (f : Failure) → IsUnnoted note → RefusesFor bytes declared f
+    → Holds opens x s s bytes declared a a note (Err f)
+held-none opens x s bytes declared a note (Refused refusal) none is = (is, refl, refl, none)
+held-none opens x s bytes declared a note Memory none is = (refl, none)
+held-none opens x s bytes declared a note (RefusedTrace text) none is = absurd is
+held-none opens x s bytes declared a note File none is = absurd is
+held-none opens x s bytes declared a note (Write n) none is = absurd is
+held-none opens x s bytes declared a note (Line message) none is = absurd is
+held-none opens x s bytes declared a note BadOption none is = absurd is
 
 -- bytes that are refused are no rules
 pub no-rules : (bytes : Text) (e : RulesError) → (e ≡ error.Memory → ⊥) → IfSome (rules.number_of e) (λ n. rules_of bytes ≡ Err n) → (rs : List Rule) → rules_of bytes ≡ Ok rs → ⊥
