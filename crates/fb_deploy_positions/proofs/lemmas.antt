@@ -1,7 +1,11 @@
 pub mod Documents
+pub mod Ends
 pub mod Follows
+pub mod Keys
 pub mod Lines
 pub mod Nearest
+pub mod Offsets
+pub mod Parts
 pub mod Plain
 pub mod Searches
 pub mod Tokens

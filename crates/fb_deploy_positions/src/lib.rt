@@ -11,7 +11,8 @@
 //!
 //! Read in this order: `tokens`, `keys` and `values`, for what follows a value and where its parts are; `statement` and
 //! `reading`, for the statements; `search`; `entry`; `spans` and `outline`. `laws` says that the definitions agree with
-//! the TOML reader: what it reads in a document is what the statements define.
+//! the TOML reader: what it reads in a document is what the statements define. It reads the parts of values and the keys
+//! of entries where they begin. What begins with each is an end of the text.
 #![tactic(auto)]
 
 mod entry;
