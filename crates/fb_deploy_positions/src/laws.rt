@@ -13,7 +13,7 @@ pub fn defines_documents()
     ensures { DefinesDocuments }
 {}
 
-/// What begins statements, entries, their names, values and elements are ends of the text, so each begins at its offset.
+/// Statements, entries, their names, values and elements are ends of the text, so each begins at its offset.
 pub fn begins_at_offsets()
     ensures statements { StatementsHaveEnds }
     ensures elements { ElementsAreEnds }
