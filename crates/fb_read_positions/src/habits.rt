@@ -216,7 +216,7 @@ pub fn push_habit(
         }
     }
     if ends_name(expected) {
-        push_left_out_before(message, earlier);
+        push_left_out_before(message, earlier, here);
     }
     message.words(doubled(before, here));
     message.words(misplaced(here, expected));

@@ -15,8 +15,11 @@ const LANGUAGE: &str =
 const BLOCKS: &str =
     "ADAPTER ADAPTER_CONNECTIONS PLUGS SOCKETS SERVICE SUBAPPLICATION SUBAPPS SYSTEM DEVICE RESOURCE SEGMENT MAPPING";
 
-/// Event blocks of IEC 61499-1 that the profile leaves out.
-const EVENT_BLOCKS: &str = "E_RS E_TRAIN E_TABLE E_N_TABLE E_TABLE_CTRL E_DEMUX";
+/// Event blocks of IEC 61499-1 that the profile leaves out, and that share/annex_a.iec declares.
+const EVENT_BLOCKS: &str = "E_RS E_TRAIN E_TABLE E_N_TABLE E_DEMUX E_T_FF";
+
+/// Blocks of IEC 61131-3 that share/annex_a.iec declares.
+const LANGUAGE_BLOCKS: &str = "TON TOF TP CTU CTD CTUD SR RS";
 
 /// Whether bytes are among words that are separated by spaces, whatever their case.
 fn is_among(bytes: &[u8], words: &str) -> bool {
@@ -46,8 +49,11 @@ pub fn push_left_out(message: &mut Text, here: &[u8]) {
     }
 }
 
-/// The same of the word before.
-pub(crate) fn push_left_out_before(message: &mut Text, word: &[u8]) {
+/// The same of the word before. Before an assignment it is a name, and DT is an input of E_CYCLE and E_DELAY.
+pub(crate) fn push_left_out_before(message: &mut Text, word: &[u8], here: &[u8]) {
+    if matches!(here, [b'=']) || word.eq_ignore_ascii_case(b"DT") {
+        return;
+    }
     if let Some(standard) = standard_of(word) {
         message.words(" (");
         message.shown(word);
@@ -72,7 +78,11 @@ fn is_message_block(name: &[u8]) -> bool {
 /// Says of the name of an unknown block type that the profile leaves the block of this name out.
 pub fn push_left_out_block(message: &mut Text, name: &[u8]) {
     if is_among(name, EVENT_BLOCKS) {
-        message.words(" (an event block of IEC 61499-1 that the profile leaves out)");
+        message.words(
+            " (an event block of IEC 61499-1 that is not built in: annex_a.iec declares it)",
+        );
+    } else if is_among(name, LANGUAGE_BLOCKS) {
+        message.words(" (a block of IEC 61131-3 that is not built in: annex_a.iec declares it)");
     } else if is_message_block(name) {
         message.words(
             " (a block of IEC 61499-1 that the profile leaves out: links carry messages)",

@@ -39,7 +39,7 @@ pub static OF_DECLARATIONS: [Explanation; 5] = [
         meaning: "The tokens of the declaration are no library. The line is that of the first token that can't be there.",
         example: "`S : E_RESTART` with no `;` after it: the line is that of the next token.",
         other: "`VAR_OUTPUT` before `VAR_INPUT`: the sections have a fixed order.",
-        look: "That line, and the end of the line before it. The grammar is above.",
+        look: "That line, and the end of the line before it. docs/FORMATS.md has the grammar.",
     },
     Explanation {
         name: "E04",
@@ -99,7 +99,7 @@ pub static OF_INPUTS: [Explanation; 7] = [
         meaning: "A deployment or stimuli are over a limit.",
         example: "A stimulus at a tick over 1,000,000,000,000.",
         other: "257 resources.",
-        look: "The limits are in the table above: of bytes, resources, links, entries of a table of latencies, stimuli and their ticks.",
+        look: "The limits of bytes, resources, links, entries of a table of latencies, stimuli and their ticks: docs/FORMATS.md, \"Limits\".",
     },
     Explanation {
         name: "E16",
@@ -198,7 +198,7 @@ pub static OF_MAPPINGS: [Explanation; 6] = [
         meaning: "A file can't be read.",
         example: "A name that no file has, or a folder instead of a file.",
         other: "`-` for two files: standard input is read once.",
-        look: "The names in the call. The declaration is read first, then the deployment, then the stimuli.",
+        look: "The names in the call. Rules are read first, then block types, declaration, deployment and stimuli, and traces last.",
     },
 ];
 
@@ -223,14 +223,14 @@ pub static OF_RULES: [Explanation; 6] = [
         meaning: "A rule lacks a key, has an unknown one, or has a value of another kind; or there is no rule.",
         example: "`after` with both `see` and `not`, or with neither.",
         other: "`within = \"10\"`: a number has no quotes.",
-        look: "Each `[[rule]]` has a `name`, and the keys of one form: `after`, `within`, and `see` or `not`; `before`, `within`, `see`; `never`, with `from` and `to` or without; `count`, with `least` or `most` or both, and with `every` or without.",
+        look: "Each `[[rule]]` has a `name`, and the keys of one form: `after`, `within`, and `see` (with `same` and `each` or without) or `not`; `before`, `within`, `see`; `never`, with `from` and `to` or without; `count`, with `least` or `most` or both, and with `every` or without.",
     },
     Explanation {
         name: "E43",
         meaning: "A text of a rule is not a pattern.",
         example: "`VALVE.CLOSED`: a resource and a sign come first, as in `* < VALVE.CLOSED`.",
         other: "`R1 > LAMP.SET ON = TRUE`: a condition has no blanks.",
-        look: "A pattern is `RESOURCE > PATH.EVENT VAR=value ..`: a name or `*`; `>`, `<` or `*`; two names or more joined by full stops, of which `*` may replace the last ones; then conditions. TRUE and FALSE are compared only by `=` and `<>`.",
+        look: "A pattern is `RESOURCE > PATH.EVENT VAR=value ..`: a name or `*`; `>`, `<` or `*`; names joined by full stops, at least two, with one `*` in each at most, or `*` for the first or the last ones; then conditions. TRUE and FALSE are compared only by `=` and `<>`.",
     },
     Explanation {
         name: "E44",
@@ -375,7 +375,7 @@ pub static OF_NETWORK_WARNINGS: [Explanation; 5] = [
         meaning: "A statement assigns a constant that its variable can't hold.",
         example: "`N := 300;` where `N` is a USINT: the resource stops, for the reason range.",
         other: "`N := -1;` where `N` is a UINT.",
-        look: "The type of the variable. docs/PROFILE.md has the range of each type.",
+        look: "The type of the variable. docs/FORMATS.md, \"Types and constants\", has the range of each.",
     },
     Explanation {
         name: "L18",

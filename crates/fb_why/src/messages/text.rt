@@ -37,7 +37,7 @@ fn push_fault(alloc: Global, message: &mut Text, text: &[u8], found: TextRefusal
         }
         TextFault::Byte => push_about(message, "", here, " is allowed only in comments"),
         TextFault::TooLong => message.numbered("a text has at most ", MOST_BYTES, " bytes"),
-        TextFault::Nesting => push_about(message, "with ", here, " more than 64 are nested"),
+        TextFault::Nesting => push_about(message, "at ", here, " the nesting is more than 64 deep"),
     }
 }
 
