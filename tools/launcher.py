@@ -1,11 +1,11 @@
 #!/usr/bin/env python3
 """tools/launcher.py [--write] [PROGRAM]: checks ./simulate, and the texts that it prints without the program.
 
-The built program, or PROGRAM, must print the help of docs/HELP.md, the explanations that tools/unbuilt.py reads from the sources, and
-the version of CHANGELOG.md. The man page and the completions must name each command and option of the help. Then ./simulate is called
-in a copy of the files that it needs, with stand-ins for the tools that build: by a symbolic link, without a build, with an unproved
-program, to install and to package. With --write this writes docs/HELP.md as the program prints it. ./gate runs the rest each time it has run the
-program."""
+The built program, or PROGRAM, must print the help of docs/HELP.md, the explanations that tools/unbuilt.py reads from the sources,
+what it says of a first word that is no command, and the version of CHANGELOG.md. The man page and the completions must name each
+command and option of the help. Then ./simulate is called in a copy of the files that it needs, with stand-ins for the tools that
+build: by a symbolic link, without a build, with an unproved program, to install and to package. With --write this writes docs/HELP.md
+as the program prints it. ./gate runs the rest each time it has run the program."""
 
 import os
 import re
@@ -38,6 +38,9 @@ PACKAGES = """import sys
 print("packages", *sys.argv[1:], file=sys.stderr)
 sys.exit(sys.argv[-1] == "none")
 """
+# Calls whose first word is no command and no option, and is like none, so that the program has no tip.
+MISTYPED = ("rnu -", "- run", "--unprovd run -", "-xh", "rnu --help")
+NO_COMMAND = "error: {0}\n\nUsage: fbsim <COMMAND>\n\nFor more information, try '--help'.\n"
 NOT_PROVED = "simulate: this program is not proved: `./simulate` without --unproved proves it and builds it\n"
 
 
@@ -78,9 +81,16 @@ def completed(*words):
     return ran.stdout.split()
 
 
+def refused_otherwise(room):
+    """Returns the mistyped calls that the program refuses otherwise than tools/unbuilt.py does."""
+    calls = [it.split() for it in MISTYPED]
+    ran = [room.call(it) for it in calls]
+    return [f"{it}: the program refuses it otherwise" for it, by in zip(calls, ran) if (by.returncode, by.stderr.decode()) != (5, unbuilt.refusal(it))]
+
+
 def texts_beside(room):
     """Returns the faults of the texts that ./simulate prints without the program."""
-    faults = unnamed(unbuilt.helps())
+    faults = unnamed(unbuilt.helps()) + refused_otherwise(room)
     if help_page(room) != unbuilt.content(unbuilt.HELP):
         faults.append("docs/HELP.md: the program prints another help: tools/launcher.py --write")
     texts = unbuilt.explanations()
@@ -153,7 +163,9 @@ def answer_unbuilt(it):
     version = f"fbsim {unbuilt.version()}\n"
     it.call(["--version"], 0, version + "this program is proved; --unproved runs one that is not\n")
     it.call(["--unproved", "-V"], 0, version + "this program is not proved\n")
-    for words in (["check", "-"], ["install", f"{it.folder}/to"]):
+    it.call(["rnu", "-"], 5, err=NO_COMMAND.format("unrecognized subcommand 'rnu'"))
+    it.call(["--unprovd", "run", "-"], 5, err=NO_COMMAND.format("unexpected argument '--unprovd' found"))
+    for words in (["check", "-"], ["check", "--bogus"], ["install", f"{it.folder}/to"]):
         it.call(words, 126, err="a build\n")
     it.call(["package", "to"], 126, err="packages --check to\na build\n")
     it.call(["package", "none"], 1, err="packages --check none\n")
@@ -164,6 +176,9 @@ def keep_unproved(it):
     it.call(["--unproved", "explain", "E06"], 5, err="error: no refusal or stop is called E06\n")
     it.call(["--unproved", "check", "-"], 0, "accepted\n", NOT_PROVED + "a build\n")
     it.call(["--unproved", "check", "-"], 0, "accepted\n")
+    # Its help and its refusals show the name of the program, not that of its file.
+    it.call(["--unproved", "run", "--help"], 0, unbuilt.helps()["run"])
+    it.call(["--unproved", "rnu"], 5, err=NO_COMMAND.format("unrecognized subcommand 'rnu'"))
     it.is_changed(it.unproved)
     it.call(["--unproved", "check", "-"], 0, "accepted\n", NOT_PROVED + "a build\n")
 

@@ -2,8 +2,8 @@
 """tools/unbuilt.py WORD..: answers a call of the program that needs no program, for ./simulate.
 
 The version is that of CHANGELOG.md, with the commit if git knows it. The help is that of docs/HELP.md, an explanation is from the
-tables of fb_why. ./gate compares all three with what the program prints (tools/launcher.py). The status is that of the program, or
-64 for any other call."""
+tables of fb_why. A first word that is no command and no option is refused by the names in the help. ./gate compares all four with
+what the program prints (tools/launcher.py). The status is that of the program, or 64 for any other call."""
 
 import ast
 import os
@@ -58,6 +58,16 @@ def explanations():
     return {row[0]: form.format(*row) for row in entries(content(TABLE))}
 
 
+def refusal(words):
+    """Returns what the program prints, but for its tips, if the first word is no command and no option of its own, or None."""
+    word, top = words[0] if words else "", helps()[""]
+    if not word or word in re.findall(r"^  (\w+) ", top, re.M) or re.match(r"-[hV-]$|-[hV]|--(help|version)\b", word):
+        return None
+    option = word.partition("=")[0] if word.startswith("--") else word[:2]
+    what = f"unexpected argument '{option}' found" if word.startswith("-") and word != "-" else f"unrecognized subcommand '{word}'"
+    return f"error: {what}\n\nUsage: fbsim <COMMAND>\n\nFor more information, try '--help'.\n"
+
+
 def asked_help(words):
     """Returns the command whose help these words ask for, or None."""
     match words:
@@ -70,7 +80,7 @@ def asked_help(words):
 
 def answer(words):
     """Answers the call and returns the status."""
-    command = asked_help(words)
+    command, wrong = asked_help(words), refusal(words)
     match words:
         case ["--version" | "-V"]:
             print(f"fbsim {version()}{commit()}")
@@ -82,6 +92,9 @@ def answer(words):
             print(text, end="")
         case _ if command is not None:
             print(helps()[command], end="")
+        case _ if wrong is not None:
+            print(wrong, end="", file=sys.stderr)
+            return 5
         case _:
             return NEEDS_PROGRAM
     return 0
