@@ -21,9 +21,10 @@ from .blocks import Library
 from .common import Faults, FileFault, Refused
 from .document import read_document
 from .network import System, system_of
+from .report import ACCEPTED, add_options, finish
 from .writing import MARK, place_in, texts_of
 
-ACCEPTED, REFUSED, FILES, COMMAND_LINE = 0, 2, 3, 5
+FILES, COMMAND_LINE = 3, 5
 FINDING = re.compile(r"(application\.iec|types\.iec|deploy\.toml):(\d+):(\d+): (.*)")
 
 
@@ -36,6 +37,7 @@ def arguments(words: Sequence[str] | None) -> argparse.Namespace:
     parser.add_argument("--lib", action="append", default=[], metavar="DIR", help="a folder with types, at any depth")
     parser.add_argument("--latency", type=int, default=1, metavar="N", help="the latency of each link, in ms (1)")
     parser.add_argument("--stub", action="store_true", help="replace service interface types by stubs")
+    add_options(parser)
     try:
         given = parser.parse_args(words)
         if not 1 <= given.latency <= 1_000_000:
@@ -97,7 +99,7 @@ def write(given: argparse.Namespace, texts: dict[str, str], faults: Faults) -> N
 
 
 def main(words: Sequence[str] | None = None) -> int:
-    """Import files, and return the status: 0 accepted, 2 refused, 3 for files, 5 for the command line."""
+    """Import files, and return the status: 0 accepted, 1 with a denied warning, 2 refused, 3 for files, 5 for the command line."""
     given, faults = arguments(words), Faults()
     try:
         texts = convert(given, faults)
@@ -108,8 +110,7 @@ def main(words: Sequence[str] | None = None) -> int:
     except (FileFault, ProgramMissing) as fault:
         print(f"fbsim-import: {fault}", file=sys.stderr)
         return FILES
-    print(*(faults.lines() or ["accepted"]), sep="\n", file=sys.stderr if faults else sys.stdout)
-    return REFUSED if faults else ACCEPTED
+    return finish(faults, given.deny)
 
 
 if __name__ == "__main__":

@@ -111,7 +111,7 @@ class Library:
                 own, known = block.shape(is_exact), usual.shape(is_exact)
                 is_other = own != known if is_exact else block.kind != "service" and not known <= own
             if is_other:
-                self.faults |= trial.faults
+                self.faults.take(trial.faults)
                 self.ignored += trial.ignored
                 self.blocks[key] = block and self.named(block, name)
         return self.blocks.get(key)

@@ -46,8 +46,27 @@ def shown(text: str) -> str:
     return line if len(line) <= 60 else line[:57] + ".."
 
 
+def shortened(lines: list[str]) -> list[str]:
+    """Return the first lines of a long list, and how many more there are."""
+    return [*lines[:MOST_SHOWN], *([f"and {len(lines) - MOST_SHOWN:,} more"] if len(lines) > MOST_SHOWN else [])]
+
+
 class Faults(set[tuple[Place, str]]):
-    """All refusals of one import, so that they can be shown together. The same one at the same place is kept once."""
+    """All refusals of one import, so that they can be shown together, and its warnings. The same one at the same place is kept once."""
+
+    def __init__(self) -> None:
+        super().__init__()
+        self.warnings: set[tuple[Place, str, str]] = set()
+
+    def warn(self, place: Place, number: str, text: str) -> None:
+        """Keep a warning with its number in tables.toml. It does not stop an import (report.py)."""
+        if len(self.warnings) < MOST_KEPT:
+            self.warnings.add((place, number, text))
+
+    def take(self, others: Faults) -> None:
+        """Keep what other faults have, too."""
+        self.update(others)
+        self.warnings |= others.warnings
 
     def refuse(self, place: Place, text: str) -> Refused:
         """Keep a refusal, and return the exception to raise if the import can't go on after it."""
@@ -58,8 +77,11 @@ class Faults(set[tuple[Place, str]]):
 
     def lines(self) -> list[str]:
         """Return a line for each refusal, ordered by file and place."""
-        lines = [f"{place}: {text}" for place, text in sorted(self)[:MOST_SHOWN]]
-        return [*lines, f"and {len(self) - MOST_SHOWN:,} more"] if len(self) > MOST_SHOWN else lines
+        return shortened([f"{place}: {text}" for place, text in sorted(self)])
+
+    def warned(self) -> list[str]:
+        """Return a line for each warning, ordered by file and place."""
+        return shortened([f"{place}: {number}: {text}" for place, number, text in sorted(self.warnings)])
 
 
 class Folded(dict[str, T]):
