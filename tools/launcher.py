@@ -26,7 +26,7 @@ HEAD = "# Help\n\nWhat `--help` prints, for the program and each of its commands
 COMPLETIONS = ("bash-completion/completions/fbsim", "zsh/site-functions/_fbsim", "fish/vendor_completions.d/fbsim.fish")
 MANUAL = "man/man1/fbsim.1"
 # What ./simulate needs of the repository.
-NEEDED = ("simulate", "tools/unbuilt.py", "tools/start_unproved", "docs/HELP.md", "CHANGELOG.md", "crates.txt", "crates/fb_why/src/table.rt", "share")
+NEEDED = ("simulate", "tools/unbuilt.py", "tools/start_unproved", "tools/install.py", "docs/HELP.md", "CHANGELOG.md", "crates.txt", "crates/fb_why/src/table.rt", "share")
 STANDS_IN = """import os, shutil, sys
 print("a build", file=sys.stderr)
 if sys.argv[1:]:
@@ -133,9 +133,9 @@ class Launcher:
             os.utime(it, (now - 9, now - 9))
         os.utime(f"{self.tree}/crates.txt", (now - 5, now - 5))
 
-    def call(self, words, status, out="", err="", by=None):
-        """Calls it, and records a fault if the result is another one. Only the last lines of a long text are compared."""
-        ran = subprocess.run([by or f"{self.tree}/simulate", *words], input=CYCLE.decode(), capture_output=True, text=True, cwd=self.folder)
+    def call(self, words, status, out="", err="", by=None, **how):
+        """Calls it, and records a fault if the result is another one. Only the last lines of a long text are shown."""
+        ran = subprocess.run([by or f"{self.tree}/simulate", *words], input=CYCLE.decode(), capture_output=True, text=True, cwd=self.folder, **how)
         self.count += 1
         if (ran.returncode, ran.stdout, ran.stderr) != (status, out, err):
             self.faults.append(f"./simulate {words}: status {ran.returncode}, {ran.stdout[-300:]!r}, {ran.stderr[-300:]!r}")
@@ -188,25 +188,83 @@ def installed(folder):
     return {os.path.relpath(f"{at}/{name}", folder) for at, _, names in os.walk(folder) for name in names}
 
 
+def closed(folder):
+    """Returns what in a folder others can't read, or enter."""
+    return [at for at, _, names in os.walk(folder) for it in (at, *[f"{at}/{name}" for name in names]) if os.stat(it).st_mode & 0o555 not in (0o555, 0o444)]
+
+
+def refuse_folders(it):
+    """Where nothing can be installed or packaged: before anything is built or removed, and with nothing written anywhere."""
+    it.is_changed(it.built, it.unproved)
+    for name, text in (("a file", "kept"), ("full/bin/fbsim/in", "kept")):
+        os.makedirs(os.path.dirname(f"{it.folder}/{name}"), exist_ok=True)
+        with open(f"{it.folder}/{name}", "w", encoding="utf-8") as file:
+            file.write(text)
+    os.symlink("nowhere", f"{it.folder}/dangling")
+    os.makedirs(f"{it.folder}/closed", 0o755)
+    before = installed(it.folder)
+    no_user = {"user": "nobody", "group": "nogroup", "extra_groups": [], "env": {"PATH": "/usr/bin:/bin"}} if os.geteuid() == 0 else {}
+    hindered = {
+        f"{it.folder}/a file": f"{it.folder}/a file is no folder",
+        "a file/below": f"{it.folder}/a file/below: Not a directory",
+        "dangling": f"{it.folder}/dangling is no folder",
+        "n" * 300: f"{it.folder}/{'n' * 300}: File name too long",
+    }
+    for before_words in ([], ["--unproved"]):
+        for words in ([], [""], ["-x"], ["--"], ["-x", "to"], ["to", ""], ["a", "b"]):
+            it.call([*before_words, "install", *words], 5, err="usage: ./simulate [--unproved] install DIR\n")
+        for words in (["-h"], ["--help"], ["--help", "to"]):
+            it.call([*before_words, "install", *words], 0, "usage: ./simulate [--unproved] install DIR\n")
+        for folder, reason in hindered.items():
+            it.call([*before_words, "install", folder], 3, err=f"install: {reason}\n")
+        it.call([*before_words, "install", "full"], 3, err="install: full/bin/fbsim is a folder\n")
+        os.chmod(f"{it.folder}/closed", 0o555)
+        it.call([*before_words, "install", "closed/to"], 3, err=f"install: {it.folder}/closed can't be written\n", **no_user)
+    it.call(["package", "--help"], 0, "usage: ./simulate package [--no-gate-line] DIR\n")
+    for words, status in (([""], 5), (["-x"], 5), (["a", "b"], 5), (["a file"], 3), (["dangling"], 3)):
+        ran = subprocess.run([sys.executable, "-B", f"{TOP}/tools/package.py", "--check", *words], cwd=it.folder, capture_output=True)
+        it.count += 1
+        if ran.returncode != status:
+            it.faults.append(f"tools/package.py --check {words}: status {ran.returncode}")
+    if (after := installed(it.folder)) != before:
+        it.faults.append(f"./simulate install, refused, changes {sorted(after ^ before)}")
+
+
+def install_anywhere(it):
+    """Into folders of any name, with a umask that closes all to others: what is installed is open to others, and nothing else is touched."""
+    os.utime(it.built)
+    os.utime(it.unproved)
+    for name in ("./-x", "a\nb", "-*", "$HOME", "ü 'q\"", "deep/er/still"):
+        to = f"{it.folder}/anywhere/{name}"
+        before = installed(it.folder)
+        for words in (["--unproved", "install"], ["install"]):
+            it.call([*words, to], 0, umask=0o077)
+            if closed(to) or {os.path.relpath(f"{it.folder}/{at}", to) for at in installed(it.folder) - before} != installed(to):
+                it.faults.append(f"./simulate {words} {name!r}: closed to others or beside it: {closed(to)}")
+
+
 def install(it):
     """Into a folder that is not there yet, and once more over it: the program that is not proved, and then the proved one."""
     os.utime(it.built)
+    os.utime(it.unproved)
     to, pages = f"{it.folder}/to a folder", {f"share/{name}" for name in (MANUAL, *COMPLETIONS, "fbsim/annex_a.iec")}
-    usage = "usage: ./simulate [--unproved] install DIR\n"
-    it.call(["install"], 5, err=usage)
-    it.call(["--unproved", "install", to, to], 5, err=usage)
     it.call(["--unproved", "package", to], 5, err="usage: ./simulate package DIR, which packages the proved program alone\n")
     it.call(["package", "to"], 0, err="packages --check to\npackages to\n")
     version = f"fbsim {unbuilt.version()}\n"
+    own = f"{to}/lib/fbsim/own"
     for words, more, says in ((["--unproved", "install", to], {"lib/fbsim/fbsim"}, version + "this program is not proved\n"), (["install", to], set(), version)):
         for _ in range(2):
             it.call(words, 0)
-        if installed(to) != {"bin/fbsim", *pages, *more}:
+        if installed(to) - {"lib/fbsim/own"} != {"bin/fbsim", *pages, *more}:
             it.faults.append(f"./simulate {words}: {sorted(installed(to))}")
-        os.symlink("to a folder/bin/fbsim", f"{it.folder}/link") if more else None
+        if more:
+            os.symlink("to a folder/bin/fbsim", f"{it.folder}/link")
+            shutil.copy(it.built, own)
         for by in (f"{to}/bin/fbsim", f"{it.folder}/link"):
             it.call(["check", "-"], 0, "accepted\n", by=by)
             it.call(["--version"], 0, says, by=by)
+    if not os.path.exists(own):
+        it.faults.append("./simulate install removes a file that it did not install")
 
 
 def main(program=PROGRAM, *words):
@@ -216,12 +274,14 @@ def main(program=PROGRAM, *words):
             it.write(help_page(room))
         return 0
     with tempfile.TemporaryDirectory(prefix="launcher-") as folder:
+        # A call of another user enters it.
+        os.chmod(folder, 0o755)
         # The help names the program as it was called.
         named = shutil.copy(program, f"{folder}/fbsim")
         with Room(named) as room:
             faults = texts_beside(room)
         it = Launcher(folder, named)
-        for part in (follow_links, answer_unbuilt, keep_unproved, install):
+        for part in (follow_links, answer_unbuilt, keep_unproved, refuse_folders, install, install_anywhere):
             part(it)
     faults += it.faults
     for fault in faults:

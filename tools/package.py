@@ -23,6 +23,7 @@ from typing import NamedTuple
 
 import notice
 import unbuilt
+from install import NO_FOLDER, hindrance
 from kit import TOP, rtlib
 
 # The proved program, as ./simulate and ./gate build it. PROVED can be true of no other one.
@@ -290,9 +291,12 @@ def main(words):
     """Makes the packages, or says why not, and returns the status."""
     needs_line, only_checks = "--no-gate-line" not in words, "--check" in words
     words = [it for it in words if it not in ("--no-gate-line", "--check")]
-    if len(words) != 1 or any(it.startswith("-") for it in words):
+    if len(words) != 1 or not words[0] or words[0].startswith("-"):
         print("usage: ./simulate package [--no-gate-line] DIR", file=sys.stderr)
         return 5
+    if reason := hindrance(words[0]):
+        print(f"package: {reason}", file=sys.stderr)
+        return NO_FOLDER
     if not shutil.which("dpkg-deb"):
         print("package: dpkg-deb is missing: install the system package dpkg", file=sys.stderr)
         return 1

@@ -27,8 +27,8 @@ def content(path):
 
 
 def version():
-    """Returns the newest version of CHANGELOG.md."""
-    return re.search(r"^## (\d+\.\d+\.\d+)", content(f"{TOP}/CHANGELOG.md"), re.M)[1]
+    """Returns the newest version of CHANGELOG.md that has a date. One that is not released yet has none."""
+    return re.search(r"^## (\d+\.\d+\.\d+) \(\d", content(f"{TOP}/CHANGELOG.md"), re.M)[1]
 
 
 def commit():
