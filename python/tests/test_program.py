@@ -12,7 +12,7 @@ from fbsim import program as program_module
 
 
 def test_version_is_that_of_the_changelog(top):
-    newest = re.search(r"^## (\d+\.\d+\.\d+)", (top / "CHANGELOG.md").read_text(), re.M)
+    newest = re.search(r"^## (\d+\.\d+\.\d+) \(\d", (top / "CHANGELOG.md").read_text(), re.M)
     assert newest and fbsim.__version__ == newest[1]
 
 
