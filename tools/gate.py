@@ -7,9 +7,11 @@ First it installs the system packages of tools/system_packages.txt that are miss
 - pages: each example's page explains its trace, docs/FORMATS.md shows the explanations of the refusals, and what the documents name
   exists (tools/documents.py); NOTICE names each library of the program with its licence (tools/notice.py); the traces of the examples
   and the stored sessions are those of a second simulator (tools/interpreter.py, tools/second_session.py), and they keep the rules of their page (tools/bottling.py); the syntax files of
-  editors/ colour declarations right (tools/editors.py)
+  editors/ colour declarations right (tools/editors.py); each place that answers "out of memory" or "file fault" is listed with its
+  cause (tools/memory_answers.py)
 - tools: those that compare figures of pages, install packages, and try stored cases and wrong implementations distinguish right from wrong
-  (tools/figures_test.py, tools/system_packages_test.py, tools/cases_test.py, tools/texts_test.py, tools/must_fail_test.py)
+  (tools/figures_test.py, tools/system_packages_test.py, tools/cases_test.py, tools/texts_test.py, tools/memory_answers_test.py,
+  tools/must_fail_test.py)
 - proofs, from scratch: every crate and its tests are proved, and every wrong implementation in crates/*/must-fail is refused
 - tests and programs
 - calls of the program: each status (tools/calls.py), the commands that pages of docs/ show (tools/pages.py), the suite of
@@ -64,6 +66,8 @@ import interpreter
 import launcher
 import limits
 import long
+import memory_answers
+import memory_answers_test
 import narrow
 import notice
 import package
@@ -365,8 +369,8 @@ def main(words):
     if not system_packages.set_up():
         print("0 passed, 1 failed")
         return 1
-    failed = explained.main([]) or documents.main() or notice.main() or bottling.main() or interpreter.main([]) or second_session.main() or editors.main()
-    if subprocess.run(["examples/check"]).returncode or failed or cases_test.main() or texts_test.main() or figures_test.main() or system_packages_test.main():
+    failed = explained.main([]) or documents.main() or notice.main() or bottling.main() or interpreter.main([]) or second_session.main() or editors.main() or memory_answers.main()
+    if subprocess.run(["examples/check"]).returncode or failed or cases_test.main() or texts_test.main() or figures_test.main() or system_packages_test.main() or memory_answers_test.main():
         print("0 passed, 1 failed")
         return 1
     with tempfile.TemporaryDirectory(prefix="gate-") as room:
