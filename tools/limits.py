@@ -8,7 +8,7 @@ contract may allow a function to answer that it is out of memory. So each comman
 
 Other systems have what this one lacks. In one each of 256 resources has a clock, so 64 workers share rounds of 256 jobs. In one of two
 resources each event of a clock leads to 500 merges, so one job of a round, a window of 1,024 ticks, has more than a million lines. A
-chart has 1,001 states. cases/lengths.toml has what fits into a few lines.
+chart has 1,001 states. cases/lengths.toml and cases/edges.toml have what fits into a few lines.
 
 ./gate makes these calls each time it has run the program. Without ./gate they use the program that ./simulate built."""
 

@@ -30,6 +30,7 @@ LETTERS = (8170, 8171, 8172, 8176, 8177, 8178, 8182, 8183, 8184, 8191, 8192, 819
 WAYS = [["--serial"], *(["--workers", count] for count in ("1", "2", "7"))]
 NARROW_FILES = {name: FILES[name] for name in ("far_too_long", "twice")} | {
     "cycle": CYCLE,
+    "commented": CYCLE + b"(* %s *)\n" % (b"-" * 5_200),
     "part": b"APPLICATION",
     "trace": TO_8,
     "long_trace": LONG_TRACE,
@@ -164,6 +165,9 @@ def of_readers():
         yield Call(["check", "cycle"], reader(piece, 3), 3, b"", b"file fault\n")
         yield Call(["check", "cycle"], reader(piece, 0), 3, b"", b"file fault\n")
         yield Call([*RUN, "--stim", "stimuli"], reader(piece, len(CYCLE) + 5), 3, b"", b"file fault\n")
+    # More than 5,000 pieces of a byte.
+    yield Call(["check", "commented"], reader(1, MOST_OF_A_TEXT), 0, b"accepted\n", b"")
+    yield Call(["check", "commented"], reader(1, len(NARROW_FILES["commented"]) - 1), 3, b"", b"file fault\n")
     # One byte more than the most is read, and no other is asked for.
     yield Call(["check", "far_too_long"], reader(4096, MOST_OF_A_TEXT + 1), 2, b"", b"refused E04\n")
     yield Call(["check", "far_too_long"], reader(4096, MOST_OF_A_TEXT), 3, b"", b"file fault\n")

@@ -24,7 +24,7 @@ from kit import TOP
 from program import Room, rt, side_by_side
 
 PROGRAM = "fbsim"
-COUNT, COMMANDS, AHEAD, SECONDS, SHOWN, PAIRS = 1_000, 60, 400, 5, 5, 20_000
+COUNT, COMMANDS, AHEAD, SECONDS, SHOWN, PAIRS, MANY = 1_000, 60, 400, 5, 5, 20_000, 10_005
 DELAY = "APPLICATION A FBS D : E_DELAY(DT := T#4ms); END_FBS END_APPLICATION"
 ANSWERS = ("= ", "! ", "stop ", "end ")
 
@@ -187,6 +187,14 @@ def faults_of_pipes(room):
     for cut, wanted in ((b"until 6", b"= at 6\nend 6\n"), (b"give 5 D.ST", b"! E29: row 0: instance D : E_DELAY has no event input ST\nend 1\n")):
         if piped(room, cut).stdout != wanted:
             yield f"input that ends in the midst of the line {cut!r}"
+    many = piped(room, b"peek\n" * MANY + b"end 77\n").stdout
+    if many != b"= nothing waits\n" * MANY + b"end 77\n":
+        yield f"{MANY} commands have {many.count(b'nothing')} answers, and {many[-30:]!r}"
+    folder = os.open(room.folder, os.O_RDONLY)
+    unread = subprocess.run([*rt.drop_to_nobody(), room.program, "session", "delay.iec"], cwd=room.folder, stdin=folder, capture_output=True)
+    os.close(folder)
+    if (unread.returncode, unread.stdout, unread.stderr) != (3, b"", b"file fault\n"):
+        yield f"input that is a folder: {unread.returncode}, {unread.stdout[:80]!r}, {unread.stderr!r}"
     for length, wanted in ((65_536, b"! expected a command; help lists them\nend 1\n"), (65_537, b"! a line has at most 65536 bytes\nend 1\n")):
         for end in (b"", b"\n"):
             if piped(room, b"x" * length + end).stdout != wanted:
@@ -199,10 +207,15 @@ def faults_of_pipes(room):
 
 
 def fault_of_pace(room):
-    """Returns that commands which are written ahead take too long, or None."""
+    """Returns that commands which are written ahead take too long, or that one has no answer of its own, or None."""
     before = resource.getrusage(resource.RUSAGE_CHILDREN)
-    piped(room, b"".join(b"give %d D.START\nuntil %d\n" % (tick, tick + 1) for tick in range(PAIRS)))
+    said = piped(room, b"".join(b"give %d D.START\nuntil %d\n" % (tick, tick + 1) for tick in range(PAIRS))).stdout.splitlines()
     after = resource.getrusage(resource.RUSAGE_CHILDREN)
+    answers = [it for it in said if it.startswith((b"=", b"!"))]
+    wanted = [it for tick in range(PAIRS) for it in (b"= row %d %d,D.START," % (tick, tick), b"= at %d" % (tick + 1))]
+    if answers != wanted:
+        at = next((at for at, pair in enumerate(zip(answers, wanted)) if pair[0] != pair[1]), min(len(answers), len(wanted)))
+        return f"{PAIRS} pairs of give and until: {len(answers)} answers; answer {at} is {answers[at : at + 1]}, not {wanted[at : at + 1]}"
     taken = after.ru_utime + after.ru_stime - before.ru_utime - before.ru_stime
     return f"{PAIRS} pairs of give and until took {taken:.2f} s of a processor" if taken > 1 else None
 
