@@ -284,12 +284,16 @@ BUILT_IN = """<FBType Name="E_SR">
     <EventOutputs><Event Name="EO"><With Var="Q"/></Event></EventOutputs>
     <OutputVars><VarDeclaration Name="Q" Type="BOOL"/></OutputVars>
   </InterfaceList>
-  <BasicFB><ECC><ECState Name="A"/></ECC></BasicFB>
+  <BasicFB><ECC><ECState Name="A"/><ECState Name="B"><ECAction Algorithm="ON" Output="EO"/></ECState>
+    <ECState Name="C"><ECAction Algorithm="OFF" Output="EO"/></ECState>
+    <ECTransition Source="A" Destination="B" Condition="S"/><ECTransition Source="B" Destination="C" Condition="R"/>
+    <ECTransition Source="C" Destination="B" Condition="S"/></ECC>
+    <Algorithm Name="ON"><ST Text="Q := TRUE;"/></Algorithm><Algorithm Name="OFF"><ST Text="Q := FALSE;"/></Algorithm></BasicFB>
 </FBType>
 """
 
 
-def test_a_file_with_the_interface_of_a_built_in_block_is_that_block(tmp_path):
+def test_a_file_with_the_interface_and_the_chart_of_a_built_in_block_is_that_block(tmp_path):
     done = import_all(tmp_path, {"lib/E_SR.fbt": BUILT_IN, "A.sys": system('<FB Name="F" Type="E_SR"/>')})
     assert done.status == 0, done.lines
     assert "F : E_SR;" in done.declaration() and "FUNCTION_BLOCK" not in done.declaration()

@@ -53,10 +53,9 @@ def convert(given: argparse.Namespace, faults: Faults) -> dict[str, str]:
     for path in given.files:
         with contextlib.suppress(Refused):
             roots.append(read_document(path, faults, library.ignored))
+            if roots[-1].tag != "System":
+                library.files.give(roots[-1], faults)
     systems = [it for it in roots if it.tag == "System"]
-    for it in roots:
-        if it.tag != "System" and library.given.setdefault(it.get("Name").upper(), it) is not it:
-            faults.refuse(it.at("Name"), f"type {it.get('Name')} is given in two files")
     for it in systems[1:]:
         faults.refuse(it.place, "there is more than one system: import them one by one")
     if not roots:

@@ -3,17 +3,17 @@
 from __future__ import annotations
 
 import copy
-import os
 import re
 from collections import Counter
 from collections.abc import Iterable
 from dataclasses import dataclass, field, replace
 from pathlib import Path
 
-from .common import IS_NAME, TYPES, Faults, FileFault, Folded, Names, Place, Refused, shown
-from .document import Code, Node, read_document
+from .bodies import is_usual
+from .common import IS_NAME, TYPES, Faults, Folded, Names, Place, shown
+from .document import Code, Node
+from .files import TypeFile, TypeFiles, is_standard, package_of
 
-MOST_FILES = 20_000
 KINDS = {"SubAppType": "subapplication", "AdapterType": "adapter", "System": "system", "BasicFB": "basic",
          "SimpleFB": "simple", "FBNetwork": "composite"}
 DECLARED = re.compile(r"(?:\(\*(?:(?!\*\)).)*\*\)\s*)?FUNCTION_BLOCK\s+(\w+)(.*?)END_FUNCTION_BLOCK", re.DOTALL)
@@ -80,72 +80,73 @@ class Library:
         self.ignored: Counter[str] = Counter()
         self.notes: list[str] = []
         self.built_in, self.annex = packaged("event_blocks.iec"), packaged("annex_a.iec")
-        self.given: dict[str, Node] = {}
-        self.paths: dict[str, str] = {}
-        self.blocks: dict[str, Block | None] = {}
+        self.files = TypeFiles(folders)
+        self.blocks: dict[tuple[str, ...], Block | None] = {}
+        self.of_files: dict[TypeFile, Block | None] = {}
         self.taken = {*self.built_in, *self.annex}
-        for folder in folders:
-            if not os.path.isdir(folder):
-                raise FileFault(f"{folder}: this is no folder")
-            for top, below, files in os.walk(folder):
-                below.sort()
-                for stem, end in (os.path.splitext(it) for it in sorted(files)):
-                    if end.lower() in (".fbt", ".sub", ".adp"):
-                        self.paths.setdefault(stem.upper(), os.path.join(top, stem + end))
-                if len(self.paths) > MOST_FILES:
-                    raise FileFault(f"{folder}: there are more than {MOST_FILES:,} files of types")
 
-    def get(self, text: str, place: Place) -> Block | None:
-        """Return the type with a name, or refuse the name. A usual type is taken if no file has another interface for it."""
-        name = text.rpartition("::")[2]
-        key = name.upper()
+    def get(self, text: str, place: Place, tag: str = "FB") -> Block | None:
+        """Return the type that an element with this tag names, with its package, or refuse the name."""
+        package, _, name = text.rpartition("::")
+        key = (name.upper(), package.upper(), tag)
         if not IS_NAME.fullmatch(name):
             self.faults.refuse(place, f"{shown(name)!r} is no name of a type")
         elif key not in self.blocks:
-            self.blocks[key] = usual = self.built_in.get(key) or self.annex.get(key.removeprefix("FB_"))
-            trial = copy.copy(self)
-            trial.faults, trial.ignored = Faults(), Counter()
-            block, is_other = trial.read(name, place), usual is None
-            if usual and block and not trial.faults:
-                is_exact = usual.out in self.built_in
-                own, known = block.shape(is_exact), usual.shape(is_exact)
-                is_other = own != known if is_exact else block.kind != "service" and not known <= own
-            if is_other:
-                self.faults.take(trial.faults)
-                self.ignored += trial.ignored
-                self.blocks[key] = block and self.named(block, name)
+            self.blocks[key] = None
+            self.blocks[key] = self.look_up(name, package, place, tag)
         return self.blocks.get(key)
 
-    def read(self, name: str, place: Place) -> Block | None:
-        """Return the type of a file with its interface, or refuse it."""
-        node = self.given.get(name.upper())
-        try:
-            if node is None and name.upper() in self.paths:
-                node = read_document(self.paths[name.upper()], self.faults, self.ignored)
-            if node is None:
-                raise self.faults.refuse(place, f"there is no type {shown(name)} in the files: give its folder by --lib")
-        except Refused:
+    def look_up(self, name: str, package: str, place: Place, tag: str) -> Block | None:
+        """Return the type of a file, or the one that the simulator has, or refuse the name."""
+        usual = self.built_in.get(name.upper()) or self.annex.get(name.upper().removeprefix("FB_"))
+        found = self.files.find(name, package, tag, usual is not None)
+        if len(found) > 1:
+            paths, example = " and ".join(it.path for it in found[:5]), found[-1].package or "PACKAGE"
+            self.faults.refuse(place, f"{name} is in {len(found)} files, {paths}: give its package, as {example}::{name},"
+                               " or keep one of the files")
             return None
-        except FileFault as fault:
-            self.faults.refuse(place, f"the file of type {name} can't be read: {fault}")
-            return None
-        kinds = (KINDS[it.tag] for it in (node, *node.children) if it.tag in KINDS)
-        block = Block(node.get("Name"), next(kinds, "service"), node.at("Name"), node)
-        read_interface(block, self)
-        return block
+        if not found and (usual is None or not is_standard(package)):
+            self.faults.refuse(place, self.files.missing(name, package))
+        return self.read(found[0], name, usual) if found else usual if is_standard(package) else None
 
-    def named(self, block: Block, name: str) -> Block:
+    def read(self, file: TypeFile, name: str, usual: Block | None) -> Block | None:
+        """Return the type of a file with its interface, or that of the simulator which the file stands for."""
+        if file not in self.of_files:
+            trial = copy.copy(self)
+            trial.faults, trial.ignored, root = Faults(), Counter(), file.read()
+            trial.faults.take(file.faults)
+            block = block_of(root, trial) if root else None
+            if usual and block and is_usual(block, usual, usual.out in self.built_in, trial.faults):
+                self.notes.append(f"{block.place}: {block.name} is a type of the event library: the simulator's {usual.out} is used")
+                self.of_files[file] = usual
+            else:
+                self.faults.take(trial.faults)
+                self.ignored += trial.ignored + file.ignored
+                if usual and block:
+                    self.notes.append(f"{block.place}: {block.name} is not the simulator's {usual.out}: this file is used")
+                self.of_files[file] = block and self.named(block, name, package_of(root) if root else "")
+        return self.of_files[file]
+
+    def named(self, block: Block, name: str, package: str) -> Block:
         """Give a type, which was asked for by a name, that of the profile."""
         if block.name.upper() != name.upper():
             self.faults.refuse(block.place, f"the type {shown(block.name)} is in a file with the name {name}")
         if block.kind == "service" and not self.with_stubs:
             self.faults.refuse(block.place, f"{block.name} is a service interface type: the simulator has none (see --stub)")
         if block.kind not in ("subapplication", "adapter"):
-            names = Names("type", [(block.name, block.place)], self.faults, self.taken)
-            self.notes += names.renamed
-            block.out = names[block.name]
+            block.out = Names("type", [(block.name, block.place)], self.faults, self.taken)[block.name]
+            if block.out != block.name.upper():
+                self.notes.append(f"type {package}{'::' if package else ''}{block.name}: {block.out}")
             self.taken.add(block.out)
         return block
+
+
+def block_of(root: Node, library: Library) -> Block:
+    """Return the type of a file with its interface."""
+    kinds = (KINDS[it.tag] for it in (root, *root.children) if it.tag in KINDS)
+    block = Block(root.get("Name"), next(kinds, "service"), root.at("Name"), root)
+    read_interface(block, library)
+    return block
 
 
 def read_interface(block: Block, library: Library) -> None:
@@ -197,7 +198,7 @@ def variable(node: Node, is_output: bool, faults: Faults) -> Port:
 
 def adapter_ports(node: Node, is_plug: bool, library: Library) -> list[Port]:
     """Expand an adapter to ports: those of a plug are as in its type, those of a socket have the other direction."""
-    name, place, adapter = node.get("Name"), node.at("Name"), library.get(node.get("Type"), node.at("Type"))
+    name, place, adapter = node.get("Name"), node.at("Name"), library.get(node.get("Type"), node.at("Type"), node.tag)
     if adapter and adapter.kind != "adapter":
         library.faults.refuse(node.at("Type"), f"{adapter.name} is no adapter type")
     if adapter is None or adapter.kind != "adapter":

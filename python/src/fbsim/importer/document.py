@@ -63,6 +63,11 @@ class Code:
         """Return the place of a character, or that after the text."""
         return self.source.place(self.offsets[index] if index < len(self.offsets) else self.end)
 
+    def after(self, prefix: str) -> Code:
+        """Return this text after a prefix, which has the place of its first character."""
+        first = [self.offsets[0] if self.offsets else self.end]
+        return Code(self.source, self.end, prefix + self.text, array("I", first * len(prefix)) + self.offsets)
+
     def add(self, kind: str, span: tuple[int, int], faults: Faults) -> None:
         """Add a stretch of the file, with references and line ends replaced as XML has it; in CDATA line ends alone."""
         (at, end), texts = span, [self.text]
@@ -148,17 +153,17 @@ def read_tag(found: re.Match[str], parent: Node, faults: Faults, ignored: Counte
     node.is_used = parent.is_used and node.tag in USED[parent.tag][1]
     if node.is_used:
         parent.children.append(node)
-    elif parent.is_used and not IGNORED["elements"].isdisjoint((node.tag, f"{parent.tag}.{node.tag}")):
+    elif parent.is_used and not IGNORED["elements"].isdisjoint((node.tag, f"{parent.tag}.{node.tag}", f"{parent.tag}.*")):
         ignored[f"element {node.tag}"] += 1
     elif parent.is_used:
         faults.refuse(node.place, f"the element {shown(node.tag)} in {parent.tag} is not known")
     for one in ATTRIBUTE.finditer(node.source.text, *found.span("attributes")) if node.is_used else ():
         name, code = one[1], Code(node.source, one.start(2) + 1)
         code.add("attributes", (one.start(2) + 1, one.end(2) - 1), faults)
-        if not IGNORED["attributes"].isdisjoint((name, f"{node.tag}.{name}")):
-            ignored[f"attribute {name}"] += 1
-        elif name in USED[node.tag][0]:
+        if name in USED[node.tag][0]:
             node.attributes[name] = code
+        elif not IGNORED["attributes"].isdisjoint((name, f"{node.tag}.{name}", f"{node.tag}.*")):
+            ignored[f"attribute {name}"] += 1
         elif not name.startswith(("xmlns:", "xsi:")):
             faults.refuse(node.source.place(one.start(1)), f"the attribute {shown(name)} of {node.tag} is not known")
     is_name = node.is_used and "Name" in USED[node.tag][0] and node.tag not in ("System", "Parameter")

@@ -12,6 +12,7 @@ from typing import NamedTuple
 from .blocks import Block, Library, Port, read_interface
 from .common import TABLES, Faults, Folded, Names, Place, shown
 from .document import Code, Node
+from .files import package_of
 
 MOST_INSTANCES, MOST_CONNECTIONS = 4096, 100_000
 SERVICES = TABLES["communication"]
@@ -76,7 +77,7 @@ class Network:
         """Add an instance, or the inside of a subapplication, whose ports only hand on what comes to them."""
         block, place = communication(node.get("Type"), node.at("Name")), node.at("Name")
         if block is None and (node.get("Type") or node.tag == "FB"):
-            block = self.library.get(node.get("Type"), node.at("Type"))
+            block = self.library.get(node.get("Type"), node.at("Type"), node.tag)
         elif block is None:
             block = Block(node.get("Name"), "subapplication", place, node)
             read_interface(block, self.library)
@@ -338,7 +339,8 @@ def system_of(roots: Sequence[Node], faults: Faults) -> Node:
     for it in roots:
         if it.tag != "AdapterType":
             node = it.made("SubApp" if it.tag == "SubAppType" else "FB")
-            node.attributes = {"Name": it.code("Name"), "Type": it.code("Name")}
+            package = package_of(it)
+            node.attributes = {"Name": it.code("Name"), "Type": it.code("Name").after(f"{package}::" if package else "")}
             network.children.append(node)
     if not network.children:
         raise faults.refuse(network.place, "there are only adapter types: give a system or a type with blocks")
