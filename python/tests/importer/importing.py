@@ -30,14 +30,14 @@ class Imported(NamedTuple):
         """Returns types and application without blanks that mean nothing."""
         return re.sub(r"\s+", " ", self.text("types.iec") + self.text("application.iec"))
 
-    def run(self, horizon, stimuli=None):
-        """Returns the trace of the imported application."""
+    def run(self, horizon, stimuli=None, status=0):
+        """Returns the trace of the imported application. A run that ends in a stop has another status."""
         words = [find_program(), "run", "application.iec", "--types", "types.iec", "--deploy", "deploy.toml"]
         if stimuli is not None:
             (self.out / "stimuli.csv").write_text(stimuli)
             words += ["--stim", "stimuli.csv"]
         done = subprocess.run([*words, "--horizon", str(horizon)], cwd=self.out, capture_output=True, text=True)
-        assert done.returncode == 0, done.stderr
+        assert done.returncode == status, done.stderr
         return done.stdout
 
 

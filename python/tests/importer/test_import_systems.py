@@ -1,4 +1,4 @@
-"""Systems: subapplications, mapping, links, START, and communication blocks."""
+"""Systems: subapplications, mapping, links and START."""
 
 from __future__ import annotations
 
@@ -32,11 +32,11 @@ def answer(folder, *words):
 
 
 # `text/` was written from the XML by hand, by somebody who did not write the importer and had not seen what it writes.
-def test_thirty_instances_in_two_devices_have_the_trace_of_the_same_application_in_text(tmp_path):
+def test_instances_in_two_devices_have_the_trace_of_the_same_application_in_text(tmp_path):
     done = import_parcels(tmp_path)
     assert done.status == 0, done.lines
     plan = deployment(done)
-    assert sum(len(it["instances"]) for it in plan["resource"]) == 30
+    assert sum(len(it["instances"]) for it in plan["resource"]) == 31
     assert {it["device"] for it in plan["resource"]} == {"CONVEYING", "SORTING"}
     assert done.run(2500) == (PARCELS / "trace").read_text()
     for name in ("types.iec", "application.iec", "deploy.toml", "import.txt"):
@@ -291,148 +291,7 @@ def test_a_system_with_networks_of_resources_alone(tmp_path):
     assert done.run(3).splitlines()[-3:] == ["2 R1 < R1__C.EO", "2 R2 < R2__C.EO", "end 3"]
 
 
-# ---- Communication blocks
-
-
-def service_block(name, kind, identifier="1.2.3.4:5"):
-    return (
-        f'<FB Name="{name}" Type="{kind}"><Parameter Name="QI" Value="1"/>'
-        f'<Parameter Name="ID" Value="&quot;{identifier}&quot;"/></FB>'
-    )
-
-
-COUNTER = '<FB Name="N" Type="E_CTU"/><FB Name="L" Type="E_CTU"/><FB Name="K" Type="E_MERGE"/>'
-
-
-def test_publish_and_subscribe_become_the_connections_that_they_carry(tmp_path):
-    sender = (
-        service_block("P", "PUBLISH_1")
-        + connections("Event", "START.COLD P.INIT", "P.INITO N.CU", "N.CUO P.REQ", "P.CNF K.EI1")
-        + connections("Data", "N.CV P.SD_1")
-    )
-    receiver = (
-        service_block("S", "SUBSCRIBE_1") + connections("Event", "S.IND L.CU") + connections("Data", "S.RD_1 L.PV")
-    )
-    text = system(
-        COUNTER,
-        resource("D1", "R1", sender) + resource("D2", "R2", receiver),
-        mappings("App", N="D1.R1", K="D1.R1", L="D2.R2"),
-    )
-    done = import_all(tmp_path, {"A.sys": text}, "--latency", "3")
-    assert done.status == 0, done.lines
-    assert (
-        "EVENT_CONNECTIONS R1__START.COLD TO N.CU; N.CUO TO L.CU; N.CUO TO K.EI1; END_CONNECTIONS "
-        "DATA_CONNECTIONS N.CV TO L.PV; END_CONNECTIONS"
-    ) in done.declaration()
-    assert (
-        done.run(5)
-        == """\
-0 R1 < R1__START.COLD
-0 R1 > N.CU PV=0
-0 R1 < N.CUO Q=TRUE CV=1
-0 R1 > K.EI1
-0 R1 < K.EO
-3 R2 > L.CU PV=1
-3 R2 < L.CUO Q=TRUE CV=1
-end 5
-"""
-    )
-
-
-def test_client_and_server_become_connections_both_ways(tmp_path):
-    client = (
-        service_block("C", "CLIENT_1_1")
-        + connections("Event", "N.CUO C.REQ", "C.CNF N.R")
-        + connections("Data", "N.CV C.SD_1")
-    )
-    server = (
-        service_block("S", "SERVER_1_1")
-        + connections("Event", "S.IND L.CU", "L.CUO S.RSP")
-        + connections("Data", "S.RD_1 L.PV", "L.CV S.SD_1")
-    )
-    client = client.replace("</DataConnections>", '<Connection Source="C.RD_1" Destination="N.PV"/></DataConnections>')
-    text = system(
-        COUNTER,
-        resource("D1", "R1", client) + resource("D2", "R2", server),
-        mappings("App", N="D1.R1", K="D1.R1", L="D2.R2"),
-    )
-    done = import_all(tmp_path, {"A.sys": text})
-    assert done.status == 0, done.lines
-    assert (
-        "EVENT_CONNECTIONS N.CUO TO L.CU; L.CUO TO N.R; END_CONNECTIONS "
-        "DATA_CONNECTIONS N.CV TO L.PV; L.CV TO N.PV; END_CONNECTIONS"
-    ) in done.declaration()
-
-
-def test_a_publisher_has_several_subscribers(tmp_path):
-    inside = service_block("P", "PUBLISH_0") + connections("Event", "N.CUO P.REQ")
-    other = (
-        service_block("S", "SUBSCRIBE_0")
-        + service_block("T", "SUBSCRIBE_0")
-        + connections("Event", "S.IND L.CU", "T.IND L.R")
-    )
-    text = system(
-        COUNTER,
-        resource("D1", "R1", inside) + resource("D2", "R2", other),
-        mappings("App", N="D1.R1", K="D1.R1", L="D2.R2"),
-    )
-    done = import_all(tmp_path, {"A.sys": text})
-    assert "EVENT_CONNECTIONS N.CUO TO L.CU; N.CUO TO L.R; END_CONNECTIONS" in done.declaration(), done.lines
-
-
-@pytest.mark.parametrize(
-    "block, other, says",
-    [
-        (service_block("P", "PUBLISH_1"), "", "there is no SUBSCRIBE with its ID 1.2.3.4:5"),
-        (
-            service_block("S", "SUBSCRIBE_1"),
-            service_block("P", "PUBLISH_1", "9:9"),
-            "there is no PUBLISH with its ID 1.2.3.4:5",
-        ),
-        (service_block("C", "CLIENT_1_1"), "", "there is no SERVER with its ID 1.2.3.4:5"),
-        ('<FB Name="P" Type="PUBLISH_1"/>', "", "it has no ID as a parameter"),
-        (
-            service_block("C", "CLIENT_1"),
-            service_block("D", "CLIENT_1") + service_block("S", "SERVER_1"),
-            "there is more than one CLIENT",
-        ),
-    ],
-)
-def test_a_communication_block_without_a_partner_is_refused(block, other, says, tmp_path):
-    text = system(COUNTER + block + other)
-    done = import_all(tmp_path, {"A.sys": text})
-    name = block.split('"')[1]
-    place = place_of(text, f'{name}" Type="{block.split(chr(34))[3]}')
-    assert done.status == 2
-    assert [it for it in done.lines if it.startswith(f"A.sys:{place}: ") and says in it.replace("'", "")], (
-        place,
-        done.lines,
-    )
-
-
-def test_a_status_of_communication_is_refused(tmp_path):
-    text = system(
-        COUNTER
-        + service_block("P", "PUBLISH_0")
-        + service_block("S", "SUBSCRIBE_0")
-        + '<FB Name="X" Type="E_PERMIT"/>'
-        + connections("Data", "S.QO X.PERMIT")
-    )
-    done = import_all(tmp_path, {"A.sys": text})
-    assert done.lines == [f"A.sys:{place_of(text, 'S.QO')}: QO of SUBSCRIBE_0 is not simulated: links don't fail"]
-
-
-def test_communication_inside_a_composite_type_is_refused(tmp_path):
-    text = (
-        '<FBType Name="Box"><InterfaceList/><FBNetwork>'
-        + service_block("P", "PUBLISH_0")
-        + service_block("S", "SUBSCRIBE_0")
-        + "</FBNetwork></FBType>"
-    )
-    done = import_all(tmp_path, {"Box.fbt": text})
-    assert done.status == 2 and all(
-        "communication blocks are for applications and resources" in it for it in done.lines
-    ), done.lines
+# ---- Sizes and types
 
 
 def test_too_many_instances_are_refused(tmp_path):

@@ -13,6 +13,7 @@ from .bodies import is_usual
 from .common import IS_NAME, TYPES, Faults, Folded, Names, Place, shown
 from .document import Code, Node
 from .files import TypeFile, TypeFiles, is_standard, package_of
+from .made import Made
 
 KINDS = {"SubAppType": "subapplication", "AdapterType": "adapter", "System": "system", "BasicFB": "basic",
          "SimpleFB": "simple", "FBNetwork": "composite"}
@@ -38,7 +39,7 @@ class Port:
 
 @dataclass(slots=True, eq=False)
 class Block:
-    """A type. Its kind is that of its file, built-in or of Annex A (declared), or communication."""
+    """A type. Its kind is that of its file, built-in or of Annex A (declared), or of an expansion, which makes its chart."""
 
     name: str
     kind: str
@@ -47,6 +48,12 @@ class Block:
     out: str = ""
     text: str = ""
     ports: Folded[Port] = field(default_factory=Folded)
+    made: Made | None = None
+
+    def add_port(self, name: str, kind: str, is_output: bool, type_name: str = "") -> Port:
+        """Add a port of a type that is in no file."""
+        self.ports[name] = port = Port(name, kind, is_output, self.place, type_name, out=name)
+        return port
 
     def side(self, kind: str, is_output: bool) -> list[Port]:
         """Return the ports of one kind and one side, in their order."""
@@ -83,6 +90,7 @@ class Library:
         self.files = TypeFiles(folders)
         self.blocks: dict[tuple[str, ...], Block | None] = {}
         self.of_files: dict[TypeFile, Block | None] = {}
+        self.made: dict[str, Block] = {}
         self.taken = {*self.built_in, *self.annex}
 
     def get(self, text: str, place: Place, tag: str = "FB") -> Block | None:

@@ -1,24 +1,22 @@
 """Networks and systems: instances, connections and resources, flat.
 
-Subapplications and communication blocks are replaced by connections."""
+Subapplications are replaced by connections, communication blocks by relays."""
 
 from __future__ import annotations
 
 import re
+from array import array
 from collections.abc import Iterator, Mapping, Sequence
 from dataclasses import dataclass, field
-from typing import NamedTuple
 
 from .blocks import Block, Library, Port, read_interface
-from .common import TABLES, Faults, Folded, Names, Place, shown
-from .document import Code, Node
+from .common import Faults, Folded, Names, Place, shown
+from .document import Code, Node, Source
 from .files import package_of
+from .relays import Relays, communication
+from .wires import Key, Wire
 
 MOST_INSTANCES, MOST_CONNECTIONS = 4096, 100_000
-SERVICES = TABLES["communication"]
-COMMUNICATION = re.compile(rf"({'|'.join(SERVICES)})(?:_(\d{{1,2}}))?(?:_(\d{{1,2}}))?", re.IGNORECASE)
-# The path of an instance (that of the network itself is empty), and the name of a port.
-Key = tuple[str, str]
 
 
 @dataclass(slots=True, eq=False)
@@ -30,16 +28,6 @@ class Instance:
     place: Place
     parameters: dict[str, Code] = field(default_factory=dict)
     out: str = ""
-
-
-class Wire(NamedTuple):
-    """A connection. A network of a resource may repeat those of the application."""
-
-    source: Key
-    target: Key
-    place: Place
-    is_event: bool
-    may_repeat: bool = False
 
 
 class Network:
@@ -55,6 +43,8 @@ class Network:
         self.services: dict[str, tuple[Block, Place]] = {}
         self.outgoing: dict[Key, list[Wire]] = {}
         self.parameters: dict[Key, Code] = {}
+        # The inputs that are TRUE from the start, with the place that says so.
+        self.constants: dict[Key, Place] = {}
         self.wires: list[Wire] = []
         self.notes: list[str] = []
         self.visits = 0
@@ -84,9 +74,9 @@ class Network:
         self.blocks[path] = block
         if block and block.kind == "adapter":
             self.faults.refuse(node.at("Type"), f"{block.name} is an adapter type: it has no instances")
-        elif block and block.kind == "communication":
-            self.services[path] = block, place
         elif block and block.kind != "subapplication":
+            if block.kind == "communication":
+                self.services[path] = block, place
             self.instances[path] = Instance(path, block, place)
             if len(self.instances) > MOST_INSTANCES:
                 raise self.faults.refuse(place, f"there are more than {MOST_INSTANCES:,} instances")
@@ -153,30 +143,16 @@ class Network:
             others = shown(", ".join(it.name for it in block.side(kind, is_output)) or "none")
             self.faults.refuse(place, f"{shown(text)}: type {block.name} has no {side} {shown(name)} (it has {others})")
             return None
-        if block.kind == "communication" and port.name in ("QO", "STATUS"):
-            self.faults.refuse(place, f"{port.name} of {block.name} is not simulated: links don't fail")
         return (path, port.name), port
 
-    def link_services(self) -> None:
-        """Connect communication blocks: what one sends is what those with the same ID receive."""
-        names = {path: self.parameters[path, "ID"].text.strip(" \"'") if (path, "ID") in self.parameters else ""
-                 for path in self.services}
-        for path, (block, place) in self.services.items():
-            kind, name, title = block.text, names[path], path.lstrip(".")
-            partner, sends, _, there, here = SERVICES[kind]
-            alike = [(it, other.text) for it, (other, _) in self.services.items() if names[it] == name]
-            partners = [it for it, other in alike if other == partner]
-            if not name or not partners:
-                reason = f"there is no {partner} with its ID {shown(name)}" if name else "it has no ID as a parameter"
-                self.faults.refuse(place, f"{title}: {reason}: remove it, and give its events as stimuli")
-            elif kind in ("CLIENT", "SERVER") and [other for _, other in alike].count(kind) > 1:
-                self.faults.refuse(place, f"{title}: there is more than one {kind} with its ID {shown(name)}")
-            for it in block.ports:
-                self.hubs[path, it] = [(other, it.replace("SD", "RD")) for other in partners if it.startswith("SD_")]
-            self.hubs[path, "INIT"] = [(path, "INITO")]
-            self.hubs[path, sends] = [(it, event) for it, event in [*((it, there) for it in partners), (path, here)] if event]
-            others = ", ".join(it.lstrip(".") for it in partners)
-            self.notes.append(f"{title} ({kind}, ID {name}) is connected directly to {others}")
+    def home(self, path: str) -> str:
+        """Return the resource of an instance. In a composite type all are in one."""
+        return ""
+
+    def type_of(self, key: Key) -> str:
+        """Return the type of a variable, or nothing if it is open."""
+        block = self.blocks.get(key[0])
+        return block.ports[key[1]].type if block and key[1] in block.ports else ""
 
     def targets(self, key: Key, depth: int = 0) -> Iterator[Key]:
         """Return the ports to which a connection leads in the end."""
@@ -186,23 +162,42 @@ class Network:
         for wire in (it for hub in self.hubs[key] for it in self.outgoing.get(hub, ())):
             self.visits += 1
             if depth > 64 or self.visits > 10 * MOST_CONNECTIONS:
-                text = "connections of subapplications or communication blocks lead in a circle"
-                raise self.faults.refuse(wire.place, text)
+                raise self.faults.refuse(wire.place, "connections of subapplications lead in a circle")
             yield from self.targets(wire.target, depth + 1)
+
+    def flat(self) -> list[Wire]:
+        """Return the connections without subapplications. What a resource repeats of the application is left out."""
+        found: dict[tuple[Key, Key], bool] = {}
+        wires: list[Wire] = []
+        for wire in [it for key, row in self.outgoing.items() if not key[0] or key[0] in self.instances for it in row]:
+            for target in self.targets(wire.target):
+                if wire.may_repeat and found.setdefault((wire.source, target), wire.may_repeat) is False:
+                    self.notes.append(f"{wire.place}: this connection of the application is given again in a resource")
+                else:
+                    found[wire.source, target] = wire.may_repeat
+                    wires.append(wire._replace(target=target))
+        return wires
+
+    def set_constants(self) -> None:
+        """Give TRUE to the inputs that have it from the start, as parameters."""
+        fed = {it.target for it in self.wires}
+        for (path, name), place in self.constants.items():
+            one = self.instances.get(path)
+            title = f"{path.lstrip('.')}.{name}".lstrip(".")
+            if (path, name) in fed:
+                self.faults.refuse(place, f"{title} has more than one source")
+            elif self.type_of((path, name)) not in ("", "BOOL"):
+                self.faults.refuse(place, f"QO is a BOOL, and {title} is none")
+            elif one:
+                one.parameters[name] = Code(Source(place.path, ""), 0, "TRUE", array("I", [0] * 4))
 
     def resolve(self) -> None:
         """Name the instances, connect them directly and give them their parameters.
 
         Parameters of a subapplication, and its initial values, go to the inputs inside."""
-        self.link_services()
-        found: dict[tuple[Key, Key], list[Wire]] = {}
-        for wire in [it for key, row in self.outgoing.items() if not key[0] or key[0] in self.instances for it in row]:
-            for target in self.targets(wire.target):
-                row = found.setdefault((wire.source, target), [])
-                if row and wire.may_repeat:
-                    self.notes.append(f"{wire.place}: this connection of the application is given again in a resource")
-                else:
-                    row.append(wire._replace(target=target))
+        wires = self.flat()
+        relays = Relays(self, wires)
+        self.wires = relays.expanded()
         set_already = {it.target for row in self.outgoing.values() for it in row}
         for path, block in self.blocks.items():
             for port in block.side("data", False) if block and block.kind == "subapplication" else ():
@@ -210,30 +205,13 @@ class Network:
                     self.parameters.setdefault((path, port.name), port.initial)
         for key, code in self.parameters.items():
             for path, name in self.targets(key):
-                if path in self.instances:
+                if path in self.instances and name in self.instances[path].block.ports:
                     self.instances[path].parameters[name] = code
-        self.wires = [it for row in found.values() for it in row]
+        self.set_constants()
         names = Names("instance", [(it.path.lstrip("."), it.place) for it in self.instances.values()], self.faults)
         for one in self.instances.values():
             one.out = names[one.path.lstrip(".")]
         self.notes += names.renamed
-
-
-def communication(name: str, place: Place) -> Block | None:
-    """Return the type of a communication block: PUBLISH_1, SUBSCRIBE_1, CLIENT_1_1, SERVER_1_1 and so on."""
-    found = COMMUNICATION.fullmatch(name.rpartition("::")[2])
-    if found is None:
-        return None
-    kind, numbers = found[1].upper(), range(1, max(int(found[2] or 1), int(found[3] or 0)) + 1)
-    block = Block(found[0], "communication", place, text=kind)
-    _, sends, confirms, _, _ = SERVICES[kind]
-    data = ["QI", "ID", *(f"SD_{it}" for it in numbers if not kind.startswith("SUB"))]
-    outputs = ["QO", "STATUS", *(f"RD_{it}" for it in numbers if not kind.startswith("PUB"))]
-    events = (["INIT", sends], "event", False), (["INITO", confirms], "event", True)
-    for names, part, is_output in (*events, (data, "data", False), (outputs, "data", True)):
-        for it in names:
-            block.ports[it] = Port(it, part, is_output, place)
-    return block
 
 
 @dataclass(slots=True)
@@ -271,11 +249,11 @@ class System(Network):
                 if network.children:
                     self.faults.refuse(network.place, "a network of a device is not supported: move it to a resource")
         # No path of the application has a full stop at its beginning, as those of resources have.
-        mapping = {f".{it.out}": it for it in self.resources} | self.read_mapping(root)
+        self.mapping = {f".{it.out}": it for it in self.resources} | self.read_mapping(root)
         for resource in self.resources:
             self.add_resource(resource)
         self.resolve()
-        self.place_instances(mapping, Resource("DEV", "MAIN", self.place, root))
+        self.place_instances(Resource("DEV", "MAIN", self.place, root))
 
     def name_resources(self) -> None:
         """Name all resources. Names that are given in several devices get the device in front."""
@@ -313,12 +291,21 @@ class System(Network):
                 node.children.insert(0, node.made("FB", Name="START", Type="E_RESTART"))
             self.add(node, f".{resource.out}", resource.aliases)
 
-    def place_instances(self, mapping: dict[str, Resource], rest: Resource) -> None:
+    def mapped(self, path: str) -> Resource | None:
+        """Return the resource of an instance, if it is mapped to one."""
+        steps = path.split(".")
+        outer = (".".join(steps[:n]) for n in range(len(steps), 0, -1))
+        return next((self.mapping[it] for it in outer if it in self.mapping), None)
+
+    def home(self, path: str) -> str:
+        """Return the resource of an instance, or nothing for the one of all that are mapped nowhere."""
+        resource = self.mapped(path)
+        return resource.out if resource else ""
+
+    def place_instances(self, rest: Resource) -> None:
         """Put each instance into its resource, or into the rest."""
         for one in self.instances.values():
-            steps = one.path.split(".")
-            outer = (".".join(steps[:n]) for n in range(len(steps), 0, -1))
-            next((mapping[path] for path in outer if path in mapping), rest).instances.append(one)
+            (self.mapped(one.path) or rest).instances.append(one)
         if rest.instances or not self.resources:
             rest.out = Names("resource", [("MAIN", rest.place)], self.faults, [it.out for it in self.resources])["MAIN"]
             if self.resources:
