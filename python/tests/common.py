@@ -3,6 +3,7 @@
 from __future__ import annotations
 
 import sys
+import time
 from pathlib import Path
 from typing import NamedTuple
 
@@ -58,6 +59,25 @@ def application(folder, text, name="plant.iec", deploy=None):
     if deploy is not None:
         (folder / "deploy.toml").write_text(deploy)
     return fbsim.Application(folder / name, deploy=None if deploy is None else folder / "deploy.toml")
+
+
+def program(folder, text):
+    """Writes a shell script, which takes the place of the program."""
+    (folder / "program").write_text(f"#!/bin/sh\n{text}\n")
+    (folder / "program").chmod(0o755)
+    return str(folder / "program")
+
+
+def has_ended(process):
+    """Waits until a process that another one started has ended. It may still be listed, if nobody waits for it."""
+    for _ in range(100):
+        try:
+            if Path(f"/proc/{process}/stat").read_text().rpartition(") ")[2][0] == "Z":
+                return True
+        except OSError:
+            return True
+        time.sleep(0.05)
+    return False
 
 
 def trace_in(folder, *lines, name="some.trace"):

@@ -3,11 +3,10 @@
 import gc
 import os
 import pickle
-import stat
 import time
 
 import pytest
-from common import ALL, CYCLE, EXAMPLES, RING, application, example_in, interpreter, second_trace
+from common import ALL, CYCLE, EXAMPLES, RING, application, example_in, interpreter, program, second_trace
 
 import fbsim
 
@@ -72,7 +71,7 @@ def test_stimuli_are_a_file_or_rows(tmp_path):
 
 
 def test_values_of_rows_are_numbers_and_truth_values():
-    from fbsim.application import stimuli_text
+    from fbsim.stimuli import stimuli_text
 
     rows = [(1, "A.B", {"X": True, "Y": -7}), (2, 'A.C"'), (3, "A.D", {"Z": False})]
     assert stimuli_text(rows) == 'tick,event,values\n1,A.B,X=TRUE Y=-7\n2,"A.C""",\n3,A.D,Z=FALSE\n'
@@ -184,14 +183,6 @@ def test_a_file_fault_names_the_file(tmp_path):
         fbsim.Application(tmp_path).check()
 
 
-def script(folder, text):
-    """Writes a shell script, which takes the place of the program."""
-    path = folder / "program"
-    path.write_text(f"#!/bin/sh\n{text}\n")
-    path.chmod(path.stat().st_mode | stat.S_IXUSR)
-    return str(path)
-
-
 @pytest.mark.parametrize("text, kind, said", [
     ("echo 'out of memory' >&2; exit 4", fbsim.OutOfMemory, "out of memory"),
     ("echo 'write fault after 64 bytes' >&2; exit 3", fbsim.WriteFault, "write fault after 64 bytes"),
@@ -202,7 +193,7 @@ def script(folder, text):
     ("exit 2", fbsim.Refused, "refused"),
 ])
 def test_each_status_has_its_exception(tmp_path, monkeypatch, text, kind, said):
-    monkeypatch.setenv("FBSIM", script(tmp_path, text))
+    monkeypatch.setenv("FBSIM", program(tmp_path, text))
     plant = fbsim.Application("plant.iec")
     for call in (plant.check, lambda: plant.run(horizon=5), lambda: list(plant.stream(horizon=5))):
         with pytest.raises(kind, match=said):
@@ -289,8 +280,7 @@ def test_a_stream_that_nobody_reads_on_ends_its_run(tmp_path):
 
 
 def test_a_run_takes_little_longer_than_the_program(tmp_path, monkeypatch):
-    script(tmp_path, "echo end 8")
-    monkeypatch.setenv("FBSIM", str(tmp_path / "program"))
+    monkeypatch.setenv("FBSIM", program(tmp_path, "echo end 8"))
     plant = fbsim.Application("plant.iec")
     taken = []
     for _ in range(9):

@@ -1,13 +1,14 @@
 """Benches in pytest, sweeps and figures for applications of IEC 61499. All traces come from the simulator `fbsim`."""
 
-from fbsim.application import Application, Session, Stream
+from fbsim.application import Application, Stream
 from fbsim.faults import (
     Fault, FileFault, InputFault, Location, OutOfMemory, ProgramFault, ProgramMissing, Refused,
-    RulesBroken, SequenceBroken, Stop, Stopped, WriteFault
+    RulesBroken, SequenceBroken, Stop, Stopped, TimedOut, WriteFault
 )
 from fbsim.latencies import Latencies, Pattern
 from fbsim.program import find_program
 from fbsim.sequence import check_sequence
+from fbsim.session import Session
 from fbsim.sweep import Jitter, Sweep, Variant, jitter
 from fbsim.trace import Line, Lines, Report, Signal, Trace, Verdict
 
@@ -16,6 +17,6 @@ __version__ = "1.2.0"
 __all__ = [
     "Application", "Fault", "FileFault", "InputFault", "Jitter", "Latencies", "Line", "Lines", "Location",
     "OutOfMemory", "Pattern", "ProgramFault", "ProgramMissing", "Refused", "Report", "RulesBroken", "SequenceBroken",
-    "Session", "Signal", "Stop", "Stopped", "Stream", "Sweep", "Trace", "Variant", "Verdict", "WriteFault",
+    "Session", "Signal", "Stop", "Stopped", "Stream", "Sweep", "TimedOut", "Trace", "Variant", "Verdict", "WriteFault",
     "check_sequence", "find_program", "jitter"
 ]

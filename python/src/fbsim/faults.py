@@ -51,6 +51,10 @@ class InputFault(Fault, ValueError):
     """What was given is wrong: an argument out of range, a pattern, a text that is no trace, a file fbsim.toml."""
 
 
+class TimedOut(Fault, TimeoutError):
+    """The program took longer than the `timeout` of the call, and was ended."""
+
+
 class ProgramMissing(Fault):
     """The program was not found."""
 

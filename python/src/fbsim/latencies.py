@@ -15,7 +15,8 @@ from fbsim import figures
 from fbsim.faults import Fault, InputFault
 
 if TYPE_CHECKING:
-    from fbsim.trace import Line, Value
+    from fbsim.stimuli import Value
+    from fbsim.trace import Line
 
 NAME = r"[A-Z_][A-Z0-9_]*"
 RESOURCE = re.compile(rf"\*|{NAME}")

@@ -4,12 +4,14 @@ from __future__ import annotations
 
 import os
 import shutil
+import signal
 import subprocess
-from collections.abc import Sequence
+from collections.abc import Iterator, Sequence
+from contextlib import contextmanager
 from pathlib import Path
 from typing import IO, Any
 
-from fbsim.faults import ProgramMissing, fault_of
+from fbsim.faults import InputFault, ProgramMissing, TimedOut, fault_of
 
 # Where ./simulate builds the program, with proofs and without, below the top of the repository.
 BUILT = ("crates/fbsim/out/fbsim", "crates/fbsim/out/fbsim.unproved")
@@ -36,15 +38,47 @@ def find_program() -> str:
     )
 
 
+def seconds(timeout: float | None) -> float | None:
+    """Returns a time limit in seconds, which is over 0, or None if there is none."""
+    if timeout is not None and (isinstance(timeout, (bool, str)) or not timeout > 0):
+        raise InputFault(f"timeout is {timeout!r}, and not a number of seconds over 0")
+    return timeout
+
+
+def kill(process: subprocess.Popen[Any], owner: int) -> None:
+    """Ends a program with all that it started, but not in a process that was forked from the one that started it."""
+    if os.getpid() == owner and process.poll() is None:
+        os.killpg(process.pid, signal.SIGKILL)
+        process.wait()
+
+
+@contextmanager
+def started(words: Sequence[str], **how: Any) -> Iterator[subprocess.Popen[Any]]:
+    """Starts the program in a process group of its own, and ends the group if the body raises an exception."""
+    with subprocess.Popen([find_program(), *words], process_group=0, **how) as process:
+        try:
+            yield process
+        except BaseException:
+            kill(process, os.getpid())
+            raise
+
+
 def call(
-    words: Sequence[str], given: str = "", to: IO[Any] | int = subprocess.PIPE, statuses: Sequence[int] = (0,)
+    words: Sequence[str], given: str = "", to: IO[Any] | int = subprocess.PIPE, statuses: Sequence[int] = (0,),
+    timeout: float | None = None
 ) -> subprocess.CompletedProcess[str]:
     """Calls the program, and raises the fault of a status that is not among these.
 
-    `given` is its standard input. Standard output goes into the file `to`, or is returned.
+    `given` is its standard input. Standard output goes into the file `to`, or is returned. After `timeout` seconds the
+    program is ended, and `TimedOut` is raised.
     """
     how: dict[str, Any] = {"encoding": "utf-8", "errors": "replace"}
-    made = subprocess.run([find_program(), *words], input=given, stdout=to, stderr=subprocess.PIPE, **how)
-    if made.returncode not in statuses:
-        raise fault_of(made.returncode, made.stderr)
-    return made
+    limit = seconds(timeout)
+    with started(words, stdin=subprocess.PIPE, stdout=to, stderr=subprocess.PIPE, **how) as process:
+        try:
+            out, said = process.communicate(given, limit)
+        except subprocess.TimeoutExpired:
+            raise TimedOut(f"fbsim {words[0]} took over {timeout:g} seconds, and was ended") from None
+    if process.returncode not in statuses:
+        raise fault_of(process.returncode, said)
+    return subprocess.CompletedProcess(words, process.returncode, out, said)

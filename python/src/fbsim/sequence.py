@@ -8,8 +8,9 @@ from collections.abc import Mapping, Sequence
 from pathlib import Path
 from typing import NamedTuple
 
-from fbsim.application import Application, FileName, Row
+from fbsim.application import Application
 from fbsim.faults import InputFault, SequenceBroken
+from fbsim.stimuli import FileName, Row
 from fbsim.texts import constant, of_application, read, write
 from fbsim.trace import Line
 

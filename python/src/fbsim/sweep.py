@@ -16,9 +16,10 @@ from pathlib import Path
 from typing import Any, NamedTuple
 
 from fbsim import figures
-from fbsim.application import Application, FileName, Stimuli, stimuli_text
+from fbsim.application import Application
 from fbsim.faults import Fault, InputFault, Stop
 from fbsim.latencies import Latencies
+from fbsim.stimuli import FileName, Stimuli, stimuli_text
 from fbsim.texts import read, with_latency, with_parameter, with_stimulus, write
 from fbsim.trace import Report, Trace, check_rules
 

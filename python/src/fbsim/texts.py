@@ -32,6 +32,22 @@ def write(path: Path, text: str) -> None:
     path.write_bytes(text.encode("utf-8", "surrogateescape"))
 
 
+# How a script of a kept case begins. A program that is named by a path from here is found after the change of folder.
+SCRIPT = """#!/bin/sh
+# {about}
+case ${{FBSIM:=fbsim}} in /*) ;; */*) FBSIM=$PWD/$FBSIM ;; esac
+cd "$(dirname "$0")" || exit
+"""
+
+
+def write_script(folder: Path, about: str, *lines: str) -> str:
+    """Writes run.sh, in which the environment variable FBSIM may name the program, and returns its first line."""
+    text = SCRIPT.format(about=about.replace("\n", " "))
+    write(folder / "run.sh", text + "".join('"$FBSIM"' + it.removeprefix("fbsim") + "\n" for it in lines))
+    (folder / "run.sh").chmod(0o755)
+    return lines[0]
+
+
 def of_application(declaration: str) -> list[re.Match[str]]:
     """Returns the tokens of the application of a declaration, or none, without comments."""
     found = [it for it in TOKEN.finditer(declaration) if it[1] is None]
@@ -50,6 +66,13 @@ def constant(value: object) -> str:
     if isinstance(value, str) and CONSTANT.fullmatch(value):
         return value
     raise InputFault(f"{value!r} is no constant: it is a whole number, a truth value, or a text as T#250ms")
+
+
+def whole(value: object, what: str) -> int:
+    """Returns a whole number, which may be of numpy. A truth value and a text are none."""
+    if isinstance(value, bool) or type(value).__name__ in ("bool_", "bool") or not hasattr(value, "__index__"):
+        raise InputFault(f"{what} is {value!r}, and not a whole number")
+    return index(value)
 
 
 def with_parameter(declaration: str, instance: str, parameter: str, value: object) -> str:

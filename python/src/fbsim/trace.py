@@ -7,20 +7,22 @@ import itertools
 import os
 import re
 import shutil
+import tempfile
+import weakref
 from abc import ABC, abstractmethod
 from collections.abc import Generator, Iterable, Iterator, Sequence
 from pathlib import Path
-from typing import TYPE_CHECKING, Any, NamedTuple
+from typing import IO, TYPE_CHECKING, Any, NamedTuple
 
 from fbsim import figures
 from fbsim.faults import InputFault, RulesBroken, Stop
 from fbsim.latencies import Latencies, Pattern, paired
 from fbsim.program import call
+from fbsim.stimuli import Value
 
 if TYPE_CHECKING:
     from fbsim.application import Application
 
-Value = int | bool
 # A point of a report of `fbsim expect`, with the block and the comments after it.
 POINT = re.compile(
     r"^(not )?ok \d+ - (.*?)(?: # SKIP (undecided|never applied))?\n"
@@ -236,6 +238,20 @@ class Trace(Lines):
     def diff(self, other: Trace) -> str:
         """Returns what `fbsim diff` says of this trace and another one: nothing if they are the same."""
         return call(["diff", os.fspath(self.path), os.fspath(other.path)], statuses=(0, 1)).stdout
+
+
+def remove_own(path: str, owner: int) -> None:
+    """Removes a temporary file, but not in a process that was forked from the one that made it."""
+    if os.getpid() == owner and os.path.exists(path):
+        os.remove(path)
+
+
+def temporary(application: Application) -> tuple[Trace, IO[bytes]]:
+    """Returns a trace whose temporary file is removed with it, and the open file, in which its lines will be."""
+    number, path = tempfile.mkstemp(prefix="fbsim-", suffix=".trace")
+    trace = Trace(path, application)
+    weakref.finalize(trace, remove_own, path, os.getpid())
+    return trace, open(number, "wb")
 
 
 class Verdict(NamedTuple):

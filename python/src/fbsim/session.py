@@ -1,0 +1,275 @@
+"""Sessions: runs that go on by calls, in which your code plays the plant."""
+
+from __future__ import annotations
+
+import os
+import select
+import shlex
+import subprocess
+import tempfile
+import time
+import weakref
+from collections import deque
+from collections.abc import Iterator, Mapping, Sequence
+from pathlib import Path
+from types import TracebackType
+from typing import IO, TYPE_CHECKING
+
+from fbsim.faults import Fault, InputFault, Location, ProgramFault, Refused, Stop, Stopped, TimedOut, fault_of
+from fbsim.program import find_program, kill, seconds
+from fbsim.stimuli import MOST_BYTES, MOST_ROWS, FileName, Row, Stimuli, Value, row_of, stimuli_text, words_of
+from fbsim.texts import whole, write, write_script
+from fbsim.trace import Line, Lines, Trace, ending, lines_of, temporary
+
+if TYPE_CHECKING:
+    from fbsim.application import Application
+
+ANSWERS = ("= ", "! ", "stop ", "end ")
+
+
+def leave(process: subprocess.Popen[bytes], said: IO[str], owner: int) -> None:
+    """Ends the program of a session, and closes what leads to it."""
+    kill(process, owner)
+    for it in (process.stdin, process.stdout, said):
+        try:
+            it and it.close()
+        except BrokenPipeError:  # (what was not sent, nobody reads any more)
+            pass
+
+
+class Talk:
+    """The program of a session: commands go to it, and lines come from it."""
+
+    def __init__(self, words: Sequence[str], timeout: float | None) -> None:
+        self.timeout, self.lines, self.rest = seconds(timeout), deque[bytes](), b""
+        self.said = tempfile.TemporaryFile("w+", errors="replace")
+        pipes = {"stdin": subprocess.PIPE, "stdout": subprocess.PIPE, "stderr": self.said}
+        try:
+            self.process = subprocess.Popen([find_program(), *words], process_group=0, **pipes)  # type: ignore
+        except BaseException:
+            self.said.close()
+            raise
+        self.leave = weakref.finalize(self, leave, self.process, self.said, os.getpid())
+
+    def send(self, command: str) -> None:
+        """Sends a command. If the program has ended, its output says so."""
+        assert self.process.stdin
+        try:
+            self.process.stdin.write(command.encode("utf-8", "surrogateescape") + b"\n")
+            self.process.stdin.flush()
+        except BrokenPipeError:
+            pass
+
+    def limit(self) -> float | None:
+        """Returns when an answer to what is sent now comes too late."""
+        return None if self.timeout is None else time.monotonic() + self.timeout
+
+    def line(self, limit: float | None) -> str | None:
+        """Returns the next line, or None at the end of the output."""
+        assert self.process.stdout
+        number = self.process.stdout.fileno()
+        while not self.lines:
+            if limit is not None:
+                ready = select.poll()
+                ready.register(number, select.POLLIN)
+                if not ready.poll(max(0.0, limit - time.monotonic()) * 1000):
+                    raise TimedOut(f"the session did not answer within {self.timeout:g} seconds, and was ended")
+            part = os.read(number, 65536)
+            if not part:
+                return None
+            *lines, self.rest = (self.rest + part).split(b"\n")
+            self.lines.extend(lines)
+        return self.lines.popleft().decode("utf-8", "replace")
+
+    def ended(self) -> tuple[int, str]:
+        """Waits for the end of the program, and returns its status and what it said on standard error."""
+        try:
+            status = self.process.wait(self.timeout)
+        except subprocess.TimeoutExpired:
+            raise TimedOut(f"the session did not end within {self.timeout:g} seconds, and was ended") from None
+        self.said.seek(0)
+        said = self.said.read().strip()
+        self.leave()
+        return status, said
+
+
+class Session(Lines):
+    """A run that goes on by calls: `with app.session() as s: s.give(..); s.until(..); s.show("GATE")`.
+
+    `rows` are the stimuli that it took, `answer` is the last answer, as `at 800`, and `stop` is why it stopped. Its own
+    lines are those so far: `s.where("* < GATE.LIFT").count()`. It ends by `ask("end 800")`, or by `close` at its least
+    tick, as its `with` does. Then `end` is its horizon, `trace` its trace, and each further call an InputFault. An
+    exception in the body of `with` breaks it off, and is passed on.
+    """
+
+    def __init__(
+        self, application: Application, stimuli: Stimuli = None, *, steps: int | None = None,
+        timeout: float | None = None
+    ) -> None:
+        self.application = application
+        self.rows: list[Row] = []
+        self.answer, self.is_broken_off = "", False
+        self.end: int | None = None
+        self.stop: Stop | None = None
+        self._options = [] if steps is None else ["--steps", str(whole(steps, "steps"))]
+        words = ["session", *application.words, *self._options]
+        if isinstance(stimuli, (str, os.PathLike)):
+            words, stimuli = [*words, "--stim", os.fspath(stimuli)], ()
+        self._talk: Talk | None = Talk(words, timeout)
+        self._trace, self._file = temporary(application)
+        weakref.finalize(self, self._file.close)
+        try:
+            self.ask("peek")  # (the rows of a file come before the answer)
+            for row in stimuli or ():
+                self.give(*row_of(row))
+        except BaseException:
+            self._break_off()
+            raise
+
+    def __repr__(self) -> str:
+        ended = f"end {self.end}" if self.stop is None else f"stop {self.stop.tick} {self.stop.resource}"
+        state = "goes on" if self._talk else "broken off" if self.is_broken_off else ended
+        return f"<session of {os.fspath(self.application.declaration)}, rows: {len(self.rows)}, {state}>"
+
+    def __enter__(self) -> Session:
+        return self
+
+    def __exit__(self, kind: type[BaseException] | None, _: object, __: TracebackType | None) -> None:
+        if kind is None:
+            self.close()
+        else:
+            self._break_off()
+
+    def __iter__(self) -> Iterator[Line]:
+        """Goes over the lines so far."""
+        if not self._file.closed:
+            self._file.flush()
+        with open(self._trace.path, encoding="ascii", errors="replace", newline="\n") as texts:
+            yield from lines_of(texts)
+
+    @property
+    def trace(self) -> Trace:
+        """The trace of the session, when it has ended: that of a run with its rows."""
+        if self._talk is not None or self.is_broken_off:
+            state = "was broken off" if self.is_broken_off else 'goes on: end it by ask("end TICK") or close()'
+            raise InputFault(f"there is no trace: the session {state}")
+        return self._trace
+
+    def ask(self, command: str) -> list[Line]:
+        """Sends any command, as `next` or `break * < BEAT.EO`, and returns the lines that it gives."""
+        if not isinstance(command, str) or "\n" in command or "\r" in command:
+            raise InputFault(f"{command!r} is no command: it is a text of one line")
+        if self._talk is None:
+            state = "was broken off" if self.is_broken_off else "has ended"
+            raise InputFault(f"the session {state}: {command!r} comes too late")
+        name = (command.split() or [""])[0]
+        try:
+            self._talk.send(command)
+            texts, answers = self._answers(name, self._talk)
+            if name == "end" and not answers[-1].startswith("! "):
+                self._finish(self._talk)
+        except BaseException:
+            # (an answer that is not read to its end would be taken for that of the next command)
+            self._break_off()
+            raise
+        self.answer = "\n".join(it.removeprefix("= ") for it in answers)
+        if self.answer.startswith("! E"):
+            raise Refused(self.answer[2:5], [Location(None, None, None, self.answer[7:])])
+        if self.answer.startswith("! "):
+            is_over = self.stop is not None and self.answer == "! the run has stopped"
+            raise Stopped(self.stop, self) if self.stop and is_over else InputFault(self.answer[2:])
+        return list(lines_of(iter(texts)))
+
+    def give(self, tick: int, event: str, values: Mapping[str, Value] = {}) -> None:
+        """Gives a stimulus at a tick that has not begun: `give(100, "PROBE.PLANT", {"RAW": 2432})`."""
+        self.ask(f"give {whole(tick, 'tick')} {event} {words_of(values)}".rstrip(" "))
+
+    def until(self, tick: int) -> list[Line]:
+        """Takes all events below a tick, or up to a break or a stop, and returns their lines."""
+        return self.ask(f"until {whole(tick, 'tick')}")
+
+    def show(self, path: str) -> dict[str, Value]:
+        """Returns the values of the variables of a block. What else it has, as its state, is in the answer."""
+        self.ask(f"show {path}")
+        return Line(0, "", "", "", "", " ".join(it for it in self.answer.split() if "=" in it)).values
+
+    def close(self) -> None:
+        """Ends the session at its least tick, unless it has ended."""
+        if self._talk is not None:
+            try:
+                assert self._talk.process.stdin
+                self._talk.process.stdin.close()
+                self._finish(self._talk)
+            except BaseException:
+                self._break_off()
+                raise
+
+    def save(self, folder: FileName) -> str:
+        """Writes an ended session into a folder, as a case: its trace, its rows, and run.sh. Returns the command.
+
+        The command prints the trace again. It is `run` with stimuli.csv; if these are more rows than `run` takes, it is
+        `session` with commands.
+        """
+        path, trace = Path(folder), self.trace
+        path.mkdir(parents=True, exist_ok=True)
+        trace.save(path / "trace")
+        horizon = self.end if self.stop is None else self.stop.tick + 1
+        text, words = stimuli_text(self.rows, is_limited=False), [*self.application.words_from(path), *self._options]
+        if len(self.rows) <= MOST_ROWS and len(text) <= MOST_BYTES:
+            write(path / "stimuli.csv", text)
+            words = ["fbsim", "run", *words, "--stim", "stimuli.csv", "--horizon", str(horizon)]
+            return write_script(path, "a session", shlex.join(words))
+        with open(path / "commands", "w", encoding="ascii") as to:
+            for tick, event, values in map(row_of, self.rows):
+                to.write(f"give {tick} {event} {words_of(values)}\n")
+            to.write(f"end {horizon}\n")
+        line = shlex.join(["fbsim", "session", *words]) + " < commands | grep -v '^[=!]'"
+        return write_script(path, "a session", line)
+
+    def _answers(self, name: str, talk: Talk) -> tuple[list[str], list[str]]:
+        """Reads what comes after a command: lines of the trace, and its answer, which has several lines for `help`."""
+        texts: list[str] = []
+        answers: list[str] = []
+        limit = talk.limit()
+        while (text := talk.line(limit)) is not None:
+            self._take(text)
+            if not text.startswith(ANSWERS):
+                texts.append(text)
+            elif name == "give" or not text.startswith("= row "):
+                answers.append(text)
+                if name != "help" or text.startswith(("= help: ", "! ")):
+                    return texts, answers
+        raise self._fault(*talk.ended())
+
+    def _take(self, text: str) -> None:
+        """Keeps a row, or a line of the trace, which may be its last one."""
+        if text.startswith("= row "):
+            tick, event, words = text.split(" ", 3)[3].split(",")
+            self.rows.append((int(tick), event, Line(0, "", "", "", "", words).values))
+        elif not text.startswith(("= ", "! ")):
+            self._file.write(text.encode("ascii", "replace") + b"\n")
+            if text.startswith(ANSWERS):
+                self.end, self.stop = ending(text)
+
+    def _fault(self, status: int, said: str) -> Fault:
+        """Returns why the program ended too early."""
+        ended = f"the program ended with status {status} and without its answer"
+        return ProgramFault(said and f"{ended}: {said}" or ended) if status in (0, 1) else fault_of(status, said)
+
+    def _finish(self, talk: Talk) -> None:
+        """Reads what comes up to the end of the program."""
+        limit = talk.limit()
+        while (text := talk.line(limit)) is not None:
+            self._take(text)
+        status, said = talk.ended()
+        if status not in (0, 1) or self.end is None and self.stop is None:
+            raise self._fault(status, said)
+        self._talk = None
+        self._file.close()
+
+    def _break_off(self) -> None:
+        """Ends the program at once, unless the session has ended."""
+        if self._talk is not None:
+            self._talk.leave()
+            self._talk, self.is_broken_off = None, True
+            self._file.close()

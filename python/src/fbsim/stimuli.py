@@ -1,0 +1,51 @@
+"""Stimuli as rows of Python, and their text."""
+
+from __future__ import annotations
+
+import csv
+import io
+import os
+from collections.abc import Iterable, Mapping
+
+from fbsim.faults import InputFault
+from fbsim.texts import constant, whole
+
+Value = int | bool
+FileName = str | os.PathLike[str]
+Row = tuple[int, str] | tuple[int, str, Mapping[str, Value]]
+Stimuli = FileName | Iterable[Row] | None
+# What the program takes in a list of stimuli: rows, and bytes of their text (docs/FORMATS.md, "Limits").
+MOST_ROWS, MOST_BYTES = 100_000, 16 * 1024 * 1024
+
+
+def row_of(given: object) -> tuple[int, str, Mapping[str, Value]]:
+    """Returns a row (tick, INSTANCE.EVENT, {VARIABLE: value}), which may have no values."""
+    if isinstance(given, (tuple, list)) and len(given) in (2, 3):
+        tick, event, *rest = given
+        values = rest[0] if rest else {}
+        if isinstance(event, str) and isinstance(values, Mapping):
+            return whole(tick, "the tick of a row"), event, values
+    raise InputFault(f"{given!r} is no row of stimuli: it is (tick, INSTANCE.EVENT, {{VARIABLE: value}})")
+
+
+def words_of(values: Mapping[str, Value]) -> str:
+    """Returns values as words of stimuli: `COVERED=TRUE COUNT=2`."""
+    return " ".join(f"{name}={constant(it)}" for name, it in values.items())
+
+
+def stimuli_text(rows: Iterable[Row], is_limited: bool = True) -> str:
+    """Returns the text of stimuli (CSV) with these rows: (tick, INSTANCE.EVENT, {VARIABLE: value})."""
+    text = io.StringIO()
+    table = csv.writer(text, lineterminator="\n")
+    table.writerow(["tick", "event", "values"])
+    if not isinstance(rows, Iterable) or hasattr(rows, "columns"):
+        raise InputFault(f"stimuli are a file or rows, and not of the type {type(rows).__name__}")
+    count = 0
+    for count, (tick, event, values) in enumerate(map(row_of, rows), 1):
+        table.writerow([tick, event, words_of(values)])
+    if count > MOST_ROWS and is_limited:
+        raise InputFault(
+            f"{count} rows are more than the {MOST_ROWS} that a run takes: a session takes them, and its `save` writes "
+            "the command that repeats it"
+        )
+    return text.getvalue()
