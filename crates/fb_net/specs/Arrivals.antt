@@ -14,7 +14,7 @@ use Rattle.fb_types.specs.declared.run.Target.{Target}
 use Rattle.fb_types.specs.declared.run.TimerAsk.TheVariants.{Keep}
 use Rattle.fb_types.specs.declared.value.Reason.{Reason}
 use Rattle.fb_net.specs.Outs.{Gathered, RepresentsOutcome, gathered}
-use Rattle.fb_net.specs.declared.effects.Effects.{Effects}
+use Rattle.fb_net.specs.declared.outbox.Outbox.{Outbox}
 use Rattle.fb_net.specs.Worlds.{IsForest}
 use Rattle.fb_net.specs.declared.resource.Forest.{Forest}
 use Rattle.fb_laws.specs.Typed.{AreTyped}
@@ -31,8 +31,8 @@ AreTypedAt i f = (w : World) × IsForest i f w × AreTyped (system_of i) w
 
 -- ---- The result of a step
 
--- In each world that the blocks represented, blocks and effects represent what the step makes of it, however many steps are left.
-abbrev pub ComesTo : Inputs → (World → ℕ → Outcome) → Forest → Effects → Forest → Effects → Type 0
+-- In each world that the blocks represented, blocks and outbox represent what the step makes of it, however many steps are left.
+abbrev pub ComesTo : Inputs → (World → ℕ → Outcome) → Forest → Outbox → Forest → Outbox → Type 0
 ComesTo i step old before new x = (w : World) (left : ℕ) → IsForest i old w → RepresentsOutcome i (gathered i before) new x (step w left)
 
 -- an event input of the instance takes an event: its variables are sampled, and its line is written
@@ -68,14 +68,14 @@ pub record IsBegun (i : Inputs) (f : Forest) (line : Line) (o : Outcome) : Type 
   pub timer : o.timer ≡ Keep
 
 -- Line and emissions of a leaf were written, wherever its reaction has begun so.
-abbrev pub WritesAndEmits : Inputs → Key → (instance : ℕ) → Line → List Emission → Forest → Effects → Forest → Effects → Type 0
+abbrev pub WritesAndEmits : Inputs → Key → (instance : ℕ) → Line → List Emission → Forest → Outbox → Forest → Outbox → Type 0
 WritesAndEmits i k at line emits old before new x =
     (o : Outcome) → IsBegun i old line o → RepresentsOutcome i (gathered i before) new x (emitted_all (system_of i) k (path_at (system_of i) at) emits o)
 
 -- ---- The result of a reaction
 
--- A reaction of the model from one world, whose outcome blocks and effects represent.
-pub record Reacted (i : Inputs) (Comes : Outcome → Type 0) (before : Gathered) (stop : Option Reason) (new : Forest) (after : ℕ) (x : Effects) : Type 0 where
+-- A reaction of the model from one world, whose outcome blocks and outbox represent.
+pub record Reacted (i : Inputs) (Comes : Outcome → Type 0) (before : Gathered) (stop : Option Reason) (new : Forest) (after : ℕ) (x : Outbox) : Type 0 where
   pub outcome : Outcome
   pub reacts : Comes outcome
   pub stops : outcome.stop ≡ stop
@@ -83,12 +83,12 @@ pub record Reacted (i : Inputs) (Comes : Outcome → Type 0) (before : Gathered)
   pub represents : RepresentsOutcome i before new x outcome
 
 -- The reaction has this outcome in each world that the blocks represented.
-abbrev pub ReactedIn : Inputs → (World → Outcome → Type 0) → Forest → Effects → Option Reason → Forest → (after : ℕ) → Effects → Type 0
+abbrev pub ReactedIn : Inputs → (World → Outcome → Type 0) → Forest → Outbox → Option Reason → Forest → (after : ℕ) → Outbox → Type 0
 ReactedIn i Comes old before stop new after x =
     (w : World) → IsForest i old w → Reacted i (Comes w) (gathered i before) stop new after x
 
 -- How a reaction ended. If memory ran out, nothing is said.
-abbrev pub HasReacted : Inputs → (World → Outcome → Type 0) → Forest → Effects → Result (Unit {0}) Halt → Forest → (after : ℕ) → Effects → Type 0
+abbrev pub HasReacted : Inputs → (World → Outcome → Type 0) → Forest → Outbox → Result (Unit {0}) Halt → Forest → (after : ℕ) → Outbox → Type 0
 HasReacted i Comes old before (Ok _) new after x = ReactedIn i Comes old before None new after x
 HasReacted i Comes old before (Err (halt.Stop r)) new after x = ReactedIn i Comes old before (Some r) new after x
 HasReacted i Comes old before (Err halt.Memory) new after x = Unit {0}

@@ -18,9 +18,9 @@ use Rattle.fb_types.specs.declared.run.Target.{Target}
 use Rattle.fb_types.specs.declared.value.Value.{Value}
 use Rattle.fb_net.specs.declared.resource.Forest.{Forest}
 use Rattle.fb_net.specs.Outs.{Gathered, StillAreOuts, IsOut, RepresentsOutcome, out_of}
-use Rattle.fb_net.specs.declared.effects.Out.{Out}
-use Rattle.fb_net.specs.declared.effects.Out.TheVariants.{Local, Send}
-use Rattle.fb_net.specs.declared.effects.Effects.{Effects}
+use Rattle.fb_net.specs.declared.outbox.Out.{Out}
+use Rattle.fb_net.specs.declared.outbox.Out.TheVariants.{Local, Send}
+use Rattle.fb_net.specs.declared.outbox.Outbox.{Outbox}
 
 -- what goes out to a target: a local event, or a message where the target is in another resource
 abbrev pub out_at : System → (resource : ℕ) → List (Port × Value) → Port → reactions.Out
@@ -64,13 +64,13 @@ abbrev pub carried_by : (instance : ℕ) → (indexes : List ℕ) → List Value
 carried_by k indexes values = map (λ x. record { instance = k; variable = x.0; value = x.1 }) (zip indexes values)
 
 -- The blocks and what was put out represents what the emissions of an instance make of what they represented.
-abbrev pub EmitsSo : Inputs → Key → (instance : ℕ) → Forest → Effects → List run.Emission → Forest → Effects → Type 0
+abbrev pub EmitsSo : Inputs → Key → (instance : ℕ) → Forest → Outbox → List run.Emission → Forest → Outbox → Type 0
 EmitsSo i key k f x es g y =
     (before : Gathered) (o : Outcome) → RepresentsOutcome i before f x o →
     RepresentsOutcome i before g y (emitted_all (system_of i) key (path_at (system_of i) k) (map (emission_of (ports_at (system_of i) (path_at (system_of i) k))) es) o)
 
 -- An instance has emitted so.
-pub record HasEmitted (i : Inputs) (key : Key) (k : ℕ) (f : Forest) (x : Effects) (es : List run.Emission) (g : Forest) (y : Effects) : Type 0 where
+pub record HasEmitted (i : Inputs) (key : Key) (k : ℕ) (f : Forest) (x : Outbox) (es : List run.Emission) (g : Forest) (y : Outbox) : Type 0 where
   pub emitted : EmitsSo i key k f x es g y
   pub outs : StillAreOuts i f x g y
   pub resource : g.resource ≡ f.resource

@@ -18,7 +18,7 @@ use Rattle.fb_types.specs.declared.run.Event.TheVariants as waits
 use Rattle.fb_net.specs.Outs.{Gathered, RepresentsOutcome, gathered, only_lines}
 use Rattle.fb_net.specs.declared.arrival.Arrival.{Arrival}
 use Rattle.fb_net.specs.declared.arrival.Arrival.TheVariants as arrives
-use Rattle.fb_net.specs.declared.effects.Effects.{Effects}
+use Rattle.fb_net.specs.declared.outbox.Outbox.{Outbox}
 use Rattle.fb_system.specs.Ports.{IsCarried, IsTarget}
 use Rattle.fb_system.specs.Stimuli.{IsGivenRow, sets_of}
 use Rattle.fb_net.specs.Worlds.{IsForest}
@@ -88,25 +88,25 @@ IsKeyOf k e = k ≡ key_by k.tick k.resource k.a e
 -- ---- The taking
 
 -- An event was taken as the model takes it, from the world on, and the resource goes on, or stops for a reason.
-pub record CameTo (i : Inputs) (k : Key) (e : Event) (before : Gathered) (left : ℕ) (stop : Option Reason) (new : Forest) (after : ℕ) (x : Effects) (w : World) : Type 0 where
+pub record CameTo (i : Inputs) (k : Key) (e : Event) (before : Gathered) (left : ℕ) (stop : Option Reason) (new : Forest) (after : ℕ) (x : Outbox) (w : World) : Type 0 where
   pub outcome : Outcome
   pub reacts : Reacts (system_of i) k w (event_of i e) left outcome
   pub stops : outcome.stop ≡ stop
   pub leaves : outcome.left ≡ after
   pub represents : RepresentsOutcome i before new x outcome
 
--- The taking has this outcome in each world that the blocks represented, after what the effects had before.
-abbrev pub Came : Inputs → Key → Event → Forest → Effects → (left : ℕ) → Option Reason → Forest → (after : ℕ) → Effects → Type 0
+-- The taking has this outcome in each world that the blocks represented, after what the outbox had before.
+abbrev pub Came : Inputs → Key → Event → Forest → Outbox → (left : ℕ) → Option Reason → Forest → (after : ℕ) → Outbox → Type 0
 Came i k e old before left stop new after x =
     (w : World) → IsForest i old w → CameTo i k e (gathered i before) left stop new after x w
 
 -- The taking has this outcome after lines alone, where nothing was to go out and nothing was asked of the timer.
-abbrev pub CameAlone : Inputs → Key → Event → Forest → Effects → (left : ℕ) → Option Reason → Forest → (after : ℕ) → Effects → Type 0
+abbrev pub CameAlone : Inputs → Key → Event → Forest → Outbox → (left : ℕ) → Option Reason → Forest → (after : ℕ) → Outbox → Type 0
 CameAlone i k e old before left stop new after x =
     (w : World) → IsForest i old w → CameTo i k e (only_lines (map (line_of (system_of i)) before.lines.items)) left stop new after x w
 
 -- How a taking ended. If memory ran out, nothing is said.
-abbrev pub HasTaken : Inputs → Key → Event → Forest → Effects → (left : ℕ) → Result (Unit {0}) Halt → Forest → (after : ℕ) → Effects → Type 0
+abbrev pub HasTaken : Inputs → Key → Event → Forest → Outbox → (left : ℕ) → Result (Unit {0}) Halt → Forest → (after : ℕ) → Outbox → Type 0
 HasTaken i k e old before left (Ok _) new after x = Came i k e old before left None new after x
 HasTaken i k e old before left (Err (halt.Stop r)) new after x = Came i k e old before left (Some r) new after x
 HasTaken i k e old before left (Err halt.Memory) new after x = Unit {0}

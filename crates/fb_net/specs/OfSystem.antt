@@ -14,8 +14,8 @@ use Rattle.fb_net.specs.Emitting as emitting
 use Rattle.fb_net.specs.Outs as outs
 use Rattle.fb_net.specs.Samples as samples
 use Rattle.fb_net.specs.Worlds as worlds
-use Rattle.fb_net.specs.declared.effects.Out.{Out}
-use Rattle.fb_net.specs.declared.effects.Effects.{Effects}
+use Rattle.fb_net.specs.declared.outbox.Out.{Out}
+use Rattle.fb_net.specs.declared.outbox.Outbox.{Outbox}
 use Rattle.fb_net.specs.declared.block.Block.{Block}
 use Rattle.fb_net.specs.declared.shell.Shell.{Shell}
 
@@ -53,7 +53,7 @@ out_of i = outs.out_of (system_of i)
 abbrev pub IsOut : Inputs → (resource : ℕ) → Out → Type 0
 IsOut i = outs.IsOut (system_of i)
 
-abbrev pub AreOuts : Inputs → (resource : ℕ) → Effects → Type 0
+abbrev pub AreOuts : Inputs → (resource : ℕ) → Outbox → Type 0
 AreOuts i = outs.AreOuts (system_of i)
 
 -- values, each with the data output at its index

@@ -13,10 +13,10 @@ use Rattle.fb_system.specs.Lines.{BelongsTo}
 use Rattle.fb_system.specs.Ports.{IsCarried, IsTarget}
 use Rattle.fb_net.specs.Worlds.{IsForest}
 use Rattle.fb_net.specs.declared.resource.Forest.{Forest}
-use Rattle.fb_net.specs.declared.effects.Out.{Out}
-use Rattle.fb_net.specs.declared.effects.Out.TheVariants.{Local, Send}
-use Rattle.fb_net.specs.declared.effects.Effects.{Effects}
-use Rattle.fb_net.specs.declared.effects.OutgoingMessage.{OutgoingMessage}
+use Rattle.fb_net.specs.declared.outbox.Out.{Out}
+use Rattle.fb_net.specs.declared.outbox.Out.TheVariants.{Local, Send}
+use Rattle.fb_net.specs.declared.outbox.Outbox.{Outbox}
+use Rattle.fb_net.specs.declared.outbox.OutgoingMessage.{OutgoingMessage}
 
 -- what goes out, in the model
 abbrev pub out_of : System → Out → reactions.Out
@@ -40,23 +40,23 @@ IsOut sys r (Local t) = IsLocal sys r t
 IsOut sys r (Send s) = IsOutgoing sys r s
 
 -- All that is put out of a resource belongs to the system.
-pub record AreOuts (sys : System) (r : ℕ) (x : Effects) : Type 0 where
+pub record AreOuts (sys : System) (r : ℕ) (x : Outbox) : Type 0 where
   pub lines : All (BelongsTo sys) x.lines.items
   pub outs : All (IsOut sys r) x.outs.items
 
 -- What is put out belongs to the system, if what was put out before does.
-abbrev pub StillAreOuts : Inputs → Forest → Effects → Forest → Effects → Type 0
+abbrev pub StillAreOuts : Inputs → Forest → Outbox → Forest → Outbox → Type 0
 StillAreOuts i old before new x = AreOuts (system_of i) old.resource before → AreOuts (system_of i) new.resource x
 
--- ---- What the effects gather
+-- ---- What the outbox gathers
 
--- What the effects have, in the model.
+-- What the outbox has, in the model.
 pub record Gathered : Type 0 where
   pub lines : List Line
   pub outs : List reactions.Out
   pub timer : TimerAsk
 
-abbrev pub gathered : Inputs → Effects → Gathered
+abbrev pub gathered : Inputs → Outbox → Gathered
 gathered i x = record { lines = map (line_of (system_of i)) x.lines.items; outs = map (out_of (system_of i)) x.outs.items; timer = x.timer }
 
 -- lines, and nothing else
@@ -69,8 +69,8 @@ asked before Keep = before
 asked before Clear = Clear
 asked before (At tick) = At tick
 
--- The blocks represent the result of a reaction, and so does what was put out after what the effects had before.
-pub record RepresentsOutcome (i : Inputs) (before : Gathered) (f : Forest) (x : Effects) (o : Outcome) : Type 0 where
+-- The blocks represent the result of a reaction, and so does what was put out after what the outbox had before.
+pub record RepresentsOutcome (i : Inputs) (before : Gathered) (f : Forest) (x : Outbox) (o : Outcome) : Type 0 where
   pub world : IsForest i f o.world
   pub lines : map (line_of (system_of i)) x.lines.items ≡ before.lines ++ o.lines
   pub outs : map (out_of (system_of i)) x.outs.items ≡ before.outs ++ o.outs

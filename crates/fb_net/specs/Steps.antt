@@ -91,7 +91,7 @@ pub record MayTake (t : Taking) (e : Event) : Type 0 where
 
 -- All that was put out belongs to the system, if what was put out before does.
 abbrev pub ArePutOut : Taking → Taking → Type 0
-ArePutOut old new = StillAreOuts old.system.now old.forest.now old.effects.now new.forest.now new.effects.now
+ArePutOut old new = StillAreOuts old.system.now old.forest.now old.outbox.now new.forest.now new.outbox.now
 
 -- The blocks are of the same resource, and each instance has its block.
 pub record AreKept (i : Inputs) (old new : Forest) : Type 0 where
@@ -103,7 +103,7 @@ pub record IsSame (old new : Taking) : Type 0 where
   pub system : new.system.now ≡ old.system.now
   pub key : new.key.now ≡ old.key.now
   pub forest : new.forest.ghost_name ≡ old.forest.ghost_name
-  pub effects : new.effects.ghost_name ≡ old.effects.ghost_name
+  pub outbox : new.outbox.ghost_name ≡ old.outbox.ghost_name
 
 abbrev pub IsKept : Taking → Taking → Type 0
 IsKept old new = AreKept old.system.now old.forest.now new.forest.now
@@ -115,22 +115,22 @@ pub record StaysWhole (old new : Taking) : Type 0 where
 
 -- A step has the result that the model gives it.
 pub record HasDone (step : World → ℕ → Outcome) (old new : Taking) : Type 0 where
-  pub comes : ComesTo old.system.now step old.forest.now old.effects.now new.forest.now new.effects.now
+  pub comes : ComesTo old.system.now step old.forest.now old.outbox.now new.forest.now new.outbox.now
   pub outs : ArePutOut old new
 
 -- An event has arrived at a port, and this is how the reaction ended.
 pub record HasArrived (old : Taking) (at : Target) (left : ℕ) (end : Result (Unit {0}) Halt) (new : Taking) (after : ℕ) : Type 0 where
-  pub reacted : HasReacted old.system.now (Arrives old.system.now old.key.now at left) old.forest.now old.effects.now end new.forest.now after new.effects.now
+  pub reacted : HasReacted old.system.now (Arrives old.system.now old.key.now at left) old.forest.now old.outbox.now end new.forest.now after new.outbox.now
   pub outs : Remembered end (ArePutOut old new)
   pub fewer : after ≤ left
 
 -- An instance has emitted, and all that was put out belongs to the system.
 abbrev pub EmitsWell : Taking → (instance : ℕ) → List Emission → Taking → Type 0
-EmitsWell old k es new = HasEmitted old.system.now old.key.now k old.forest.now old.effects.now es new.forest.now new.effects.now
+EmitsWell old k es new = HasEmitted old.system.now old.key.now k old.forest.now old.outbox.now es new.forest.now new.outbox.now
 
 -- An event was taken: what it came to, what it puts out, and how many steps are left.
 pub record WasTaken (old : Taking) (e : Event) (left : ℕ) (end : Result (Unit {0}) Halt) (new : Taking) (after : ℕ) : Type 0 where
-  pub taken : HasTaken old.system.now old.key.now e old.forest.now old.effects.now left end new.forest.now after new.effects.now
+  pub taken : HasTaken old.system.now old.key.now e old.forest.now old.outbox.now left end new.forest.now after new.outbox.now
   pub outs : Remembered end (ArePutOut old new)
   pub fewer : after ≤ left
   pub kept : IsKept old new

@@ -16,7 +16,7 @@ mod take;
 ghost use Rattle.std.specs.Prelude.{◌≤◌, ◌^◌};
 ghost use Rattle.fb_types.specs.OfSystem.{IsResource};
 
-use crate::effects::Effects;
+use crate::outbox::Outbox;
 use crate::resource::Forest;
 use fb_system::System;
 use fb_types::Key;
@@ -28,7 +28,7 @@ pub(crate) struct Taking<'a> {
     pub system: &'a System,
     pub key: &'a Key,
     pub forest: &'a mut Forest,
-    pub effects: &'a mut Effects,
+    pub outbox: &'a mut Outbox,
     // The key names a resource of the deployment, and its tick is at most 10^12.
     ghost named: { IsResource system.now key.now.resource },
     ghost early: { key.now.tick ≤ 10 ^ 12 },

@@ -8,7 +8,7 @@ use Rattle.fb_types.specs.Simulation as simulation
 use Rattle.fb_types.specs.States.{Event as AnEvent}
 use Rattle.fb_types.specs.declared.key.Key.{Key}
 use Rattle.fb_types.specs.declared.run.Message.{Message}
-use Rattle.fb_net.specs.declared.effects.OutgoingMessage.{OutgoingMessage}
+use Rattle.fb_net.specs.declared.outbox.OutgoingMessage.{OutgoingMessage}
 use Rattle.fb_link.specs.Messages as messages
 use Rattle.fb_resource.specs.Posts as posts
 

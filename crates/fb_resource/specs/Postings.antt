@@ -12,8 +12,8 @@ use Rattle.fb_types.specs.declared.run.TimerAsk.{TimerAsk}
 use Rattle.fb_agenda.specs.Agendas.{Contents}
 use Rattle.fb_net.specs.Events.{event_of}
 use Rattle.fb_net.specs.Outs.{out_of}
-use Rattle.fb_net.specs.declared.effects.Out.{Out}
-use Rattle.fb_net.specs.declared.effects.Effects.{Effects}
+use Rattle.fb_net.specs.declared.outbox.Out.{Out}
+use Rattle.fb_net.specs.declared.outbox.Outbox.{Outbox}
 use Rattle.fb_resource.specs.Posts.{ArePosted, CountsAre, IsMessage, IsPostable}
 use Rattle.fb_resource.specs.Takings.{IsSettled}
 use Rattle.fb_resource.specs.Waiting.{IsInOrder, meaning}
@@ -23,9 +23,9 @@ use Rattle.fb_resource.specs.declared.traffic.Traffic.{Traffic}
 abbrev pub system_in : Posting → System
 system_in p = system_of p.system.now
 
--- where events come from and go, with these effects
-abbrev pub traffic_in : Posting → Effects → Traffic
-traffic_in p x = record { agenda = p.agenda.now; sent = p.sent.now; mail = p.mail.now; effects = x }
+-- where events come from and go, with this outbox
+abbrev pub traffic_in : Posting → Outbox → Traffic
+traffic_in p x = record { agenda = p.agenda.now; sent = p.sent.now; mail = p.mail.now; outbox = x }
 
 -- ---- Before
 
@@ -63,8 +63,8 @@ pub record HasSet (old : Posting) (ask : TimerAsk) (e : Event) (new : Posting) :
   pub sent : new.sent.now ≡ old.sent.now
   pub locals : new.locals.now ≡ old.locals.now
 
--- The timer was set as the effects ask, and then what it puts out was posted, whatever was sent before.
-abbrev pub HasSettled : Posting → Effects → Event → Posting → Effects → Type 0
+-- The timer was set as the outbox asks, and then what it puts out was posted, whatever was sent before.
+abbrev pub HasSettled : Posting → Outbox → Event → Posting → Outbox → Type 0
 HasSettled old from e new to =
     (counts : ℕ → ℕ) → CountsAre old.sent.now.items counts
     → IsSettled old.system.now old.key.now (path_of (event_of old.system.now e)) from.timer

@@ -14,9 +14,9 @@ use Rattle.fb_agenda.specs.Agendas.{Contents}
 use Rattle.fb_types.specs.declared.run.Event.{Event}
 use Rattle.fb_types.specs.declared.run.Event.TheVariants.{Arrival}
 use Rattle.fb_net.specs.Outs.{IsLocal, IsOutgoing}
-use Rattle.fb_net.specs.declared.effects.Out.{Out}
-use Rattle.fb_net.specs.declared.effects.Out.TheVariants.{Local, Send}
-use Rattle.fb_net.specs.declared.effects.OutgoingMessage.{OutgoingMessage}
+use Rattle.fb_net.specs.declared.outbox.Out.{Out}
+use Rattle.fb_net.specs.declared.outbox.Out.TheVariants.{Local, Send}
+use Rattle.fb_net.specs.declared.outbox.OutgoingMessage.{OutgoingMessage}
 use Rattle.fb_net.specs.Events.{IsEventIn, event_of}
 use Rattle.fb_laws.specs.Typed.{FitsAt, IsTypedEvent}
 use Rattle.fb_resource.specs.Waiting.{meaning}

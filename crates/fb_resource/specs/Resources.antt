@@ -32,23 +32,23 @@ use Rattle.fb_resource.specs.declared.resource.WindowDone.TheVariants.{NoMemory,
 -- A resource represents one by itself. What that one has of other resources' keys does not matter. Until it stops, it has used no step of a tick from its clock on.
 pub record Represents (i : Inputs) (limit : ℕ) (l : Local (machine (system_of i) limit)) (x : Resource) : Type 0 where
   pub state : State
-  pub part : l.part ≡ part_of (system_of i) x.resource_blocks.resource state
-  pub blocks : IsForest i x.resource_blocks (world_of state x.resource_blocks.resource)
+  pub part : l.part ≡ part_of (system_of i) x.tree.resource state
+  pub blocks : IsForest i x.tree (world_of state x.tree.resource)
   pub typed : (r : ℕ) → AreTyped (system_of i) (world_of state r)
-  pub unused : x.stopped ≡ None → IsUnused x.clock (state.meters x.resource_blocks.resource)
+  pub unused : x.stopped ≡ None → IsUnused x.clock (state.meters x.tree.resource)
   pub counts : CountsAre x.sent.items state.sent
   pub own : (j : Key) → (j.class == 2) ≡ true → l.own j ≡ None
   pub inbox : (j : Key) → (j.class == 2) ≡ false → l.inbox j ≡ None
-  pub waits : (j : Key) → j.resource ≡ x.resource_blocks.resource → machines.waiting (machine (system_of i) limit) l j ≡ meaning i x.agenda j
+  pub waits : (j : Key) → j.resource ≡ x.tree.resource → machines.waiting (machine (system_of i) limit) l j ≡ meaning i x.agenda j
   pub stop : l.stop ≡ x.stopped
 
 -- A resource of the system, between two runs: its own events wait, none before its clock.
 pub record IsOf (i : Inputs) (x : Resource) : Type 0 where
-  pub named : x.resource_blocks.resource < count_of (system_of i)
+  pub named : x.tree.resource < count_of (system_of i)
   pub order : IsInOrder i x.clock x.agenda
   pub due : length x.agenda.due ≡ length (system_of i).paths
   pub counted : length x.sent.items ≡ (system_of i).links
-  pub home : (j : Key) (e : Event) → waiting x.agenda j ≡ Some e → j.resource ≡ x.resource_blocks.resource
+  pub home : (j : Key) (e : Event) → waiting x.agenda j ≡ Some e → j.resource ≡ x.tree.resource
   pub represents : (limit : ℕ) → (l : Local (machine (system_of i) limit)) × Represents i limit l x
 
 -- an event below the tick waits
@@ -57,7 +57,7 @@ IsBusy t x = (j : Key) × (j.tick < t) × IsSome (waiting x.agenda j)
 
 -- A resource as it is before the first event.
 pub record IsFresh (i : Inputs) (r : ℕ) (x : Resource) : Type 0 where
-  pub numbered : x.resource_blocks.resource ≡ r
+  pub numbered : x.tree.resource ≡ r
   pub clock : x.clock ≡ 0
   pub live : x.stopped ≡ None
   pub of : IsOf i x
@@ -66,7 +66,7 @@ pub record IsFresh (i : Inputs) (r : ℕ) (x : Resource) : Type 0 where
 -- The resources of a system, in order, as they are before the first event.
 pub record AreOpened (i : Inputs) (xs : List Resource) : Type 0 where
   pub counted : length xs ≡ count_of (system_of i)
-  pub numbered : (r : ℕ) (x : Resource) → slice_get xs r ≡ Some x → x.resource_blocks.resource ≡ r
+  pub numbered : (r : ℕ) (x : Resource) → slice_get xs r ≡ Some x → x.tree.resource ≡ r
   pub of : (r : ℕ) (x : Resource) → slice_get xs r ≡ Some x → IsOf i x
   pub clock : (r : ℕ) (x : Resource) → slice_get xs r ≡ Some x → x.clock ≡ 0
   pub state : (limit r : ℕ) (x : Resource) → slice_get xs r ≡ Some x → Represents i limit (local_of (system_of i) limit r (opening (system_of i) (stimuli_of i)) None) x
@@ -81,7 +81,7 @@ mark_of r t (Some q) = Some (record { tick = t; resource = r; reason = q })
 -- It has taken all below the tick, or up to its stop.
 pub record RanTo (i : Inputs) (limit : ℕ) (l : Local (machine (system_of i) limit)) (to : ℕ) (x : Resource) (ls : List Line) (ms : List Message) : Type 0 where
   pub items : List (Item (machine (system_of i) limit))
-  pub run : Run (machine (system_of i) limit) x.resource_blocks.resource l to items
+  pub run : Run (machine (system_of i) limit) x.tree.resource l to items
   pub represents : Represents i limit (end (machine (system_of i) limit) l items) x
   pub clock : x.clock ≡ clock_after (machine (system_of i) limit) to items
   pub lines : map (line_of (system_of i)) ls ≡ lines_of (machine (system_of i) limit) items
@@ -90,8 +90,8 @@ pub record RanTo (i : Inputs) (limit : ℕ) (l : Local (machine (system_of i) li
 -- What becomes of it in a run below a tick. Where memory ran out nothing is said.
 abbrev pub HasRun : Inputs → (limit : ℕ) → Resource → (to : ℕ) → WindowDone → Type 0
 HasRun i limit old to (Ran new lines sent stop) =
-    IsOf i new × (new.resource_blocks.resource ≡ old.resource_blocks.resource) × All (BelongsTo (system_of i)) lines.items × All (IsMessage i) sent.items
-    × (stop ≡ mark_of new.resource_blocks.resource new.clock new.stopped)
+    IsOf i new × (new.tree.resource ≡ old.tree.resource) × All (BelongsTo (system_of i)) lines.items × All (IsMessage i) sent.items
+    × (stop ≡ mark_of new.tree.resource new.clock new.stopped)
     × ((l : Local (machine (system_of i) limit)) → Represents i limit l old → RanTo i limit l to new lines.items sent.items)
 HasRun i limit old to NoMemory = Unit {0}
 
@@ -110,7 +110,7 @@ pub record IsSame (old new : Resource) : Type 0 where
 -- A message of the system that goes to the resource, and does not come too late.
 pub record IsFor (i : Inputs) (x : Resource) (m : Message) : Type 0 where
   pub message : IsMessage i m
-  pub here : receiver_of (system_of i) m ≡ x.resource_blocks.resource
+  pub here : receiver_of (system_of i) m ≡ x.tree.resource
   pub later : x.clock ≤ m.arrives
 
 -- the resource by itself with messages that have come

@@ -46,14 +46,14 @@ module _ (M : Machine) where
 
 -- What a resource holds in a run, with the counts of the tick of its last event, and what its takings gave.
 pub record Running : Type 0 where
-  pub resource_blocks : Forest
+  pub tree : Forest
   pub clock : ℕ
   pub meter : TickCounts
   pub traffic : Traffic
   pub stopped : Option Reason
 
 abbrev pub in_run : Resource → TickCounts → Traffic → Running
-in_run x m q = record { resource_blocks = x.resource_blocks; clock = x.clock; meter = m; traffic = q; stopped = x.stopped }
+in_run x m q = record { tree = x.tree; clock = x.clock; meter = m; traffic = q; stopped = x.stopped }
 
 -- the resource to which the agenda and the counts of its traffic have come back
 abbrev pub with_traffic : Resource → Traffic → Resource
@@ -61,29 +61,29 @@ with_traffic x q = record x { agenda = q.agenda; sent = q.sent }
 
 -- the resource by itself
 abbrev pub at_rest : Running → Resource
-at_rest x = record { resource_blocks = x.resource_blocks; clock = x.clock; agenda = x.traffic.agenda; sent = x.traffic.sent; stopped = x.stopped }
+at_rest x = record { tree = x.tree; clock = x.clock; agenda = x.traffic.agenda; sent = x.traffic.sent; stopped = x.stopped }
 
 -- In a run it represents one by itself, as at rest, and from its clock on its counts are those of the state.
 pub record RepresentsRunning (i : Inputs) (limit : ℕ) (l : Local (machine (system_of i) limit)) (x : Running) : Type 0 where
   pub state : State
-  pub part : l.part ≡ part_of (system_of i) x.resource_blocks.resource state
-  pub here : IsHere i state x.resource_blocks.resource x.clock x.resource_blocks x.meter
+  pub part : l.part ≡ part_of (system_of i) x.tree.resource state
+  pub here : IsHere i state x.tree.resource x.clock x.tree x.meter
   pub counts : CountsAre x.traffic.sent.items state.sent
   pub own : (j : Key) → (j.class == 2) ≡ true → l.own j ≡ None
   pub inbox : (j : Key) → (j.class == 2) ≡ false → l.inbox j ≡ None
-  pub waits : (j : Key) → j.resource ≡ x.resource_blocks.resource → machines.waiting (machine (system_of i) limit) l j ≡ meaning i x.traffic.agenda j
+  pub waits : (j : Key) → j.resource ≡ x.tree.resource → machines.waiting (machine (system_of i) limit) l j ≡ meaning i x.traffic.agenda j
   pub stop : l.stop ≡ x.stopped
 
 -- A resource of the system, in a run: its own events wait, none before its clock.
 pub record IsRunning (i : Inputs) (limit : ℕ) (x : Running) : Type 0 where
-  pub named : x.resource_blocks.resource < count_of (system_of i)
+  pub named : x.tree.resource < count_of (system_of i)
   pub metered : IsMetered limit x.meter
   pub past : unwrap_or x.meter.tick 0 ≤ x.clock
   pub ready : AreReady i x.clock x.traffic
-  pub home : (j : Key) (e : Event) → waiting x.traffic.agenda j ≡ Some e → j.resource ≡ x.resource_blocks.resource
+  pub home : (j : Key) (e : Event) → waiting x.traffic.agenda j ≡ Some e → j.resource ≡ x.tree.resource
 
 -- It represents what its takings below a tick have made of what represented it. Their lines and messages are in its traffic.
 pub record ComesTo (i : Inputs) (limit r t : ℕ) (from : Local (machine (system_of i) limit)) (x : Running) : Type 0 where
   pub at : Local (machine (system_of i) limit)
   pub represents : RepresentsRunning i limit at x
-  pub come : HasCome (machine (system_of i) limit) r t from at (map (line_of (system_of i)) x.traffic.effects.lines.items) (map (arriving i) x.traffic.mail.items)
+  pub come : HasCome (machine (system_of i) limit) r t from at (map (line_of (system_of i)) x.traffic.outbox.lines.items) (map (arriving i) x.traffic.mail.items)

@@ -25,8 +25,8 @@ use Rattle.fb_system.specs.Lines.{BelongsTo}
 use Rattle.fb_net.specs.Events.{IsEventIn, event_of}
 use Rattle.fb_net.specs.Outs.{out_of}
 use Rattle.fb_net.specs.Worlds.{IsForest}
-use Rattle.fb_net.specs.declared.effects.Out.TheVariants.{Local}
-use Rattle.fb_net.specs.declared.effects.Effects.{Effects}
+use Rattle.fb_net.specs.declared.outbox.Out.TheVariants.{Local}
+use Rattle.fb_net.specs.declared.outbox.Outbox.{Outbox}
 use Rattle.fb_net.specs.declared.resource.Forest.{Forest}
 use Rattle.fb_laws.specs.Typed.{AreTyped}
 use Rattle.fb_resource.specs.Counts.{BeginAlike, meter_of}
@@ -47,9 +47,9 @@ ended (Some r) = Err (halt.Stop r)
 -- Nothing was given yet, and nothing is asked of a timer.
 pub record IsEmpty (q : Traffic) : Type 0 where
   pub mail : q.mail.items ≡ []
-  pub lines : q.effects.lines.items ≡ []
-  pub none : q.effects.outs.items ≡ []
-  pub keeps : q.effects.timer ≡ Keep
+  pub lines : q.outbox.lines.items ≡ []
+  pub none : q.outbox.outs.items ≡ []
+  pub keeps : q.outbox.timer ≡ Keep
 
 -- The blocks of a resource are those of a state, all of whose values are of their types, and from a tick on its counts are the state's too.
 pub record IsHere (i : Inputs) (s : State) (r from : ℕ) (t : Forest) (x : TickCounts) : Type 0 where
@@ -63,9 +63,9 @@ pub record AreReady (i : Inputs) (tick : ℕ) (q : Traffic) : Type 0 where
   pub due : length q.agenda.due ≡ length (system_of i).paths
   pub counted : length q.sent.items ≡ (system_of i).links
   pub mail : All (IsMessage i) q.mail.items
-  pub lines : All (BelongsTo (system_of i)) q.effects.lines.items
-  pub none : q.effects.outs.items ≡ []
-  pub keeps : q.effects.timer ≡ Keep
+  pub lines : All (BelongsTo (system_of i)) q.outbox.lines.items
+  pub none : q.outbox.outs.items ≡ []
+  pub keeps : q.outbox.timer ≡ Keep
 
 -- The event of a key, which had left the agenda, was taken as the model takes it, whether or not its resource stops.
 pub record IsTakenHere (i : Inputs) (limit : ℕ) (s : State) (k : Key) (e : model.Event) (stop : Option Reason) (from : ℕ) (t : Forest) (x : TickCounts) (old new : Traffic) : Type 0 where
@@ -76,7 +76,7 @@ pub record IsTakenHere (i : Inputs) (limit : ℕ) (s : State) (k : Key) (e : mod
   pub counts : CountsAre new.sent.items effect.state.sent
   pub agenda : (j : Key) → meaning i new.agenda j ≡ changed_to (effect.changes j) (meaning i old.agenda j)
   pub mail : map (arriving i) new.mail.items ≡ map (arriving i) old.mail.items ++ effect.sent
-  pub lines : map (line_of (system_of i)) new.effects.lines.items ≡ map (line_of (system_of i)) old.effects.lines.items ++ effect.lines
+  pub lines : map (line_of (system_of i)) new.outbox.lines.items ≡ map (line_of (system_of i)) old.outbox.lines.items ++ effect.lines
 
 -- ---- On the way
 
@@ -101,16 +101,16 @@ pub record MaySettle (i : Inputs) (l : Least) (q : Traffic) : Type 0 where
   pub due : length q.agenda.due ≡ length (system_of i).paths
   pub counted : length q.sent.items ≡ (system_of i).links
   pub mail : All (IsMessage i) q.mail.items
-  pub later : IsLater l.key.tick q.effects.timer
-  pub outs : All (IsPostable (system_of i) l.key.resource) q.effects.outs.items
-  pub lines : All (BelongsTo (system_of i)) q.effects.lines.items
+  pub later : IsLater l.key.tick q.outbox.timer
+  pub outs : All (IsPostable (system_of i) l.key.resource) q.outbox.outs.items
+  pub lines : All (BelongsTo (system_of i)) q.outbox.lines.items
 
--- The timer was set and what the effects put out was posted, whatever was sent before.
+-- The timer was set and what the outbox puts out was posted, whatever was sent before.
 abbrev pub AreSettled : (i : Inputs) (k : Key) (e : waiting.Event) (before : ℕ) (old new : Traffic) (after : ℕ) → Type 0
 AreSettled i k e before old new after =
     (counts : ℕ → ℕ) → CountsAre old.sent.items counts
-    → IsSettled i k (path_of (event_of i e)) old.effects.timer
-    (post_all (system_of i) k (map (out_of (system_of i)) old.effects.outs.items) (record { locals = before; sent = counts; raised = []; messages = [] })) old new after
+    → IsSettled i k (path_of (event_of i e)) old.outbox.timer
+    (post_all (system_of i) k (map (out_of (system_of i)) old.outbox.outs.items) (record { locals = before; sent = counts; raised = []; messages = [] })) old new after
 
 -- The event is settled, and events may be taken again. The messages arrive later than the event, at most 2^64 local events were counted, and the
 -- lines stay.
@@ -119,16 +119,16 @@ pub record Settles (i : Inputs) (l : Least) (before : ℕ) (old : Traffic) (afte
   pub ready : AreReady i l.key.tick new
   pub later : All (λ m. l.key.tick < m.arrives) old.mail.items → All (λ m. l.key.tick < m.arrives) new.mail.items
   pub few : after ≤ before + 2 ^ 64
-  pub lines : new.effects.lines.items ≡ old.effects.lines.items
+  pub lines : new.outbox.lines.items ≡ old.outbox.lines.items
 
 -- All was posted and nothing is asked of a timer; the lines stay.
-pub record IsEmptied (old new : Effects) : Type 0 where
+pub record IsEmptied (old new : Outbox) : Type 0 where
   pub lines : new.lines.items ≡ old.lines.items
   pub none : new.outs.items ≡ []
   pub keeps : new.timer ≡ Keep
 
 -- One local event had been put out, and nothing was asked of the timer. The event was posted under its number.
-pub record IsLone (k : Key) (t : Target) (old new : Contents) (before after : ℕ) (from to : Effects) : Type 0 where
+pub record IsLone (k : Key) (t : Target) (old new : Contents) (before after : ℕ) (from to : Outbox) : Type 0 where
   pub alone : from.outs.items ≡ Local t ∷ []
   pub keeps : from.timer ≡ Keep
   pub put : IsPut old new (local_key k.tick k.resource before) (waits.Local t)

@@ -8,15 +8,15 @@ ghost use Rattle.fb_types.specs.declared.run.TimerAsk.TheVariants.{Keep};
 ghost use Rattle.fb_types.specs.OfSystem.{IsInstance, IsResource, link_count, path_at};
 ghost use Rattle.fb_system.specs.OfSystem.{arrival_over, number_at};
 ghost use Rattle.fb_net.specs.Events.{IsEventIn, IsNumbered, event_of};
-ghost use Rattle.fb_net.specs.declared.effects.Out.TheVariants as put_out;
-ghost use Rattle.fb_net.specs.declared.effects.OutgoingMessage.{OutgoingMessage};
+ghost use Rattle.fb_net.specs.declared.outbox.Out.TheVariants as put_out;
+ghost use Rattle.fb_net.specs.declared.outbox.OutgoingMessage.{OutgoingMessage};
 ghost use Rattle.fb_resource.specs.Posts.{IsOneMessage};
 ghost use Rattle.fb_resource.specs.Takings.{IsEmptied, IsLater};
 ghost use Rattle.fb_resource.specs.OfSystem.{message_of};
 
 use fb_agenda::Agenda;
 use fb_link::arrival;
-use fb_net::{Effects, Out, OutgoingMessage};
+use fb_net::{Out, Outbox, OutgoingMessage};
 use fb_system::System;
 use fb_types::{Event, Key, Message, Target, TimerAsk};
 use std::alloc::AllocError;
@@ -91,15 +91,15 @@ fn instance_of(system: &System, event: &Event) -> u32
 /// The target of the local event that was put out, if nothing else was, nothing is asked of the timer and the resource
 /// goes on, as mostly.
 #[inline(always)]
-pub(crate) fn lone_of(effects: &Effects, stops: bool) -> Option<&Target>
-    ensures alone { IfSome result (λ target. effects.now.outs.items ≡ put_out.Local target.now ∷ []) }
-    ensures keeps { IfSome result (λ target. effects.now.timer ≡ Keep) }
+pub(crate) fn lone_of(outbox: &Outbox, stops: bool) -> Option<&Target>
+    ensures alone { IfSome result (λ target. outbox.now.outs.items ≡ put_out.Local target.now ∷ []) }
+    ensures keeps { IfSome result (λ target. outbox.now.timer ≡ Keep) }
 {
     if stops {
         return None;
     }
-    match effects.timer {
-        TimerAsk::Keep => match effects.outs.as_slice() {
+    match outbox.timer {
+        TimerAsk::Keep => match outbox.outs.as_slice() {
             [only] => match only {
                 Out::Local(target) => Some(target),
                 Out::Send(_) => None,
@@ -158,15 +158,15 @@ pub(crate) fn post_lone(
 /// Counts the local event that was put out, where nothing else was and nothing is asked of the timer. It has moved to
 /// where it goes.
 #[inline(always)]
-pub(crate) fn count_lone(locals: &mut u128, effects: &mut Effects)
-    requires alone { length effects.old.outs.items ≡ 1 }
-    requires keeps { effects.old.timer ≡ Keep }
+pub(crate) fn count_lone(locals: &mut u128, outbox: &mut Outbox)
+    requires alone { length outbox.old.outs.items ≡ 1 }
+    requires keeps { outbox.old.timer ≡ Keep }
     requires room { locals.old < 2 ^ 100 }
     ensures counted { locals.new ≡ locals.old + 1 }
-    ensures emptied { IsEmptied effects.old effects.new }
+    ensures emptied { IsEmptied outbox.old outbox.new }
 {
     // Its target was read where it is: to move an `Out` is to move as much as a message.
-    forget(effects.outs.pop());
+    forget(outbox.outs.pop());
     *locals += 1;
 }
 
@@ -266,26 +266,26 @@ impl Posting<'_> {
     }
 
     /// Sets the timer of the instance at which an event came and posts what was put out, as its reaction asks. Of the
-    /// effects the lines stay, and the room for what is put out.
+    /// outbox the lines stay, and the room for what is put out.
     ///
     /// # Errors
     /// As `post_one`.
     #[inline(always)]
-    pub fn settle(&mut self, effects: &mut Effects, event: &Event) -> Result<(), AllocError>
+    pub fn settle(&mut self, outbox: &mut Outbox, event: &Event) -> Result<(), AllocError>
         requires may { MayPost self.old }
         requires event { IsEventIn self.old.system.now self.old.key.now.resource event.now }
-        requires later { IsLater self.old.key.now.tick effects.old.timer }
-        requires outs { All (MayPut self.old) effects.old.outs.items }
+        requires later { IsLater self.old.key.now.tick outbox.old.timer }
+        requires outs { All (MayPut self.old) outbox.old.outs.items }
         requires room { self.old.locals.now < 2 ^ 100 }
-        ensures settled { OnOk result (HasSettled self.old effects.old event.now self.new effects.new) }
+        ensures settled { OnOk result (HasSettled self.old outbox.old event.now self.new outbox.new) }
         ensures grown { OnOk result (HasGrown self.old (2 ^ 64) self.new) }
-        ensures emptied { OnOk result (IsEmptied effects.old effects.new) }
+        ensures emptied { OnOk result (IsEmptied outbox.old outbox.new) }
         ensures same { IsSame self.old self.new }
     {
-        self.set_timer(&effects.timer, event)?;
-        effects.timer = TimerAsk::Keep;
+        self.set_timer(&outbox.timer, event)?;
+        outbox.timer = TimerAsk::Keep;
         // for the prover: what its type keeps
-        let _count = effects.outs.len();
-        self.post_all(&mut effects.outs)
+        let _count = outbox.outs.len();
+        self.post_all(&mut outbox.outs)
     }
 }

@@ -11,13 +11,13 @@ mod receive;
 mod run;
 
 use fb_agenda::Agenda;
-use fb_net::ResourceBlocks;
+use fb_net::Tree;
 use fb_types::{Line, Message, Reason, StopMark};
 
 /// One resource by itself, between two runs.
 pub struct Resource {
     /// Its blocks, and its copies of other resources' variables.
-    resource_blocks: ResourceBlocks,
+    tree: Tree,
     /// All below this tick is taken; where it stopped, the tick of its stop.
     clock: u64,
     /// Its events that wait.
@@ -32,7 +32,7 @@ pub struct Resource {
 impl Drop for Resource {
     fn drop(self) {
         let Resource {
-            resource_blocks: _,
+            tree: _,
             clock: _,
             agenda: _,
             sent: _,

@@ -4,7 +4,7 @@ ghost use Rattle.std.specs.Prelude.{◌≡◌};
 ghost use Rattle.fb_resource.specs.Takings.{IsEmpty};
 
 use fb_agenda::Agenda;
-use fb_net::Effects;
+use fb_net::Outbox;
 use fb_types::{Line, Message, TimerAsk};
 use std::alloc::Global;
 
@@ -17,7 +17,7 @@ pub struct Traffic {
     /// The messages that were sent, in their order.
     pub mail: Vec<Message>,
     /// The lines, and room for what one reaction puts out.
-    pub effects: Effects,
+    pub outbox: Outbox,
 }
 
 // Drop is written by hand, so that callers need not prove it again (docs/DECISIONS.md, "Drop").
@@ -27,7 +27,7 @@ impl Drop for Traffic {
             agenda: _,
             sent: _,
             mail: _,
-            effects: _,
+            outbox: _,
         } = self;
     }
 }
@@ -58,7 +58,7 @@ impl Traffic {
             agenda,
             sent,
             mail: Vec::new(alloc),
-            effects: Effects {
+            outbox: Outbox {
                 lines: spent,
                 outs: Vec::new(alloc),
                 timer: TimerAsk::Keep,
@@ -75,7 +75,7 @@ impl Traffic {
             agenda,
             sent,
             mail: _,
-            effects: _,
+            outbox: _,
         } = self;
         (agenda, sent)
     }

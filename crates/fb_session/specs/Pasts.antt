@@ -106,7 +106,7 @@ pub record StandsBy (t : Talk) (p : Past) : Type 0 where
   pub before : All (λ (x : Taken). x.key.tick < t.reached) p.taken
   pub ends : EndsBy t.stage p.taken
   pub at : IsAlive t.stage → IsAt t.inputs (now t.inputs p).state (now t.inputs p).agenda t.machine
-  pub none : IsAlive t.stage → t.machine.traffic.effects.lines.items ≡ []
+  pub none : IsAlive t.stage → t.machine.traffic.outbox.lines.items ≡ []
   pub goes : CanGo t p.taken
 
 -- the text of the lines of what was taken, and of the stop if there is one

@@ -29,7 +29,7 @@ text_of i form ts = lines_text form (system_of i) (lines_of ts)
 pub record HasRun (i : Inputs) (o : Reach) (c : Config) (new : Machine) (more : List Taken) (written now : Option (List ℕ)) (n : ℕ) : Type 0 where
   pub chain : Chain (system_of i) o.steps c more
   pub at : IsAt i (last c more).state (last c more).agenda new
-  pub none : new.traffic.effects.lines.items ≡ []
+  pub none : new.traffic.outbox.lines.items ≡ []
   pub got : Appends written now (text_of i o.form more)
   pub counted : n ≡ bounded (length (text_of i o.form more))
 

@@ -75,7 +75,7 @@ pub(crate) fn run_on<W: Write>(
 ) -> Result<(Until, u128), SessionFault>
     requires ready { (tick : ℕ) × IsReady system.now reach.steps tick machine.old }
     requires represents { (c : Config) × IsAt system.now c.state c.agenda machine.old }
-    requires none { machine.old.traffic.effects.lines.items ≡ [] }
+    requires none { machine.old.traffic.outbox.lines.items ≡ [] }
     requires early { reach.to ≤ 10 ^ 12 }
     requires few { reach.steps ≤ 10 ^ 7 }
     ensures runs { (c : Config) → IsAt system.now c.state c.agenda machine.old → RunsOn system.now reach breaks.old.set.items c machine.old machine.new (W.contents out.old) (W.contents out.new) result }

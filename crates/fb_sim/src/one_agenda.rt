@@ -41,7 +41,7 @@ fn run_through<W: Write>(
     requires options { AreWithin options }
     requires ready { IsReady system.now options.steps 0 machine.old }
     requires at { IsAt system.now (opening_state system.now) (opening_agenda system.now (stimuli_of system.now)) machine.old }
-    requires none { machine.old.traffic.effects.lines.items ≡ [] }
+    requires none { machine.old.traffic.outbox.lines.items ≡ [] }
     ensures ends { IfOk result (λ r. EndsIn system.now r.0) }
     ensures ran { IfOk result (λ r. RunsThrough system.now options (W.contents out.old) (W.contents out.new) (ending_of r.0) r.1) }
     ensures failed { IfErr result (λ e. RunsOn system.now options [] (W.contents out.old) (W.contents out.new) (Err e)) }

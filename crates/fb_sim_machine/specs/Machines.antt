@@ -37,7 +37,7 @@ pub record IsTaken (i : Inputs) (limit : ℕ) (s : State) (a : model.Agenda) (k 
   pub effect : Effect
   pub takes : Takes (system_of i) limit s k e effect
   pub stops : effect.stop ≡ stop
-  pub lines : map (line_of (system_of i)) new.traffic.effects.lines.items ≡ map (line_of (system_of i)) old.traffic.effects.lines.items ++ effect.lines
+  pub lines : map (line_of (system_of i)) new.traffic.outbox.lines.items ≡ map (line_of (system_of i)) old.traffic.outbox.lines.items ++ effect.lines
   pub at : IsAt i effect.state (agenda_after k a effect) new
 
 -- the machine on whose agenda the local event in `Least` waits in addition, if it was raised

@@ -20,10 +20,10 @@ abbrev pub Pauses : (i : Inputs) (horizon limit : ℕ) (c : Config) (old new : M
 Pauses i horizon limit c old new Lines =
     (d : Config) × (taken : List Taken)
     × IsAt i d.state d.agenda new × Reaches i horizon limit c d taken
-    × (map (line_of (system_of i)) new.traffic.effects.lines.items ≡ map (line_of (system_of i)) old.traffic.effects.lines.items ++ lines_of taken)
-Pauses i horizon limit c old new Horizon = Completes i horizon limit c old.traffic.effects.lines.items new.traffic.effects.lines.items None
+    × (map (line_of (system_of i)) new.traffic.outbox.lines.items ≡ map (line_of (system_of i)) old.traffic.outbox.lines.items ++ lines_of taken)
+Pauses i horizon limit c old new Horizon = Completes i horizon limit c old.traffic.outbox.lines.items new.traffic.outbox.lines.items None
 Pauses i horizon limit c old new (Stop m) =
-    (m.resource < length (system_of i).resource_names) × Completes i horizon limit c old.traffic.effects.lines.items new.traffic.effects.lines.items (Some m)
+    (m.resource < length (system_of i).resource_names) × Completes i horizon limit c old.traffic.outbox.lines.items new.traffic.outbox.lines.items (Some m)
 
 -- a run that can go on has used up steps
 abbrev pub IsSooner : (horizon limit : ℕ) (old new : Machine) → Pause → Type 0
@@ -38,7 +38,7 @@ IsSooner horizon limit old new (Stop m) = Unit {0}
 pub record HasGone (i : Inputs) (limit : ℕ) (c : Config) (old new : Machine) (taken : List Taken) : Type 0 where
   pub chain : Chain (system_of i) limit c taken
   pub at : IsAt i (last c taken).state (last c taken).agenda new
-  pub lines : map (line_of (system_of i)) new.traffic.effects.lines.items ≡ map (line_of (system_of i)) old.traffic.effects.lines.items ++ lines_of taken
+  pub lines : map (line_of (system_of i)) new.traffic.outbox.lines.items ≡ map (line_of (system_of i)) old.traffic.outbox.lines.items ++ lines_of taken
 
 -- From a tick on at which the old machine could take events, the new one can from this later tick on, and none of the events was taken after it.
 pub record IsLater (i : Inputs) (limit from t : ℕ) (new : Machine) (taken : List Taken) : Type 0 where
@@ -52,14 +52,14 @@ Onward i horizon limit t old new taken = (from : ℕ) → from ≤ horizon → I
 
 -- After these events there were fewer lines than this, unless none of them was taken.
 abbrev pub HasFewer : (many : ℕ) (old : Machine) → List Taken → Type 0
-HasFewer many old taken = (taken ≡ [] → ⊥) → length old.traffic.effects.lines.items + length (lines_of taken) < many
+HasFewer many old taken = (taken ≡ [] → ⊥) → length old.traffic.outbox.lines.items + length (lines_of taken) < many
 
 -- Why it pauses there. With Lines at least one event was taken, and there are as many lines as were asked for only after the last one. If one line was
 -- asked for, only the last event gave lines, and none did where the horizon was reached.
 abbrev pub PausesFor : (i : Inputs) (horizon limit many : ℕ) (c : Config) (old new : Machine) → List Taken → Pause → Type 0
 PausesFor i horizon limit many c old new taken Lines =
     Each (λ t. t.effect.stop ≡ None) taken × (before : List Taken) × (t : Taken) × (taken ≡ before ++ t ∷ [])
-    × (many ≤ length new.traffic.effects.lines.items) × (many ≡ 1 → lines_of before ≡ []) × Each (λ l. l.key ≡ t.key) t.effect.lines
+    × (many ≤ length new.traffic.outbox.lines.items) × (many ≡ 1 → lines_of before ≡ []) × Each (λ l. l.key ≡ t.key) t.effect.lines
     × Onward i horizon limit t.key.tick old new taken × HasFewer many old before
 PausesFor i horizon limit many c old new taken Horizon =
     Each (λ t. t.effect.stop ≡ None) taken × NoneBelow (last c taken).agenda horizon × (many ≡ 1 → lines_of taken ≡ [])
@@ -79,7 +79,7 @@ Stands i horizon limit many c old new p =
 -- The least event was taken, if its tick is below the horizon; else the machine is as it was.
 abbrev pub Steps : (i : Inputs) (horizon limit : ℕ) (c : Config) (old new : Machine) → Step → Type 0
 Steps i horizon limit c old new Nothing =
-    NoneBelow c.agenda horizon × IsAt i c.state c.agenda new × (new.traffic.effects.lines.items ≡ old.traffic.effects.lines.items)
+    NoneBelow c.agenda horizon × IsAt i c.state c.agenda new × (new.traffic.outbox.lines.items ≡ old.traffic.outbox.lines.items)
     × ((from : ℕ) → IsReady i limit from old → IsReady i limit from new)
 Steps i horizon limit c old new (Took tick) =
     (t : Taken) × HasGone i limit c old new (t ∷ []) × (t.key.tick ≡ tick) × (tick < horizon) × (t.effect.stop ≡ None)

@@ -21,7 +21,7 @@ ghost use Rattle.fb_sim_machine.specs.Runs.{IsSpent};
 use crate::deliver::deliver;
 use crate::pause::{Pause, Step};
 use fb_agenda::Least;
-use fb_net::ResourceBlocks;
+use fb_net::Tree;
 use fb_resource::{Taken, TickCounts, Traffic, find_next, put_next, take};
 use fb_system::System;
 use fb_types::{GivenRow, Line, Reason, StopMark};
@@ -33,7 +33,7 @@ pub struct Machine {
     /// The one agenda, the counts of the messages of each link, and room for what takings give.
     pub traffic: Traffic,
     /// The blocks of each resource, by its number.
-    pub trees: Vec<ResourceBlocks>,
+    pub trees: Vec<Tree>,
     /// What each resource has counted in its tick, by its number.
     pub meters: Vec<TickCounts>,
 }
@@ -151,7 +151,7 @@ impl Machine {
                     reason,
                 }));
             }
-            if self.traffic.effects.lines.len() >= many {
+            if self.traffic.outbox.lines.len() >= many {
                 put_next(&mut self.traffic.agenda, taken.raised, &least)?;
                 return Ok(Pause::Lines);
             }
@@ -214,7 +214,7 @@ impl Machine {
         ensures given { OnOk result ((s : State) (a : model.Agenda) → IsAt system.now s a self.old
             → IsAt system.now s (with_all ((stimulus_key tick (resource_at system.now (path_at system.now given.target.instance)) given.row, event_of system.now (events.Given given)) ∷ []) a) self.new) }
         ensures ready { OnOk result ((limit : ℕ) (from : ℕ) → from ≤ tick → IsReady system.now limit from self.old → IsReady system.now limit from self.new) }
-        ensures lines { self.new.traffic.effects.lines.items ≡ self.old.traffic.effects.lines.items }
+        ensures lines { self.new.traffic.outbox.lines.items ≡ self.old.traffic.outbox.lines.items }
         ensures err { OnErr result (self.new ≡ self.old) }
     {
         // for the prover: what holds of each system
@@ -225,18 +225,18 @@ impl Machine {
 
     /// The lines that are there.
     pub fn lines(&self) -> &[Line]
-        ensures { result.now ≡ self.now.traffic.effects.lines.items }
+        ensures { result.now ≡ self.now.traffic.outbox.lines.items }
     {
-        self.traffic.effects.lines.as_slice()
+        self.traffic.outbox.lines.as_slice()
     }
 
     /// Drops the lines, and nothing else. Their memory is kept for the next ones.
     pub fn clear_lines(&mut self)
-        ensures none { self.new.traffic.effects.lines.items ≡ [] }
+        ensures none { self.new.traffic.outbox.lines.items ≡ [] }
         ensures at { (i : Inputs) (s : State) (a : model.Agenda) → IsAt i s a self.old → IsAt i s a self.new }
         ensures ready { (i : Inputs) (limit tick : ℕ) → IsReady i limit tick self.old → IsReady i limit tick self.new }
         ensures meters { self.new.meters ≡ self.old.meters }
     {
-        self.traffic.effects.lines.clear();
+        self.traffic.outbox.lines.clear();
     }
 }

@@ -7,21 +7,21 @@ ghost use Rattle.fb_sim_machine.specs.Machines.{IsAt, IsReady};
 ghost use Rattle.fb_sim_machine.specs.Openings.{AreOpened};
 
 use crate::machine::Machine;
-use fb_net::ResourceBlocks;
+use fb_net::Tree;
 use fb_resource::{TickCounts, Traffic, open_agenda, open_sent};
 use fb_system::System;
 use std::alloc::{AllocError, Global};
 
 /// The blocks of all resources, as they begin.
-fn open_trees(alloc: Global, system: &System) -> Result<Vec<ResourceBlocks>, AllocError>
+fn open_trees(alloc: Global, system: &System) -> Result<Vec<Tree>, AllocError>
     ensures { IfOk result (λ v. AreOpened system.now (resource_count system.now) v.items) }
 {
     // for the prover: what holds of each system
     system.facts();
     let mut trees = Vec::new(alloc);
     for resource in 0..system.resources() {
-        let resource_blocks = ResourceBlocks::build(alloc, system, resource as u32)?;
-        trees.push(resource_blocks)?;
+        let tree = Tree::build(alloc, system, resource as u32)?;
+        trees.push(tree)?;
     }
     Ok(trees)
 }
@@ -34,7 +34,7 @@ impl Machine {
     pub fn open(alloc: Global, system: &System) -> Result<Machine, AllocError>
         ensures ready { IfOk result (λ m. (limit : ℕ) → IsReady system.now limit 0 m) }
         ensures at { IfOk result (IsAt system.now (opening_state system.now) (opening_agenda system.now (stimuli_of system.now))) }
-        ensures lines { IfOk result (λ m. m.traffic.effects.lines.items ≡ []) }
+        ensures lines { IfOk result (λ m. m.traffic.outbox.lines.items ≡ []) }
     {
         // for the prover: what holds of each system
         system.facts();

@@ -109,7 +109,7 @@ impl Replay {
     ) -> Result<(), AllocError>
         requires copies { (s : State) × AreAllCopies system.now s self.old.copies.items }
         requires arrives { (e : model.Event) × ArrivesAt system.now e at }
-        ensures followed { OnOk result (IsFollowed system.now at left self.old.run.traffic.effects.lines.items self.old.copies.items self.new.copies.items) }
+        ensures followed { OnOk result (IsFollowed system.now at left self.old.run.traffic.outbox.lines.items self.old.copies.items self.new.copies.items) }
         ensures run { self.new.run ≡ self.old.run }
     {
         let EventSite::Port(target) = at else {
@@ -121,7 +121,7 @@ impl Replay {
         let Some(block) = basic_type(system, target.instance) else {
             return Ok(());
         };
-        let Some(line) = self.run.traffic.effects.lines.first() else {
+        let Some(line) = self.run.traffic.outbox.lines.first() else {
             return Ok(());
         };
         follow(
@@ -145,8 +145,8 @@ impl Replay {
         at: EventSite,
         left: Option<u64>,
     ) -> Result<StopSite, AllocError>
-        requires { IfSome left (λ n. Stopping system.now at n self.old.run.traffic.effects.lines.items self.old.copies.items) }
-        ensures site { IfOk result (IsSiteBy system.now at left self.old.run.traffic.effects.lines.items self.old.copies.items) }
+        requires { IfSome left (λ n. Stopping system.now at n self.old.run.traffic.outbox.lines.items self.old.copies.items) }
+        ensures site { IfOk result (IsSiteBy system.now at left self.old.run.traffic.outbox.lines.items self.old.copies.items) }
         ensures run { self.new.run ≡ self.old.run }
     {
         let Some(left) = left else {
@@ -158,7 +158,7 @@ impl Replay {
         let Some(block) = basic_type(system, target.instance) else {
             unreachable!();
         };
-        let Some(line) = self.run.traffic.effects.lines.first() else {
+        let Some(line) = self.run.traffic.outbox.lines.first() else {
             unreachable!();
         };
         let stop = locate_in(

@@ -1,7 +1,7 @@
 -- How text gets to a writer, whole or in part (this project's profile).
 use Rattle.std.specs.Prelude.{◌≡◌, ℕ, ◌+◌, ◌-◌, ◌^◌, ◌<◌, min, List, ◌++◌, length, take, Option, Result, OnOk, IfErr}
 use Rattle.std.specs.Io.KnownBytes.{Appends}
-use Rattle.fb_trace.specs.declared.fault.WriteError.{WriteError}
+use Rattle.fb_trace.specs.declared.fault.WriteFault.{WriteFault}
 use Rattle.fb_trace.specs.Page.{Page}
 
 -- a count of bytes, which stops at `u128::MAX`
@@ -34,6 +34,6 @@ pub record Fails (old new : Option (List ℕ)) (before : Page) (text : List ℕ)
   pub counted : written ≡ bounded (before.written + length sent)
 
 -- the result of putting a text: it is put whole, or the writer has failed
-pub record Gathers (old new : Option (List ℕ)) (before after : Page) (text : List ℕ) (r : Result (Unit {0}) WriteError) : Type 0 where
+pub record Gathers (old new : Option (List ℕ)) (before after : Page) (text : List ℕ) (r : Result (Unit {0}) WriteFault) : Type 0 where
   pub whole : OnOk r (Puts old new before after text)
   pub part : IfErr r (λ fault. Fails old new before text fault.written)

@@ -8,7 +8,7 @@ ghost use Rattle.fb_trace.specs.End.{ending_of};
 ghost use Rattle.fb_trace.specs.Progress.{Gathers, IsPartWritten, bounded};
 ghost use Rattle.fb_trace.specs.OfSystem.{EndsIn};
 
-use crate::fault::WriteError;
+use crate::fault::WriteFault;
 use crate::page::Page;
 use crate::pieces::put_tick_and_resource;
 use fb_system::System;
@@ -24,7 +24,7 @@ pub enum Outcome {
     Stop(StopMark),
 }
 
-fn put_horizon<W: Write>(page: &mut Page, out: &mut W, horizon: u64) -> Result<(), WriteError>
+fn put_horizon<W: Write>(page: &mut Page, out: &mut W, horizon: u64) -> Result<(), WriteFault>
     ensures { Gathers (W.contents out.old) (W.contents out.new) page.old page.new
         (codes "end " ++ decimal horizon ++ 10 ∷ []) result }
 {
@@ -49,7 +49,7 @@ fn put_last<W: Write>(
     out: &mut W,
     system: &System,
     end: Outcome,
-) -> Result<(), WriteError>
+) -> Result<(), WriteFault>
     requires { EndsIn system.now end }
     ensures { Gathers (W.contents out.old) (W.contents out.new) page.old page.new
         (last_line system.now (ending_of end)) result }
@@ -76,7 +76,7 @@ pub fn write_last_with_count<W: Write>(
     out: &mut W,
     system: &System,
     end: Outcome,
-) -> Result<u128, WriteError>
+) -> Result<u128, WriteFault>
     requires { EndsIn system.now end }
     ensures whole { OnOk result
         (Appends (W.contents out.old) (W.contents out.new) (last_line system.now (ending_of end))) }
@@ -94,7 +94,7 @@ pub fn write_last_with_count<W: Write>(
 ///
 /// # Errors
 /// Those of `write_last_with_count`.
-pub fn write_last<W: Write>(out: &mut W, system: &System, end: Outcome) -> Result<(), WriteError>
+pub fn write_last<W: Write>(out: &mut W, system: &System, end: Outcome) -> Result<(), WriteFault>
     requires { EndsIn system.now end }
     ensures whole { OnOk result
         (Appends (W.contents out.old) (W.contents out.new) (last_line system.now (ending_of end))) }

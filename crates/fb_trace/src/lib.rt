@@ -21,7 +21,7 @@ mod page;
 mod pieces;
 mod start;
 
-pub use fault::WriteError;
+pub use fault::WriteFault;
 pub use front::write_front;
 pub use last::{Outcome, write_last, write_last_with_count};
 pub use lines::{write_lines, write_lines_with_count, write_parts};

@@ -10,7 +10,7 @@ ghost use Rattle.fb_trace.specs.Fronts.{joint};
 ghost use Rattle.fb_trace.specs.Starts.{head_of_line};
 ghost use Rattle.fb_trace.specs.Progress.{Gathers, IsPartWritten, bounded};
 
-use crate::fault::WriteError;
+use crate::fault::WriteFault;
 use crate::names::{event_name, head_of, shown_by};
 use crate::number::LastNumber;
 use crate::page::{Page, SIZE};
@@ -27,7 +27,7 @@ fn put_more<W: Write>(
     out: &mut W,
     system: &System,
     line: &Line,
-) -> Result<(), WriteError>
+) -> Result<(), WriteFault>
     requires belongs { BelongsTo system.now line.now }
     requires some { 1 ≤ length line.now.values }
     ensures text { Gathers (W.contents out.old) (W.contents out.new) page.old page.new
@@ -54,7 +54,7 @@ fn put_others<W: Write>(
     out: &mut W,
     system: &System,
     line: &Line,
-) -> Result<(), WriteError>
+) -> Result<(), WriteFault>
     requires belongs { BelongsTo system.now line.now }
     requires room { length page.old.waiting + 1 ≤ SIZE }
     ensures text { Gathers (W.contents out.old) (W.contents out.new) page.old page.new
@@ -74,7 +74,7 @@ fn put_bindings<W: Write>(
     system: &System,
     ports: &Ports,
     line: &Line,
-) -> Result<(), WriteError>
+) -> Result<(), WriteFault>
     requires belongs { BelongsTo system.now line.now }
     requires ports { ports.now ≡ ports_at system.now (path_at system.now line.now.instance) }
     ensures { Gathers (W.contents out.old) (W.contents out.new) page.old page.new
@@ -101,7 +101,7 @@ fn put_by_names<W: Write>(
     system: &System,
     tick: &LastNumber,
     line: &Line,
-) -> Result<(), WriteError>
+) -> Result<(), WriteFault>
     requires belongs { BelongsTo system.now line.now }
     requires tick { tick.now ≡ line.now.key.tick }
     ensures { Gathers (W.contents out.old) (W.contents out.new) page.old page.new
@@ -133,7 +133,7 @@ fn put_by_head<W: Write>(
     tick: &LastNumber,
     head: &Head,
     line: &Line,
-) -> Result<(), WriteError>
+) -> Result<(), WriteFault>
     requires belongs { BelongsTo system.now line.now }
     requires tick { tick.now ≡ line.now.key.tick }
     requires head { IsHead system.now (head_of_line line.now) head.now }
@@ -156,7 +156,7 @@ fn put_any<W: Write>(
     form: Form,
     tick: &LastNumber,
     line: &Line,
-) -> Result<(), WriteError>
+) -> Result<(), WriteFault>
     requires belongs { BelongsTo system.now line.now }
     requires tick { tick.now ≡ line.now.key.tick }
     ensures { Gathers (W.contents out.old) (W.contents out.new) page.old page.new
@@ -212,7 +212,7 @@ pub(crate) fn put_lines<W: Write>(
     form: Form,
     tick: &mut LastNumber,
     lines: &[Line],
-) -> Result<(), WriteError>
+) -> Result<(), WriteFault>
     requires { All (BelongsTo system.now) lines.now }
     ensures { Gathers (W.contents out.old) (W.contents out.new) page.old page.new
         (lines_text form system.now (map (line_of system.now) lines.now)) result }
@@ -239,7 +239,7 @@ pub fn write_lines_with_count<W: Write>(
     system: &System,
     form: Form,
     lines: &[Line],
-) -> Result<u128, WriteError>
+) -> Result<u128, WriteFault>
     requires { All (BelongsTo system.now) lines.now }
     ensures whole { OnOk result (Appends (W.contents out.old) (W.contents out.new) (lines_text form system.now (map (line_of system.now) lines.now))) }
     ensures counted { IfOk result (λ n. n ≡ bounded (length (lines_text form system.now (map (line_of system.now) lines.now)))) }
@@ -262,7 +262,7 @@ pub fn write_lines<W: Write>(
     system: &System,
     form: Form,
     lines: &[Line],
-) -> Result<(), WriteError>
+) -> Result<(), WriteFault>
     requires { All (BelongsTo system.now) lines.now }
     ensures whole { OnOk result (Appends (W.contents out.old) (W.contents out.new) (lines_text form system.now (map (line_of system.now) lines.now))) }
     ensures part { IfErr result (λ fault. IsPartWritten (W.contents out.old) (W.contents out.new) (lines_text form system.now (map (line_of system.now) lines.now)) fault.written) }
@@ -281,7 +281,7 @@ pub fn write_parts<W: Write>(
     system: &System,
     form: Form,
     parts: &[&[Line]],
-) -> Result<(), WriteError>
+) -> Result<(), WriteFault>
     requires { All (λ q. All (BelongsTo system.now) q.now) parts.now }
     ensures whole { OnOk result (Appends (W.contents out.old) (W.contents out.new) (lines_text form system.now (map (line_of system.now) (joint (map (λ q. q.now) parts.now))))) }
     ensures part { IfErr result (λ fault. IsPartWritten (W.contents out.old) (W.contents out.new) (lines_text form system.now (map (line_of system.now) (joint (map (λ q. q.now) parts.now)))) fault.written) }

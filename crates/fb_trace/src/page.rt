@@ -6,7 +6,7 @@ ghost use Rattle.fb_trace.specs.Progress.{Gathers, Fails, bounded};
 
 use crate::copy::{copy_row, copy_text};
 use crate::digit_rows::{DigitRow, DigitRows, MOST, ROW};
-use crate::fault::WriteError;
+use crate::fault::WriteFault;
 use crate::front::write_front;
 use crate::number::{MOST_DIGITS, write_digits};
 use std::io::Write;
@@ -42,7 +42,7 @@ impl Model for Page {
 }
 
 /// Writes all the bytes. `written` counts earlier bytes, and the result counts both.
-fn write_all<W: Write>(out: &mut W, bytes: &[u8], written: u128) -> Result<u128, WriteError>
+fn write_all<W: Write>(out: &mut W, bytes: &[u8], written: u128) -> Result<u128, WriteFault>
     ensures got { OnOk result (Appends (W.contents out.old) (W.contents out.new) bytes.now) }
     ensures counted { IfOk result (λ n. n ≡ bounded (written + length bytes.now)) }
     ensures part { IfErr result (λ f. Fails (W.contents out.old) (W.contents out.new)
@@ -51,7 +51,7 @@ fn write_all<W: Write>(out: &mut W, bytes: &[u8], written: u128) -> Result<u128,
     let taken = write_front(out, bytes);
     let written = written.saturating_add(taken as u128);
     if taken < bytes.len() {
-        return Err(WriteError { written });
+        return Err(WriteFault { written });
     }
     Ok(written)
 }
@@ -95,7 +95,7 @@ impl Page {
     }
 
     /// Writes all that waits.
-    pub(crate) fn flush<W: Write>(&mut self, out: &mut W) -> Result<(), WriteError>
+    pub(crate) fn flush<W: Write>(&mut self, out: &mut W) -> Result<(), WriteFault>
         ensures text { Gathers (W.contents out.old) (W.contents out.new) self.old self.new [] result }
         ensures empty { OnOk result (self.new.waiting ≡ []) }
     {
@@ -105,7 +105,7 @@ impl Page {
     }
 
     /// Appends bytes. If they do not fit, all that waits is written first.
-    pub(crate) fn put<W: Write>(&mut self, out: &mut W, bytes: &[u8]) -> Result<(), WriteError>
+    pub(crate) fn put<W: Write>(&mut self, out: &mut W, bytes: &[u8]) -> Result<(), WriteFault>
         ensures { Gathers (W.contents out.old) (W.contents out.new) self.old self.new bytes.now result }
     {
         if bytes.len() > SIZE - self.used {
@@ -125,7 +125,7 @@ impl Page {
         &mut self,
         out: &mut W,
         count: usize,
-    ) -> Result<(), WriteError>
+    ) -> Result<(), WriteFault>
         requires { count ≤ SIZE }
         ensures text { Gathers (W.contents out.old) (W.contents out.new) self.old self.new [] result }
         ensures room { OnOk result (length self.new.waiting + count ≤ SIZE) }
@@ -313,7 +313,7 @@ impl Page {
         &mut self,
         out: &mut W,
         number: u128,
-    ) -> Result<(), WriteError>
+    ) -> Result<(), WriteFault>
         ensures { Gathers (W.contents out.old) (W.contents out.new) self.old self.new (decimal number) result }
     {
         let mut digits = [0; MOST_DIGITS];

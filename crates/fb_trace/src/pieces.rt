@@ -9,7 +9,7 @@ ghost use Rattle.fb_trace.specs.Progress.{Gathers, Puts};
 ghost use Rattle.fb_trace.specs.OfSystem.{tick_and_resource_text};
 
 use crate::digit_rows::MOST;
-use crate::fault::WriteError;
+use crate::fault::WriteFault;
 use crate::number::{LAST_TICK, LastNumber};
 use crate::page::{Page, SHORT, SIZE};
 use fb_system::System;
@@ -17,7 +17,7 @@ use fb_types::{Form, Key, Value, Variable};
 use std::io::Write;
 
 /// Puts a part of a key, and a blank.
-fn put_part<W: Write>(page: &mut Page, out: &mut W, part: u128) -> Result<(), WriteError>
+fn put_part<W: Write>(page: &mut Page, out: &mut W, part: u128) -> Result<(), WriteFault>
     ensures { Gathers (W.contents out.old) (W.contents out.new) page.old page.new (decimal part ++ codes " ") result }
 {
     page.put_number(out, part)?;
@@ -30,7 +30,7 @@ pub(crate) fn put_key<W: Write>(
     out: &mut W,
     form: Form,
     key: &Key,
-) -> Result<(), WriteError>
+) -> Result<(), WriteFault>
     ensures { Gathers (W.contents out.old) (W.contents out.new) page.old page.new (key_text form key.now) result }
 {
     match form {
@@ -50,7 +50,7 @@ pub(crate) fn put_tick_and_resource<W: Write>(
     system: &System,
     tick: u64,
     resource: u32,
-) -> Result<(), WriteError>
+) -> Result<(), WriteFault>
     requires { IsResource system.now resource }
     ensures { Gathers (W.contents out.old) (W.contents out.new) page.old page.new (tick_and_resource_text system.now tick resource) result }
 {
@@ -118,7 +118,7 @@ fn put_long_head<W: Write>(
     taken: bool,
     path: &[u8],
     event: &[u8],
-) -> Result<(), WriteError>
+) -> Result<(), WriteFault>
     ensures { Gathers (W.contents out.old) (W.contents out.new) page.old page.new
         (decimal tick.now ++ codes " " ++ resource.now ++ (if taken then codes " > " else codes " < ") ++ path.now ++ codes "." ++ event.now) result }
 {
@@ -143,7 +143,7 @@ pub(crate) fn put_head<W: Write>(
     taken: bool,
     path: &[u8],
     event: &[u8],
-) -> Result<(), WriteError>
+) -> Result<(), WriteFault>
     ensures { Gathers (W.contents out.old) (W.contents out.new) page.old page.new
         (decimal tick.now ++ codes " " ++ resource.now ++ (if taken then codes " > " else codes " < ") ++ path.now ++ codes "." ++ event.now) result }
 {
@@ -207,7 +207,7 @@ fn put_long_binding<W: Write>(
     out: &mut W,
     name: &[u8],
     value: Value,
-) -> Result<(), WriteError>
+) -> Result<(), WriteFault>
     ensures { Gathers (W.contents out.old) (W.contents out.new) page.old page.new
         (codes " " ++ name.now ++ codes "=" ++ value_text value) result }
 {
@@ -226,7 +226,7 @@ fn put_binding<W: Write>(
     out: &mut W,
     name: &[u8],
     value: Value,
-) -> Result<(), WriteError>
+) -> Result<(), WriteFault>
     ensures { Gathers (W.contents out.old) (W.contents out.new) page.old page.new
         (codes " " ++ name.now ++ codes "=" ++ value_text value) result }
 {
@@ -245,7 +245,7 @@ pub(crate) fn put_values<W: Write>(
     variables: &[Variable],
     indexes: &[u32],
     values: &[Value],
-) -> Result<(), WriteError>
+) -> Result<(), WriteFault>
     requires counted { length values.now ≡ length indexes.now }
     requires within { All (λ k. k < length variables.now) indexes.now }
     ensures { Gathers (W.contents out.old) (W.contents out.new) page.old page.new

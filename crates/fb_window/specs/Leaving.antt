@@ -11,7 +11,7 @@ use Rattle.fb_window.specs.declared.cores.AwayState.{AwayState}
 -- What is away has left these resources with these bounds: each that has not stopped is a job, and each other stayed at its index.
 pub record HasLeft (xs : List Resource) (bounds : List ℕ) (a : AwayState) : Type 0 where
   pub counted : length xs ≡ count_of (system_of a.system)
-  pub numbered : (r : ℕ) (x : Resource) → slice_get xs r ≡ Some x → x.resource_blocks.resource ≡ r
+  pub numbered : (r : ℕ) (x : Resource) → slice_get xs r ≡ Some x → x.tree.resource ≡ r
   pub jobs : a.jobs.value.items ≡ jobs_of a.system a.steps bounds 0 xs
   pub resting : a.resting.items ≡ map resting_of xs
 

@@ -10,7 +10,7 @@ use Rattle.fb_resource.specs.declared.resource.Resource.{Resource}
 
 -- The resource at an index is what a member of the core has there: at home, with an empty outbox.
 pub record Sits (i : Inputs) (limit : ℕ) (m : Member (machine (system_of i) limit)) (r : ℕ) (x : Resource) : Type 0 where
-  pub number : x.resource_blocks.resource ≡ r
+  pub number : x.tree.resource ≡ r
   pub of : IsOf i x
   pub state : Represents i limit m.state x
   pub clock : m.clock ≡ x.clock

@@ -16,8 +16,8 @@ pub use Rattle.fb_net.specs.Trees.{Changed, block_at, own_at, put_at}
 pub use Rattle.fb_net.specs.Worlds.{InForest, IsForest, Represents, ShellRepresents, index_in, value_in, way_in}
 pub use Rattle.fb_net.specs.declared.block.Block.{Block}
 pub use Rattle.fb_net.specs.declared.block.Block.TheOpen.{Block-F}
-pub use Rattle.fb_net.specs.declared.effects.Effects.{Effects}
-pub use Rattle.fb_net.specs.declared.effects.Out.{Out}
+pub use Rattle.fb_net.specs.declared.outbox.Outbox.{Outbox}
+pub use Rattle.fb_net.specs.declared.outbox.Out.{Out}
 pub use Rattle.fb_net.specs.declared.held_copies.HeldCopies.{HeldCopies}
 pub use Rattle.fb_net.specs.declared.held_copies.HeldRow.{HeldRow}
 pub use Rattle.fb_net.specs.declared.resource.Forest.{Forest}

@@ -1,4 +1,4 @@
 pub mod Emitting
 pub mod Publishing
-pub mod EffectsKept
+pub mod OutboxKept
 pub mod PortRows

@@ -33,11 +33,11 @@ impl Taking<'_> {
         if let With::One(variable, source) = with {
             return self.take_value(at, *variable, source);
         }
-        let alloc = *self.effects.lines.allocator();
+        let alloc = *self.outbox.lines.allocator();
         let values = sampled_values(alloc, self.forest, self.system, at, with)?;
         let indexes = indexes_of(self.system, at, with);
         keep_samples(self.forest, self.system, at, indexes, values.as_slice());
-        write_taken(self.effects, self.system, self.key, at, values)
+        write_taken(self.outbox, self.system, self.key, at, values)
     }
 
     /// An event arrives at an event input of an event block that only passes events on. No block is looked up.
@@ -48,8 +48,8 @@ impl Taking<'_> {
         ensures reacted { OnOk result (HasDone (reacting self.old.system.now self.old.key.now kind at) self.old self.new) }
         ensures whole { StaysWhole self.old self.new }
     {
-        let values = Values::new(*self.effects.lines.allocator());
-        write_taken(self.effects, self.system, self.key, at, values)?;
+        let values = Values::new(*self.outbox.lines.allocator());
+        write_taken(self.outbox, self.system, self.key, at, values)?;
         self.emit_bare(at.instance, event)
     }
 
@@ -78,7 +78,7 @@ impl Taking<'_> {
                 let mut ask = TimerAsk::Keep;
                 let tick = self.key.tick;
                 react_event(self.forest, self.system, kind, at, tick, emits, &mut ask)?;
-                self.effects.ask_timer(ask);
+                self.outbox.ask_timer(ask);
                 Ok(self.emit_all(at.instance, emits)?)
             }
         }
@@ -92,14 +92,7 @@ impl Taking<'_> {
     {
         let row = row_of(self.system, at);
         self.take_samples(at, &row.with)?;
-        send_out(
-            &mut self.effects.outs,
-            self.system,
-            at,
-            &row.first,
-            &[],
-            &[],
-        )
+        send_out(&mut self.outbox.outs, self.system, at, &row.first, &[], &[])
     }
 
     /// An event from inside arrives at an event output of a composite, which shows the outputs WITH the event and emits
@@ -119,7 +112,7 @@ impl Taking<'_> {
             let value = *self.forest.shown_inside(self.system, output, source);
             return self.emit_value(at.instance, at.event, &row.first, *variable, &value);
         }
-        let alloc = *self.effects.lines.allocator();
+        let alloc = *self.outbox.lines.allocator();
         let values = shown_values(alloc, self.forest, self.system, at, &row.with)?;
         let event = at.event;
         self.emit_one(at.instance, Emission { event, values })
@@ -143,7 +136,7 @@ impl Taking<'_> {
         let system = self.system;
         // for the prover: the inputs are accepted
         system.facts();
-        let alloc = *self.effects.lines.allocator();
+        let alloc = *self.outbox.lines.allocator();
         let row = row_of(system, at);
         let values = sampled_values(alloc, self.forest, system, at, &row.with)?;
         emits.clear();
@@ -158,7 +151,7 @@ impl Taking<'_> {
             meter,
             emits,
         );
-        write_taken(self.effects, system, self.key, at, values)?;
+        write_taken(self.outbox, system, self.key, at, values)?;
         self.emit_all(at.instance, emits)?;
         end
     }
@@ -186,7 +179,7 @@ impl Taking<'_> {
         };
         let value = *self.forest.sampled(self.system, input, source);
         self.forest.set_input(self.system, input, value);
-        let values = Values::one(*self.effects.lines.allocator(), value);
-        write_taken(self.effects, self.system, self.key, at, values)
+        let values = Values::one(*self.outbox.lines.allocator(), value);
+        write_taken(self.outbox, self.system, self.key, at, values)
     }
 }

@@ -14,7 +14,7 @@ ghost use Rattle.fb_net.specs.Steps.{EmitsWell, MayEmit, StaysWhole, ports_in};
 ghost use Rattle.fb_net.specs.OfSystem.{outputs_at};
 ghost use Rattle.fb_net.specs.Worlds.{Stands};
 
-use crate::effects::{Effects, Out, OutgoingMessage};
+use crate::outbox::{Out, Outbox, OutgoingMessage};
 use crate::resource::Forest;
 use crate::taking::Taking;
 use fb_system::{NextTarget, PortRow, System, With};
@@ -172,7 +172,7 @@ pub(crate) fn send_out(
 /// Writes the line of an event that was taken at a port of an instance. The error is that memory runs out.
 #[inline(always)]
 pub fn write_taken(
-    effects: &mut Effects,
+    outbox: &mut Outbox,
     system: &System,
     key: &Key,
     at: Target,
@@ -180,14 +180,14 @@ pub fn write_taken(
 ) -> Result<(), AllocError>
     requires port { IsPort system.now at }
     requires line { BelongsTo system.now (record { key = key.now; taken = true; instance = at.instance; event = at.event; values = values }) }
-    ensures written { OnOk result (map (line_of system.now) effects.new.lines.items ≡ map (line_of system.now) effects.old.lines.items
+    ensures written { OnOk result (map (line_of system.now) outbox.new.lines.items ≡ map (line_of system.now) outbox.old.lines.items
         ++ line_of system.now (record { key = key.now; taken = true; instance = at.instance; event = at.event; values = values }) ∷ []) }
-    ensures lines { OnOk result (All (BelongsTo system.now) effects.old.lines.items → All (BelongsTo system.now) effects.new.lines.items) }
-    ensures outs { effects.new.outs.items ≡ effects.old.outs.items }
-    ensures timer { effects.new.timer ≡ effects.old.timer }
+    ensures lines { OnOk result (All (BelongsTo system.now) outbox.old.lines.items → All (BelongsTo system.now) outbox.new.lines.items) }
+    ensures outs { outbox.new.outs.items ≡ outbox.old.outs.items }
+    ensures timer { outbox.new.timer ≡ outbox.old.timer }
 {
-    effects.lines.reserve(1)?;
-    effects.lines.push_reserved(Line {
+    outbox.lines.reserve(1)?;
+    outbox.lines.push_reserved(Line {
         key: *key,
         taken: true,
         instance: at.instance,
@@ -245,15 +245,15 @@ impl Taking<'_> {
             values.as_slice(),
         );
         send_out(
-            &mut self.effects.outs,
+            &mut self.outbox.outs,
             self.system,
             from,
             &first,
             indexes,
             values.as_slice(),
         )?;
-        self.effects.lines.reserve(1)?;
-        self.effects.lines.push_reserved(Line {
+        self.outbox.lines.reserve(1)?;
+        self.outbox.lines.push_reserved(Line {
             key: *self.key,
             taken: false,
             instance,
@@ -309,16 +309,16 @@ impl Taking<'_> {
         };
         let row = row_of(self.system, from);
         send_out(
-            &mut self.effects.outs,
+            &mut self.outbox.outs,
             self.system,
             from,
             &row.first,
             &[],
             &[],
         )?;
-        let values = Values::new(*self.effects.lines.allocator());
-        self.effects.lines.reserve(1)?;
-        self.effects.lines.push_reserved(Line {
+        let values = Values::new(*self.outbox.lines.allocator());
+        self.outbox.lines.reserve(1)?;
+        self.outbox.lines.push_reserved(Line {
             key: *self.key,
             taken: false,
             instance,
@@ -357,17 +357,17 @@ impl Taking<'_> {
             is_output: true,
         };
         send_out(
-            &mut self.effects.outs,
+            &mut self.outbox.outs,
             self.system,
             from,
             first,
             &[variable],
             from_ref(value),
         )?;
-        self.effects.lines.reserve(1)?;
+        self.outbox.lines.reserve(1)?;
         // The value is copied after the room was asked for, so that it goes straight to its line.
-        let values = Values::one(*self.effects.lines.allocator(), *value);
-        self.effects.lines.push_reserved(Line {
+        let values = Values::one(*self.outbox.lines.allocator(), *value);
+        self.outbox.lines.push_reserved(Line {
             key: *self.key,
             taken: false,
             instance,

@@ -65,7 +65,7 @@ impl Taking<'_> {
                     &mut ask,
                 ) {
                     Ok(()) => {
-                        self.effects.ask_timer(ask);
+                        self.outbox.ask_timer(ask);
                         self.emit_all(instance, emits)
                     }
                     Err(_) => Err(AllocError),

@@ -1,5 +1,5 @@
--- The result of a taking after the effects from which nothing goes out.
-use Rattle.fb_resource.proofs.lemmas.Common.{◌≡◌, ℕ, [], All, map, Option, Some, None, sym, subst, Inputs, system_of, Key, Keep, Reason, Event, BelongsTo, out_of, Effects, Forest}
+-- The result of a taking after an outbox from which nothing goes out.
+use Rattle.fb_resource.proofs.lemmas.Common.{◌≡◌, ℕ, [], All, map, Option, Some, None, sym, subst, Inputs, system_of, Key, Keep, Reason, Event, BelongsTo, out_of, Outbox, Forest}
 use Rattle.fb_types.proofs.Common.{Result, All-nil, line_of}
 use Rattle.fb_types.specs.declared.run.Halt.{Halt}
 use Rattle.fb_net.specs.Events.{Came, CameAlone, CameTo, HasTaken, Remembered}
@@ -7,11 +7,11 @@ use Rattle.fb_net.specs.Outs.{Gathered, IsOut, StillAreOuts, gathered, only_line
 use Rattle.fb_net.specs.OfSystem.{AreOuts}
 use Rattle.fb_resource.specs.Takings.{ended}
 
--- the lines of the effects from which nothing goes out, and of whose timer nothing is asked, are all that it has
-gathered_lines : (i : Inputs) (x : Effects) → x.outs.items ≡ [] → x.timer ≡ Keep → gathered i x ≡ only_lines (map (line_of (system_of i)) x.lines.items)
+-- the lines of an outbox from which nothing goes out, and of whose timer nothing is asked, are all that it has
+gathered_lines : (i : Inputs) (x : Outbox) → x.outs.items ≡ [] → x.timer ≡ Keep → gathered i x ≡ only_lines (map (line_of (system_of i)) x.lines.items)
 gathered_lines i x none keeps n = record { lines = map (line_of (system_of i)) x.lines.items; outs = map (out_of (system_of i)) (none n); timer = keeps n }
 
-pub came_alone : (i : Inputs) (k : Key) (event : Event) (old : Forest) (before : Effects) (left : ℕ) (stop : Option Reason) (new : Forest) (after : ℕ) (x : Effects)
+pub came_alone : (i : Inputs) (k : Key) (event : Event) (old : Forest) (before : Outbox) (left : ℕ) (stop : Option Reason) (new : Forest) (after : ℕ) (x : Outbox)
     → before.outs.items ≡ [] → before.timer ≡ Keep
     → Came i k event old before left stop new after x → CameAlone i k event old before left stop new after x
 came_alone i k event old before left stop new after x none keeps came w stood =
@@ -22,7 +22,7 @@ came_alone i k event old before left stop new after x none keeps came w stood =
 
 -- what came, where the reason is known with which it ended
 pub came_ended :
-    (i : Inputs) (k : Key) (event : Event) (old : Forest) (before : Effects) (left : ℕ) (stop : Option Reason) (end : Result (Unit {0}) Halt) (new : Forest) (after : ℕ) (x : Effects)
+    (i : Inputs) (k : Key) (event : Event) (old : Forest) (before : Outbox) (left : ℕ) (stop : Option Reason) (end : Result (Unit {0}) Halt) (new : Forest) (after : ℕ) (x : Outbox)
     → before.outs.items ≡ [] → before.timer ≡ Keep → end ≡ ended stop
     → HasTaken i k event old before left end new after x → CameAlone i k event old before left stop new after x
 came_ended i k event old before left None end new after x none keeps is taken =
@@ -36,7 +36,7 @@ remembered {P} (Some reason) end is held = subst (λ (r : Result (Unit {0}) Halt
 
 -- what was put out belongs to the system, where nothing was put out before
 pub put_out :
-    (i : Inputs) (old : Forest) (before : Effects) (new : Forest) (x : Effects) (stop : Option Reason) (end : Result (Unit {0}) Halt) → end ≡ ended stop
+    (i : Inputs) (old : Forest) (before : Outbox) (new : Forest) (x : Outbox) (stop : Option Reason) (end : Result (Unit {0}) Halt) → end ≡ ended stop
     → All (BelongsTo (system_of i)) before.lines.items → before.outs.items ≡ [] → Remembered end (StillAreOuts i old before new x) → AreOuts i new.resource x
 put_out i old before new x stop end is lines none still =
     remembered stop end is still (record {

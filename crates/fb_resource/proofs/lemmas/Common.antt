@@ -2,8 +2,8 @@
 pub use Rattle.fb_agenda.specs.Agendas.{Contents, waiting}
 pub use Rattle.fb_net.specs.Events.{event_of}
 pub use Rattle.fb_net.specs.Outs.{out_of}
-pub use Rattle.fb_net.specs.declared.effects.Effects.{Effects}
-pub use Rattle.fb_net.specs.declared.effects.Out.{Out}
+pub use Rattle.fb_net.specs.declared.outbox.Outbox.{Outbox}
+pub use Rattle.fb_net.specs.declared.outbox.Out.{Out}
 pub use Rattle.fb_net.specs.declared.resource.Forest.{Forest}
 pub use Rattle.fb_resource.specs.Counts.{IsMetered, meter_of}
 pub use Rattle.fb_resource.specs.Openings.{HasRestarts, HasStimuli, IsOpened}

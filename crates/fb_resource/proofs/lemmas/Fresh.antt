@@ -19,7 +19,7 @@ parted false o = or_else_none o
 module _ (i : Inputs) (n : ℕ) (t : Forest) (a : Contents) (sent : Vec ℕ) (at : t.resource ≡ n) (opened : IsOpened i (Some n) a) where
   -- what a resource holds before its first event
   abbrev first : Resource
-  first = record { resource_blocks = t; clock = 0; agenda = a; sent = sent; stopped = None }
+  first = record { tree = t; clock = 0; agenda = a; sent = sent; stopped = None }
 
   its : (j : Key) → j.resource ≡ n → meaning i a j ≡ opening_agenda (system_of i) (stimuli_of i) j
   its j here = opened.agenda j ∙ cond-true (eqb j.resource n) (opening_agenda (system_of i) (stimuli_of i) j) None (eq-eqb j.resource n here)

@@ -1,13 +1,13 @@
 -- Nothing was put out, or one event, where nothing is asked of a timer.
-use Rattle.fb_resource.proofs.lemmas.Common.{◌≡◌, ◌+◌, ◌<◌, ◌≤◌, ◌++◌, ℕ, Bool, true, false, cond, List, [], ◌∷◌, All, length, map, Option, Some, refl, sym, ap, subst, ◌∙◌, append-nil, arith, option_map, slice_index, Vec, length-set, Inputs, system_of, changed_to, local_key, or_else, same_key, Path, State, path_of, Posts, post_all, Key, Message, TimerAsk, Keep, Reason, Event, Contents, waiting, event_of, out_of, Out, Effects, Forest, BelongsTo, CountsAre, IsMessage, IsPostable, IsPut, IsSendable, arriving, AreReady, IsTakenHere, with_event, IsInOrder, meaning, Traffic, TickCounts}
+use Rattle.fb_resource.proofs.lemmas.Common.{◌≡◌, ◌+◌, ◌<◌, ◌≤◌, ◌++◌, ℕ, Bool, true, false, cond, List, [], ◌∷◌, All, length, map, Option, Some, refl, sym, ap, subst, ◌∙◌, append-nil, arith, option_map, slice_index, Vec, length-set, Inputs, system_of, changed_to, local_key, or_else, same_key, Path, State, path_of, Posts, post_all, Key, Message, TimerAsk, Keep, Reason, Event, Contents, waiting, event_of, out_of, Out, Outbox, Forest, BelongsTo, CountsAre, IsMessage, IsPostable, IsPut, IsSendable, arriving, AreReady, IsTakenHere, with_event, IsInOrder, meaning, Traffic, TickCounts}
 use Rattle.fb_types.proofs.Common.{get_or, lookup, slice_set, All-push, timer_change}
 use Rattle.fb_types.specs.declared.run.Target.{Target}
 use Rattle.fb_types.specs.States as model
 use Rattle.fb_types.proofs.lemmas.events.KeyLaws.{same_key_from, same_key_is}
 use Rattle.fb_types.specs.declared.run.Event.TheVariants.{Local}
 use Rattle.fb_agenda.specs.declared.least.Least.{Least}
-use Rattle.fb_net.specs.declared.effects.Out.TheVariants as outs
-use Rattle.fb_net.specs.declared.effects.OutgoingMessage.{OutgoingMessage}
+use Rattle.fb_net.specs.declared.outbox.Out.TheVariants as outs
+use Rattle.fb_net.specs.declared.outbox.OutgoingMessage.{OutgoingMessage}
 use Rattle.fb_resource.specs.Posts.{ArePosted, IsOneMessage, message_of}
 use Rattle.fb_resource.specs.Takings.{IsEmptied, IsLone, IsSettled, MaySettle, Settles, with_next}
 use Rattle.fb_resource.proofs.lemmas.PostLaws.{local_waits, message_is, one_message, order_put, posted_local}
@@ -39,7 +39,7 @@ due_next true k e a = refl
 due_next false k e a = refl
 
 pub raised_lone :
-    (k : Key) (t : Target) (a : Contents) (before after : ℕ) (from to : Effects) → from.outs.items ≡ outs.Local t ∷ [] → from.timer ≡ Keep → after ≡ before + 1 → IsEmptied from to
+    (k : Key) (t : Target) (a : Contents) (before after : ℕ) (from to : Outbox) → from.outs.items ≡ outs.Local t ∷ [] → from.timer ≡ Keep → after ≡ before + 1 → IsEmptied from to
     → IsLone k t a (with_event (local_key k.tick k.resource before) (Local t) a) before after from to
 raised_lone k t a before after from to alone keeps counted emptied = record {
   alone = alone;
@@ -52,11 +52,11 @@ raised_lone k t a before after from to alone keeps counted emptied = record {
 
 -- ---- Where it waits
 
-module _ (i : Inputs) (k : Key) (t : Target) (old new : Contents) (before after : ℕ) (from to : Effects) (lone : IsLone k t old new before after from to) (sent : Vec ℕ) (mail : Vec Message) where
+module _ (i : Inputs) (k : Key) (t : Target) (old new : Contents) (before after : ℕ) (from to : Outbox) (lone : IsLone k t old new before after from to) (sent : Vec ℕ) (mail : Vec Message) where
   -- it is settled as the model settles it
   pub lone_settled : (p : Path) (counts : ℕ → ℕ) → CountsAre sent.items counts
       → IsSettled i k p from.timer (post_all (system_of i) k (map (out_of (system_of i)) from.outs.items) (record { locals = before; sent = counts; raised = []; messages = [] }))
-      (record { agenda = old; sent = sent; mail = mail; effects = from }) (record { agenda = new; sent = sent; mail = mail; effects = to }) after
+      (record { agenda = old; sent = sent; mail = mail; outbox = from }) (record { agenda = new; sent = sent; mail = mail; outbox = to }) after
   lone_settled p counts are =
       let start : Posts = record { locals = before; sent = counts; raised = []; messages = [] } in
       let posts : List Out → Posts = λ os. post_all (system_of i) k (map (out_of (system_of i)) os) start in
@@ -71,8 +71,8 @@ module _ (i : Inputs) (k : Key) (t : Target) (old new : Contents) (before after 
       }
 
   -- and events may be taken again
-  pub lone_ready : (x : Effects) → k.resource < length (system_of i).resource_names → All (IsPostable (system_of i) k.resource) from.outs.items → All (BelongsTo (system_of i)) from.lines.items
-      → AreReady i k.tick (record { agenda = old; sent = sent; mail = mail; effects = x }) → AreReady i k.tick (record { agenda = new; sent = sent; mail = mail; effects = to })
+  pub lone_ready : (x : Outbox) → k.resource < length (system_of i).resource_names → All (IsPostable (system_of i) k.resource) from.outs.items → All (BelongsTo (system_of i)) from.lines.items
+      → AreReady i k.tick (record { agenda = old; sent = sent; mail = mail; outbox = x }) → AreReady i k.tick (record { agenda = new; sent = sent; mail = mail; outbox = to })
   lone_ready x named postable belong had = record {
     order = order_put i k.tick old new (local_key k.tick k.resource before) (Local t) lone.put (λ one. omega (arith, one))
         (local_waits i k before t (subst (λ (os : List Out). All (IsPostable (system_of i) k.resource) os) lone.alone postable 0 (outs.Local t) (omega arith)) named) lone.due had.order;
@@ -87,7 +87,7 @@ module _ (i : Inputs) (k : Key) (t : Target) (old new : Contents) (before after 
 -- ---- Where nothing was put out, or one message
 
 -- nothing changes
-pub still_settles : (i : Inputs) (l : Least) (n : ℕ) (q : Traffic) → MaySettle i l q → q.effects.outs.items ≡ [] → q.effects.timer ≡ Keep → Settles i l n q n q
+pub still_settles : (i : Inputs) (l : Least) (n : ℕ) (q : Traffic) → MaySettle i l q → q.outbox.outs.items ≡ [] → q.outbox.timer ≡ Keep → Settles i l n q n q
 still_settles i l n q may none keeps = record {
   settled = λ counts are.
       let start : Posts = record { locals = n; sent = counts; raised = []; messages = [] } in
@@ -106,11 +106,11 @@ still_settles i l n q may none keeps = record {
 
 -- the message is posted
 pub message_settles : (i : Inputs) (l : Least) (n link : ℕ) (old : Traffic) (sent : Vec ℕ) (mail : Vec Message) (left : Vec Out)
-    → MaySettle i l old → IsOneMessage link old.effects.outs.items → old.effects.timer ≡ Keep
-    → ((s : OutgoingMessage) → old.effects.outs.items ≡ outs.Send s ∷ []
+    → MaySettle i l old → IsOneMessage link old.outbox.outs.items → old.outbox.timer ≡ Keep
+    → ((s : OutgoingMessage) → old.outbox.outs.items ≡ outs.Send s ∷ []
     → mail.items ≡ old.mail.items ++ message_of (system_of i) l.key s (slice_index old.sent.items link) ∷ [])
     → sent.items ≡ slice_set old.sent.items link (slice_index old.sent.items link + 1) → l.key.tick < (system_of i).arrival link l.key.tick → left.items ≡ []
-    → Settles i l n old n (record { agenda = old.agenda; sent = sent; mail = mail; effects = record old.effects { outs = left } })
+    → Settles i l n old n (record { agenda = old.agenda; sent = sent; mail = mail; outbox = record old.outbox { outs = left } })
 message_settles i l n link old sent mail left may one keeps put counted later none =
     let sys = system_of i in
     let k = l.key in

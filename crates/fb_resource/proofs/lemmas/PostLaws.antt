@@ -11,9 +11,9 @@ use Rattle.fb_types.proofs.lemmas.events.KeyLaws.{same_key_is}
 use Rattle.fb_types.proofs.lemmas.lists.TakeLaws.{found-put}
 use Rattle.fb_agenda.specs.Agendas.{IsTimed}
 use Rattle.fb_types.specs.declared.run.Event.TheVariants.{Local}
-use Rattle.fb_net.specs.declared.effects.OutgoingMessage.{OutgoingMessage}
+use Rattle.fb_net.specs.declared.outbox.OutgoingMessage.{OutgoingMessage}
 use Rattle.fb_net.specs.Outs.{IsLocal}
-use Rattle.fb_net.specs.declared.effects.Out.TheVariants as outs
+use Rattle.fb_net.specs.declared.outbox.Out.TheVariants as outs
 use Rattle.fb_resource.specs.Posts.{ArePosted, message_of}
 pub use Rattle.fb_link.proofs.lemmas.Lists.{next_of}
 use Rattle.fb_resource.specs.Waiting.{AllMayWait, TimersAtHome}

@@ -1,5 +1,5 @@
 -- Posting goes on after a step of it, of the same system and under the same key.
-use Rattle.fb_resource.proofs.lemmas.Common.{◌≡◌, ◌+◌, ◌++◌, ◌∷◌, ◌<◌, ◌≤◌, ℕ, List, [], All, length, map, refl, sym, ap, subst, ◌∙◌, append-nil, arith, Vec, Inputs, system_of, System, Posts, post_all, Key, Message, TimerAsk, Keep, Event, Contents, out_of, Out, Effects, BelongsTo, CountsAre, IsMessage, IsPostable, arriving, AreReady, IsInOrder}
+use Rattle.fb_resource.proofs.lemmas.Common.{◌≡◌, ◌+◌, ◌++◌, ◌∷◌, ◌<◌, ◌≤◌, ℕ, List, [], All, length, map, refl, sym, ap, subst, ◌∙◌, append-nil, arith, Vec, Inputs, system_of, System, Posts, post_all, Key, Message, TimerAsk, Keep, Event, Contents, out_of, Out, Outbox, BelongsTo, CountsAre, IsMessage, IsPostable, arriving, AreReady, IsInOrder}
 use Rattle.fb_types.proofs.Common.{length_push, map-append, nil_from_length}
 use Rattle.fb_resource.specs.Posts.{ArePosted}
 use Rattle.fb_resource.specs.Postings.{HasGrown, HasPosted, HasSet, IsSame, MayPost, traffic_in, system_in}
@@ -41,7 +41,7 @@ grown_then a b c m n most same within first next =
     record { may = next.may; later = λ all. arrive_later (first.later all); few = omega (arith, within, one, more) }
 
 -- when all is posted, events may be taken again
-pub ready_again : (a b : Posting) (x : Effects) → IsSame a b → MayPost b → All (BelongsTo (system_in a)) x.lines.items → x.outs.items ≡ [] → x.timer ≡ Keep
+pub ready_again : (a b : Posting) (x : Outbox) → IsSame a b → MayPost b → All (BelongsTo (system_in a)) x.lines.items → x.outs.items ≡ [] → x.timer ≡ Keep
     → AreReady a.system.now a.key.now.tick (traffic_in b x)
 ready_again a b x same may lines none keeps = record {
   order = already (λ (i : Inputs) (k : Key). IsInOrder i k.tick b.agenda.now) a b same may.order;

@@ -1,5 +1,5 @@
 -- What waits stays in order, and what a reaction puts out may be posted.
-use Rattle.fb_resource.proofs.lemmas.Common.{◌≡◌, ℕ, suc, ◌+◌, ◌^◌, ◌<◌, ◌≤◌, Bool, true, false, cond, List, [], ◌∷◌, length, map, refl, sym, ap, subst, ◌∙◌, Some, None, All, arith, eq-eqb, Inputs, AreAccepted, system_of, changed_to, same_key, timer_key, path_at, path_of, System, is_timer_of, Key, TimerAsk, Keep, Contents, waiting, Event, out_of, Out, Effects, event_of, Forest, IsMetered, IsPostable, IsInOrder, MayWait, TickCounts}
+use Rattle.fb_resource.proofs.lemmas.Common.{◌≡◌, ℕ, suc, ◌+◌, ◌^◌, ◌<◌, ◌≤◌, Bool, true, false, cond, List, [], ◌∷◌, length, map, refl, sym, ap, subst, ◌∙◌, Some, None, All, arith, eq-eqb, Inputs, AreAccepted, system_of, changed_to, same_key, timer_key, path_at, path_of, System, is_timer_of, Key, TimerAsk, Keep, Contents, waiting, Event, out_of, Out, Outbox, event_of, Forest, IsMetered, IsPostable, IsInOrder, MayWait, TickCounts}
 use Rattle.fb_types.proofs.Common.{◌-◌, Result, Ok, Err, OnOk, All-nil, All-cons, All-head, All-tail, IsWithinLimits, Each, port_of, World}
 use Rattle.fb_types.specs.declared.run.TimerAsk.TheVariants.{Clear, At}
 use Rattle.fb_types.specs.declared.run.Event.TheVariants.{Timer}
@@ -11,7 +11,7 @@ use Rattle.fb_laws.proofs.lemmas.soundness.Outs.{GoodOutcome, IsGood, reacts_goo
 use Rattle.fb_laws.proofs.lemmas.takings.Timers as timers
 use Rattle.fb_agenda.specs.Agendas.{IsTimed, IsInResource, timer_set}
 use Rattle.fb_net.specs.Outs.{IsOut, only_lines}
-use Rattle.fb_net.specs.declared.effects.Out.TheVariants.{Local, Send}
+use Rattle.fb_net.specs.declared.outbox.Out.TheVariants.{Local, Send}
 use Rattle.fb_net.specs.Events.{CameTo}
 use Rattle.fb_net.proofs.lemmas.taking.AskedTimers.{asked_first}
 use Rattle.fb_laws.specs.Typed.{AreTyped, IsTypedEvent, IsTypedOut, KeepsTypes}
@@ -110,11 +110,11 @@ postable i sound k (o ∷ os) h g t =
     }
 
 -- what came of a reaction may be posted, and sets a timer of now or later
-pub came_good : (i : Inputs) (k : Key) (e : Event) (left after : ℕ) (stop : _) (resource_blocks : Forest) (x : Effects) (before : _) (w : World) → AreAccepted i → IsWithinLimits i.plan
+pub came_good : (i : Inputs) (k : Key) (e : Event) (left after : ℕ) (stop : _) (tree : Forest) (x : Outbox) (before : _) (w : World) → AreAccepted i → IsWithinLimits i.plan
     → (system_of i).resource (path_of (event_of i e)) ≡ k.resource → AreTyped (system_of i) w → IsTypedEvent (system_of i) (event_of i e)
-    → CameTo i k e (only_lines before) left stop resource_blocks after x w
+    → CameTo i k e (only_lines before) left stop tree after x w
     → All (IsOut (system_of i) k.resource) x.outs.items → All (IsPostable (system_of i) k.resource) x.outs.items × IsLater k.tick x.timer
-came_good i k e left after stop resource_blocks x before w accepted limits home typed_world typed_event came outs = (
+came_good i k e left after stop tree x before w accepted limits home typed_world typed_event came outs = (
   postable i sound k x.outs.items outs
       (subst (λ os. Each (IsGood (system_of i) sound k) os) (sym came.represents.outs) good.outs)
       (subst (λ (os : List reactions.Out). All (IsTypedOut (system_of i)) os) (sym came.represents.outs) kept.outs),

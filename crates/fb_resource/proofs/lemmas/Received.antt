@@ -58,7 +58,7 @@ found_none n ms j other = none_since _ (λ e is. other (arrival_class n ms j (ap
 -- ---- What waits
 
 module _ (i : Inputs) (ms : List Message) (old : Resource) (agenda : Contents)
-    (put : (j : Key) → waiting agenda j ≡ or_else (found j (arrivals_at old.resource_blocks.resource ms)) (waiting old.agenda j))
+    (put : (j : Key) → waiting agenda j ≡ or_else (found j (arrivals_at old.tree.resource ms)) (waiting old.agenda j))
     (due : agenda.due ≡ old.agenda.due) (of : IsOf i old) (for_it : All (IsFor i old) ms) where
   -- the resource with that agenda
   abbrev new : Resource
@@ -66,12 +66,12 @@ module _ (i : Inputs) (ms : List Message) (old : Resource) (agenda : Contents)
 
   -- a key of another class has what it had
   same_waits : (j : Key) → (j.class ≡ 2 → ⊥) → waiting agenda j ≡ waiting old.agenda j
-  same_waits j other = put j ∙ ap (λ o. or_else o (waiting old.agenda j)) (found_none old.resource_blocks.resource ms j other)
+  same_waits j other = put j ∙ ap (λ o. or_else o (waiting old.agenda j)) (found_none old.tree.resource ms j other)
 
-  may_wait : All (λ m. MayWait i old.clock (arrival_at old.resource_blocks.resource m).0 (Arrival m)) ms
-  may_wait = All-weaker (IsFor i old) (λ m. MayWait i old.clock (arrival_at old.resource_blocks.resource m).0 (Arrival m)) one ms for_it
+  may_wait : All (λ m. MayWait i old.clock (arrival_at old.tree.resource m).0 (Arrival m)) ms
+  may_wait = All-weaker (IsFor i old) (λ m. MayWait i old.clock (arrival_at old.tree.resource m).0 (Arrival m)) one ms for_it
     where
-      one : (m : Message) → IsFor i old m → MayWait i old.clock (arrival_at old.resource_blocks.resource m).0 (Arrival m)
+      one : (m : Message) → IsFor i old m → MayWait i old.clock (arrival_at old.tree.resource m).0 (Arrival m)
       one m it = record {
         event = subst (λ r. IsEventIn i r (Arrival m)) it.here it.message.event;
         resource = of.named;
@@ -83,32 +83,32 @@ module _ (i : Inputs) (ms : List Message) (old : Resource) (agenda : Contents)
   order : IsInOrder i old.clock agenda
   order = record {
     waits = λ j e is. ⊎_elim
-        (λ h. found_of (λ k f. MayWait i old.clock k f) old.resource_blocks.resource ms may_wait j e h)
+        (λ h. found_of (λ k f. MayWait i old.clock k f) old.tree.resource ms may_wait j e h)
         (λ h. of.order.waits j e h)
-        (or_else_some (found j (arrivals_at old.resource_blocks.resource ms)) (waiting old.agenda j) e (sym (put j) ∙ is));
+        (or_else_some (found j (arrivals_at old.tree.resource ms)) (waiting old.agenda j) e (sym (put j) ∙ is));
     timed = λ j r k e is timer.
         subst (λ (xs : List ℕ). same_key (timer_key (slice_index xs k) r k) j ≡ true) (sym due)
         (of.order.timed j r k e (sym (same_waits j (λ two. let one = timer_class r k j timer in omega (arith, one, two))) ∙ is) timer);
     home = λ j e is one. of.order.home j e (sym (same_waits j (λ two. omega (arith, one, two))) ∙ is) one;
   }
 
-  at_home : (j : Key) (e : Event) → waiting agenda j ≡ Some e → j.resource ≡ old.resource_blocks.resource
+  at_home : (j : Key) (e : Event) → waiting agenda j ≡ Some e → j.resource ≡ old.tree.resource
   at_home j e is = ⊎_elim
-      (λ h. found_of (λ k f. k.resource ≡ old.resource_blocks.resource) old.resource_blocks.resource ms (All-weaker (IsFor i old) (λ m. (arrival_at old.resource_blocks.resource m).0.resource ≡ old.resource_blocks.resource) (λ m it. refl) ms for_it) j e h)
+      (λ h. found_of (λ k f. k.resource ≡ old.tree.resource) old.tree.resource ms (All-weaker (IsFor i old) (λ m. (arrival_at old.tree.resource m).0.resource ≡ old.tree.resource) (λ m it. refl) ms for_it) j e h)
       (λ h. of.home j e h)
-      (or_else_some (found j (arrivals_at old.resource_blocks.resource ms)) (waiting old.agenda j) e (sym (put j) ∙ is))
+      (or_else_some (found j (arrivals_at old.tree.resource ms)) (waiting old.agenda j) e (sym (put j) ∙ is))
 
-  receivers : All (λ m. receiver_of (system_of i) m ≡ old.resource_blocks.resource) ms
-  receivers = All-weaker (IsFor i old) (λ m. receiver_of (system_of i) m ≡ old.resource_blocks.resource) (λ m it. it.here) ms for_it
+  receivers : All (λ m. receiver_of (system_of i) m ≡ old.tree.resource) ms
+  receivers = All-weaker (IsFor i old) (λ m. receiver_of (system_of i) m ≡ old.tree.resource) (λ m it. it.here) ms for_it
 
   meaning_is : (j : Key) → meaning i agenda j ≡ or_else (found j (map (arriving i) ms)) (meaning i old.agenda j)
   meaning_is j =
       ap (option_map (event_of i)) (put j)
-      ∙ map_or_else (event_of i) (found j (arrivals_at old.resource_blocks.resource ms)) (waiting old.agenda j)
-      ∙ ap (λ o. or_else o (meaning i old.agenda j)) (sym (found_arriving i old.resource_blocks.resource ms receivers j))
+      ∙ map_or_else (event_of i) (found j (arrivals_at old.tree.resource ms)) (waiting old.agenda j)
+      ∙ ap (λ o. or_else o (meaning i old.agenda j)) (sym (found_arriving i old.tree.resource ms receivers j))
 
   arriving_none : (j : Key) → (j.class ≡ 2 → ⊥) → found j (map (arriving i) ms) ≡ None
-  arriving_none j other = found_arriving i old.resource_blocks.resource ms receivers j ∙ ap (option_map (event_of i)) (found_none old.resource_blocks.resource ms j other)
+  arriving_none j other = found_arriving i old.tree.resource ms receivers j ∙ ap (option_map (event_of i)) (found_none old.tree.resource ms j other)
 
   represents : (limit : ℕ) (l : Local (machine (system_of i) limit)) → Represents i limit l old → Represents i limit (with_messages i limit ms l) new
   represents limit l before = record {
@@ -125,7 +125,7 @@ module _ (i : Inputs) (ms : List Message) (old : Resource) (agenda : Contents)
     stop = before.stop;
   }
     where
-      both : (j : Key) → j.resource ≡ old.resource_blocks.resource → (eqb j.class 2 ≡ true) ⊎ (eqb j.class 2 ≡ false)
+      both : (j : Key) → j.resource ≡ old.tree.resource → (eqb j.class 2 ≡ true) ⊎ (eqb j.class 2 ≡ false)
           → or_else (l.own j) (or_else (found j (map (arriving i) ms)) (l.inbox j)) ≡ meaning i agenda j
       both j here c = ⊎_elim arrival other c
         where
@@ -157,7 +157,7 @@ module _ (i : Inputs) (ms : List Message) (old : Resource) (agenda : Contents)
   }
 
 pub received : (ms : List Message) (old : Resource) (agenda : Contents)
-    → ((j : Key) → waiting agenda j ≡ or_else (found j (arrivals_at old.resource_blocks.resource ms)) (waiting old.agenda j)) → agenda.due ≡ old.agenda.due
+    → ((j : Key) → waiting agenda j ≡ or_else (found j (arrivals_at old.tree.resource ms)) (waiting old.agenda j)) → agenda.due ≡ old.agenda.due
     → HasReceived ms old (record old { agenda = agenda })
 received ms old agenda put due = record {
   besides = refl;

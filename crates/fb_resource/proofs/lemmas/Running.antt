@@ -56,7 +56,7 @@ module _ (i : Inputs) (limit : ℕ) (x : Resource) (m : TickCounts) (q : Traffic
   }
 
   pub comes_first : (t : ℕ) (l : Local (machine (system_of i) limit)) → x.stopped ≡ None → IsUnused x.clock (meter_of m) → Represents i limit l (with_traffic x q)
-      → ComesTo i limit x.resource_blocks.resource t l (in_run x m q)
+      → ComesTo i limit x.tree.resource t l (in_run x m q)
   comes_first t l live unused represents = record {
     at = l;
     represents = record {
@@ -64,7 +64,7 @@ module _ (i : Inputs) (limit : ℕ) (x : Resource) (m : TickCounts) (q : Traffic
       part = represents.part;
       here = record {
         blocks = represents.blocks;
-        meter = alike_unused x.clock (represents.state.meters x.resource_blocks.resource) (meter_of m) (represents.unused live) unused;
+        meter = alike_unused x.clock (represents.state.meters x.tree.resource) (meter_of m) (represents.unused live) unused;
         typed = represents.typed;
       };
       counts = represents.counts;
@@ -93,14 +93,14 @@ traffic_back x q agenda sent = ap (λ (a : Contents). record x { agenda = a; sen
 -- the agenda and the counts that its run left come back to it
 pub run_back :
     (i : Inputs) (limit : ℕ) (x y : Resource) (q r : Traffic) (to : ℕ) (a : Contents) (sent : Vec ℕ) (lines : Vec Line) (mail : Vec Message) (stop : Option StopMark)
-    → q.agenda ≡ x.agenda → q.sent ≡ x.sent → a ≡ r.agenda → sent ≡ r.sent → lines ≡ r.effects.lines → mail ≡ r.mail
-    → HasRun i limit (with_traffic x q) to (Ran (with_traffic y r) r.effects.lines r.mail stop) → HasRun i limit x to (Ran (record y { agenda = a; sent = sent }) lines mail stop)
+    → q.agenda ≡ x.agenda → q.sent ≡ x.sent → a ≡ r.agenda → sent ≡ r.sent → lines ≡ r.outbox.lines → mail ≡ r.mail
+    → HasRun i limit (with_traffic x q) to (Ran (with_traffic y r) r.outbox.lines r.mail stop) → HasRun i limit x to (Ran (record y { agenda = a; sent = sent }) lines mail stop)
 run_back i limit x y q r to a sent lines mail stop had_agenda had_sent agenda_is sent_is lines_are mail_is ran =
     subst (λ (z : Resource). HasRun i limit z to (Ran (record y { agenda = a; sent = sent }) lines mail stop)) (traffic_back x q had_agenda had_sent)
     (subst (λ (z : Contents). HasRun i limit (with_traffic x q) to (Ran (record y { agenda = z; sent = sent }) lines mail stop)) (sym agenda_is)
     (subst (λ (z : Vec ℕ). HasRun i limit (with_traffic x q) to (Ran (record y { agenda = r.agenda; sent = z }) lines mail stop)) (sym sent_is)
     (subst (λ (z : Vec Line). HasRun i limit (with_traffic x q) to (Ran (with_traffic y r) z mail stop)) (sym lines_are)
-    (subst (λ (z : Vec Message). HasRun i limit (with_traffic x q) to (Ran (with_traffic y r) r.effects.lines z stop)) (sym mail_is) ran))))
+    (subst (λ (z : Vec Message). HasRun i limit (with_traffic x q) to (Ran (with_traffic y r) r.outbox.lines z stop)) (sym mail_is) ran))))
 
 -- ---- One event
 
@@ -114,7 +114,7 @@ stands_for i limit l x rests s = record {
   part = s.part;
   blocks = s.here.blocks;
   typed = s.here.typed;
-  unused = λ live. unused_alike x.clock (s.state.meters x.resource_blocks.resource) (meter_of x.meter) s.here.meter (rests live);
+  unused = λ live. unused_alike x.clock (s.state.meters x.tree.resource) (meter_of x.meter) s.here.meter (rests live);
   counts = s.counts;
   own = s.own;
   inbox = s.inbox;
@@ -122,9 +122,9 @@ stands_for i limit l x rests s = record {
   stop = s.stop;
 }
 
-ran_of : (i : Inputs) (limit r t : ℕ) (from at : Local (machine (system_of i) limit)) (x : Running) → x.resource_blocks.resource ≡ r → Rests x → RepresentsRunning i limit at x
-    → HasEnded (machine (system_of i) limit) r t from at x.clock (map (line_of (system_of i)) x.traffic.effects.lines.items) (map (arriving i) x.traffic.mail.items)
-    → RanTo i limit from t (at_rest x) x.traffic.effects.lines.items x.traffic.mail.items
+ran_of : (i : Inputs) (limit r t : ℕ) (from at : Local (machine (system_of i) limit)) (x : Running) → x.tree.resource ≡ r → Rests x → RepresentsRunning i limit at x
+    → HasEnded (machine (system_of i) limit) r t from at x.clock (map (line_of (system_of i)) x.traffic.outbox.lines.items) (map (arriving i) x.traffic.mail.items)
+    → RanTo i limit from t (at_rest x) x.traffic.outbox.lines.items x.traffic.mail.items
 ran_of i limit r t from at x here rests represents h = record {
   items = h.items;
   run = subst (λ q. Run (machine (system_of i) limit) q from t h.items) (sym here) h.run;
@@ -135,17 +135,17 @@ ran_of i limit r t from at x here rests represents h = record {
 }
 
 -- its blocks and counts, from the tick of a key of its own on
-pub here_at : (i : Inputs) (s : State) (k : Key) (x : Running) → k.resource ≡ x.resource_blocks.resource → x.clock ≤ k.tick → IsHere i s x.resource_blocks.resource x.clock x.resource_blocks x.meter
-    → IsHere i s k.resource k.tick x.resource_blocks x.meter
+pub here_at : (i : Inputs) (s : State) (k : Key) (x : Running) → k.resource ≡ x.tree.resource → x.clock ≤ k.tick → IsHere i s x.tree.resource x.clock x.tree x.meter
+    → IsHere i s k.resource k.tick x.tree x.meter
 here_at i s k x mine le here =
-    subst (λ r. IsHere i s r k.tick x.resource_blocks x.meter) (sym mine) (here_later i s x.resource_blocks.resource x.clock k.tick x.resource_blocks x.meter le here)
+    subst (λ r. IsHere i s r k.tick x.tree x.meter) (sym mine) (here_later i s x.tree.resource x.clock k.tick x.tree x.meter le here)
 
 -- The resource has taken the least of its events, which left a as its agenda.
 module _ (i : Inputs) (limit : ℕ) (old new : Running) (k : Key) (e : Event) (a : Contents) (sound : IsSound (system_of i))
-    (same : new.resource_blocks.resource ≡ old.resource_blocks.resource) (mine : k.resource ≡ old.resource_blocks.resource) (live : old.stopped ≡ None)
+    (same : new.tree.resource ≡ old.tree.resource) (mine : k.resource ≡ old.tree.resource) (live : old.stopped ≡ None)
     (fits : IsAtResource (system_of i) k (event_of i e)) (gone : HasLeft k e old.traffic.agenda a) where
   abbrev Taken : State → Type 0
-  Taken s = IsTakenHere i limit s k (event_of i e) new.stopped new.clock new.resource_blocks new.meter (record old.traffic { agenda = a }) new.traffic
+  Taken s = IsTakenHere i limit s k (event_of i e) new.stopped new.clock new.tree new.meter (record old.traffic { agenda = a }) new.traffic
 
   pub running_more : IsRunning i limit old → (s : State) → Taken s → IsMetered limit new.meter → unwrap_or new.meter.tick 0 ≤ new.clock
       → AreReady i new.clock new.traffic → IsRunning i limit new
@@ -154,11 +154,11 @@ module _ (i : Inputs) (limit : ℕ) (old new : Running) (k : Key) (e : Event) (a
     metered = metered;
     past = past;
     ready = ready;
-    home = home_after i limit new.resource_blocks.resource s k e t.effect old.traffic.agenda a new.traffic.agenda sound (mine ∙ sym same) fits t.takes gone t.agenda
+    home = home_after i limit new.tree.resource s k e t.effect old.traffic.agenda a new.traffic.agenda sound (mine ∙ sym same) fits t.takes gone t.agenda
         (λ j f h. running.home j f h ∙ sym same);
   }
 
-  module _ (r to : ℕ) (from : Local (machine (system_of i) limit)) (c : ComesTo i limit r to from old) (here : old.resource_blocks.resource ≡ r) (below : k.tick < to) (t : Taken c.represents.state) where
+  module _ (r to : ℕ) (from : Local (machine (system_of i) limit)) (c : ComesTo i limit r to from old) (here : old.tree.resource ≡ r) (below : k.tick < to) (t : Taken c.represents.state) where
     abbrev item : Item (machine (system_of i) limit)
     item = item_at i limit k (event_of i e) t.effect
 
@@ -169,7 +169,7 @@ module _ (i : Inputs) (limit : ℕ) (old new : Running) (k : Key) (e : Event) (a
     represents = stands_after i limit c.at old new c.represents k e (record old.traffic { agenda = a }) new.stopped sound same mine refl fits gone t
 
     abbrev before_lines : List model.Line
-    before_lines = map (line_of (system_of i)) old.traffic.effects.lines.items
+    before_lines = map (line_of (system_of i)) old.traffic.outbox.lines.items
 
     abbrev before_sent : List (Key × model.Event)
     before_sent = map (arriving i) old.traffic.mail.items
@@ -193,7 +193,7 @@ module _ (i : Inputs) (limit : ℕ) (old new : Running) (k : Key) (e : Event) (a
         }
 
     -- the event stops the resource
-    pub ran_stop : (reason : Reason) → new.stopped ≡ Some reason → new.clock ≡ k.tick → RanTo i limit from to (at_rest new) new.traffic.effects.lines.items new.traffic.mail.items
+    pub ran_stop : (reason : Reason) → new.stopped ≡ Some reason → new.clock ≡ k.tick → RanTo i limit from to (at_rest new) new.traffic.outbox.lines.items new.traffic.mail.items
     ran_stop reason stops clock =
         let h = come_stop (machine (system_of i) limit) r to from c.at before_lines before_sent c.come item takes below reason (t.stops ∙ stops) in
         ran_of i limit r to from (after (machine (system_of i) limit) c.at item) new (same ∙ here) (λ going. absurd (none_some new.stopped reason going stops)) represents (record {
@@ -228,7 +228,7 @@ module _ (i : Inputs) (limit : ℕ) (old : Running) (a : Contents) (to : ℕ) (s
   stands_turned l s = record {
     state = s.state;
     part = s.part;
-    here = here_later i s.state old.resource_blocks.resource old.clock to old.resource_blocks old.meter ahead s.here;
+    here = here_later i s.state old.tree.resource old.clock to old.tree old.meter ahead s.here;
     counts = s.counts;
     own = s.own;
     inbox = s.inbox;
@@ -236,8 +236,8 @@ module _ (i : Inputs) (limit : ℕ) (old : Running) (a : Contents) (to : ℕ) (s
     stop = s.stop;
   }
 
-  pub ran_rest : (r : ℕ) (from : Local (machine (system_of i) limit)) → ComesTo i limit r to from old → old.resource_blocks.resource ≡ r → IsUnused to (meter_of old.meter)
-      → RanTo i limit from to (at_rest turned) old.traffic.effects.lines.items old.traffic.mail.items
+  pub ran_rest : (r : ℕ) (from : Local (machine (system_of i) limit)) → ComesTo i limit r to from old → old.tree.resource ≡ r → IsUnused to (meter_of old.meter)
+      → RanTo i limit from to (at_rest turned) old.traffic.outbox.lines.items old.traffic.mail.items
   ran_rest r from c here unused =
       ran_of i limit r to from c.at turned here (λ live. unused) (stands_turned c.at c.represents)
       (come_rest (machine (system_of i) limit) r to from c.at _ _ c.come (λ live j mine below. c.represents.waits j (mine ∙ sym here) ∙ ap (option_map (event_of i)) (none j below)))
@@ -263,11 +263,11 @@ module _ (i : Inputs) (limit other : ℕ) (l : Local (machine (system_of i) limi
     stop = s.stop;
   }
 
-pub has_run : (i : Inputs) (limit : ℕ) (old : Resource) (x : Running) (to : ℕ) (stop : Option StopMark) → IsOf i old → IsRunning i limit x → x.resource_blocks.resource ≡ old.resource_blocks.resource
-    → ((l : Local (machine (system_of i) limit)) → Represents i limit l old → RanTo i limit l to (at_rest x) x.traffic.effects.lines.items x.traffic.mail.items)
-    → stop ≡ mark_of x.resource_blocks.resource x.clock x.stopped
-    → HasRun i limit old to (Ran (at_rest x) x.traffic.effects.lines x.traffic.mail stop)
-has_run i limit old x to stop of running resource_blocks ran stops =
+pub has_run : (i : Inputs) (limit : ℕ) (old : Resource) (x : Running) (to : ℕ) (stop : Option StopMark) → IsOf i old → IsRunning i limit x → x.tree.resource ≡ old.tree.resource
+    → ((l : Local (machine (system_of i) limit)) → Represents i limit l old → RanTo i limit l to (at_rest x) x.traffic.outbox.lines.items x.traffic.mail.items)
+    → stop ≡ mark_of x.tree.resource x.clock x.stopped
+    → HasRun i limit old to (Ran (at_rest x) x.traffic.outbox.lines x.traffic.mail stop)
+has_run i limit old x to stop of running tree ran stops =
     let first = of.represents limit in
     let its = ran first.0 first.1 in
     let last : Local (machine (system_of i) limit) = end (machine (system_of i) limit) first.0 its.items in (
@@ -279,7 +279,7 @@ has_run i limit old x to stop of running resource_blocks ran stops =
         home = running.home;
         represents = λ other. (under i limit other last, stands_under i limit other last (at_rest x) its.represents);
       },
-      resource_blocks,
+      tree,
       running.ready.lines,
       running.ready.mail,
       stops,

@@ -56,7 +56,7 @@ use Rattle.fb_ecc.specs.contracts.shared.SharedChart.TheInside as C
 use Rattle.fb_ecc.specs.contracts.state.BasicState as BasicState
 use Rattle.fb_net.specs.contracts.block.Block as Block
 use Rattle.fb_net.specs.contracts.resource.Forest as Forest
-use Rattle.fb_net.specs.contracts.resource_blocks.ResourceBlocks as ResourceBlocks
+use Rattle.fb_net.specs.contracts.tree.Tree as Tree
 use Rattle.fb_types.proofs.text.Expr.TheLaws.TheKnot as expr
 use Rattle.fb_types.proofs.text.Stmt.TheLaws.TheKnot as stmt
 use Rattle.fb_st.proofs.compiled.NumberExpr.TheLaws.TheKnot as number
@@ -195,7 +195,7 @@ block_send = search (sendable, crosses, block.crosses, basic_send, event.the_sen
 pub forest_send : IsSend (Forest.the_field).row
 forest_send = search (sendable, crosses, block_send, shell.the_field_send, held.the_field_send, items.the_send) depth 40
 
-pub tree_send : IsSend ResourceBlocks.the_row
+pub tree_send : IsSend Tree.the_row
 tree_send = search (sendable, crosses, forest_send) depth 40
 
 -- ---- Resources

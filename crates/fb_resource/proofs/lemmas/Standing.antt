@@ -23,7 +23,7 @@ abbrev pub item_at : (i : Inputs) (limit : ℕ) → Key → AnEvent → Effect �
 item_at i limit k e x = record { key = k; event = e; out = outcome_of (system_of i) k x }
 
 pub takes_alone : (i : Inputs) (limit r : ℕ) (l : Local (machine (system_of i) limit)) (x : Running) (s : RepresentsRunning i limit l x) (k : Key) (e : Event) (left : Contents) (effect : Effect)
-    → x.resource_blocks.resource ≡ r → k.resource ≡ r → x.stopped ≡ None → IsAtResource (system_of i) k (event_of i e)
+    → x.tree.resource ≡ r → k.resource ≡ r → x.stopped ≡ None → IsAtResource (system_of i) k (event_of i e)
     → HasLeft k e x.traffic.agenda left → Takes (system_of i) limit s.state k (event_of i e) effect
     → TakesAlone (machine (system_of i) limit) r l (item_at i limit k (event_of i e) effect)
 takes_alone i limit r l x s k e left effect here mine live fits gone takes = record {
@@ -47,9 +47,9 @@ changes_own : (i : Inputs) (limit : ℕ) (s : State) (k : Key) (e : AnEvent) (ef
 changes_own i limit s k e effect sound fits takes j v h = ((takes_good (system_of i) sound k limit s e fits effect takes).changes j v h).class
 
 pub stands_after : (i : Inputs) (limit : ℕ) (l : Local (machine (system_of i) limit)) (old new : Running) (s : RepresentsRunning i limit l old) (k : Key) (e : Event) (mid : Traffic) (stop : Option Reason)
-    → IsSound (system_of i) → new.resource_blocks.resource ≡ old.resource_blocks.resource → k.resource ≡ old.resource_blocks.resource → new.stopped ≡ stop → IsAtResource (system_of i) k (event_of i e)
+    → IsSound (system_of i) → new.tree.resource ≡ old.tree.resource → k.resource ≡ old.tree.resource → new.stopped ≡ stop → IsAtResource (system_of i) k (event_of i e)
     → HasLeft k e old.traffic.agenda mid.agenda
-    → (t : IsTakenHere i limit s.state k (event_of i e) stop new.clock new.resource_blocks new.meter mid new.traffic)
+    → (t : IsTakenHere i limit s.state k (event_of i e) stop new.clock new.tree new.meter mid new.traffic)
     → RepresentsRunning i limit (after (machine (system_of i) limit) l (item_at i limit k (event_of i e) t.effect)) new
 stands_after i limit l old new s k e mid stop sound same mine stopped fits gone t =
     let M = machine (system_of i) limit in
@@ -57,11 +57,11 @@ stands_after i limit l old new s k e mid stop sound same mine stopped fits gone 
     let own = changes_own i limit s.state k (event_of i e) t.effect sound fits t.takes in
     let parted : IsParted M l = record { own = s.own; inbox = s.inbox } in
     let later = parted_after M l item parted own in
-    let now : k.resource ≡ new.resource_blocks.resource = mine ∙ sym same in
+    let now : k.resource ≡ new.tree.resource = mine ∙ sym same in
     record {
       state = t.effect.state;
       part = ap (λ r. part_of (system_of i) r t.effect.state) now;
-      here = subst (λ r. IsHere i t.effect.state r new.clock new.resource_blocks new.meter) now t.here;
+      here = subst (λ r. IsHere i t.effect.state r new.clock new.tree new.meter) now t.here;
       counts = t.counts;
       own = later.own;
       inbox = later.inbox;
@@ -69,7 +69,7 @@ stands_after i limit l old new s k e mid stop sound same mine stopped fits gone 
       stop = t.stops ∙ sym stopped;
     }
   where
-    rest : (j : Key) → j.resource ≡ old.resource_blocks.resource → without k (machines.waiting (machine (system_of i) limit) l) j ≡ meaning i mid.agenda j
+    rest : (j : Key) → j.resource ≡ old.tree.resource → without k (machines.waiting (machine (system_of i) limit) l) j ≡ meaning i mid.agenda j
     rest j here = go (same_key k j) (gone.left j)
       where
         go : (b : Bool) → waiting mid.agenda j ≡ cond b None (waiting old.traffic.agenda j) → cond b None (machines.waiting (machine (system_of i) limit) l j) ≡ meaning i mid.agenda j

@@ -1,5 +1,5 @@
 -- An event is taken in its resource as the model takes it.
-use Rattle.fb_resource.proofs.lemmas.Common.{◌≡◌, ℕ, suc, Bool, true, false, cond, List, [], map, refl, sym, ap, subst, ◌∙◌, ◌++◌, append-nil, Option, Some, None, option_map, eq-eqb, Inputs, system_of, or_else, found, changed_to, same_key, timer_key, Path, path_at, State, path_of, System, Posts, begun, is_timer_of, post_all, world_of, Key, TimerAsk, Keep, Reason, Contents, Event, out_of, Effects, event_of, Forest, meter_of, CountsAre, arriving, IsHere, IsTakenHere, Traffic, meaning}
+use Rattle.fb_resource.proofs.lemmas.Common.{◌≡◌, ℕ, suc, Bool, true, false, cond, List, [], map, refl, sym, ap, subst, ◌∙◌, ◌++◌, append-nil, Option, Some, None, option_map, eq-eqb, Inputs, system_of, or_else, found, changed_to, same_key, timer_key, Path, path_at, State, path_of, System, Posts, begun, is_timer_of, post_all, world_of, Key, TimerAsk, Keep, Reason, Contents, Event, out_of, Outbox, event_of, Forest, meter_of, CountsAre, arriving, IsHere, IsTakenHere, Traffic, meaning}
 use Rattle.fb_types.proofs.Common.{line_of, Out, Outcome, Reacts, Meter, Expired, Effect, Takes, TakesWith, agenda_after, effect_of, out_of_steps, posts_of, put_of, timer_change, with_at}
 use Rattle.fb_types.specs.declared.run.TimerAsk.TheVariants.{Clear, At}
 use Rattle.fb_types.specs.declared.run.Event.TheVariants.{Timer}
@@ -38,7 +38,7 @@ taken_none i limit s k e m from t x q is none here counts = record {
   counts = counts;
   agenda = λ j. refl;
   mail = sym (append-nil (map (arriving i) q.mail.items));
-  lines = sym (append-nil (map (line_of (system_of i)) q.effects.lines.items));
+  lines = sym (append-nil (map (line_of (system_of i)) q.outbox.lines.items));
 }
 
 -- ---- One step is used
@@ -85,17 +85,17 @@ with_at_here n x f = ap (λ b. cond b x (f n)) (eq-eqb n n refl)
 -- ---- The taking
 
 -- What an event came to in its tree was settled: it is taken, whether or not its reaction stops.
-pub taken_one : (i : Inputs) (limit : ℕ) (s : State) (k : Key) (e : Event) (m meter : counted.TickCounts) (l : ℕ) (stop : Option Reason) (old mid new : Traffic) (from : ℕ) (before : Forest) (was : counted.TickCounts) (resource_blocks : Forest) (x : Effects)
+pub taken_one : (i : Inputs) (limit : ℕ) (s : State) (k : Key) (e : Event) (m meter : counted.TickCounts) (l : ℕ) (stop : Option Reason) (old mid new : Traffic) (from : ℕ) (before : Forest) (was : counted.TickCounts) (tree : Forest) (x : Outbox)
     → IsTypedSystem (system_of i) → IsTypedEvent (system_of i) (event_of i e)
     → IsHere i s k.resource from before was → CountsAre old.sent.items s.sent
     → begun limit k.tick (s.meters k.resource) ≡ meter_of m → m.meter.left ≡ suc l
-    → CameTo i k e (only_lines (map (line_of (system_of i)) old.effects.lines.items)) l stop resource_blocks meter.meter.left x (world_of s k.resource)
-    → mid ≡ record old { effects = x }
+    → CameTo i k e (only_lines (map (line_of (system_of i)) old.outbox.lines.items)) l stop tree meter.meter.left x (world_of s k.resource)
+    → mid ≡ record old { outbox = x }
     → ((counts : ℕ → ℕ) → CountsAre mid.sent.items counts
     → IsSettled i k (path_of (event_of i e)) x.timer (post_all (system_of i) k (map (out_of (system_of i)) x.outs.items) (record { locals = m.locals; sent = counts; raised = []; messages = [] })) mid new meter.locals)
-    → meter.tick ≡ Some k.tick → new.effects.lines.items ≡ x.lines.items
-    → IsTakenHere i limit s k (event_of i e) stop from resource_blocks meter old new
-taken_one i limit s k e m meter l stop old mid new from before was resource_blocks x sound typed at counted_before is left came between settled tick shown = record {
+    → meter.tick ≡ Some k.tick → new.outbox.lines.items ≡ x.lines.items
+    → IsTakenHere i limit s k (event_of i e) stop from tree meter old new
+taken_one i limit s k e m meter l stop old mid new from before was tree x sound typed at counted_before is left came between settled tick shown = record {
   effect = effect;
   takes = takes;
   stops = came.stops;
@@ -150,8 +150,8 @@ taken_one i limit s k e m meter l stop old mid new from before was resource_bloc
     its = subst (λ ask. IsSettled i k (path_of event) ask posts old new meter.locals) (came.represents.timer ∙ asked_first o.timer)
         (subst (λ (os : List Out). IsSettled i k (path_of event) x.timer (post_all sys k os start) old new meter.locals) came.represents.outs after_old)
 
-    here : IsForest i resource_blocks (world_of state k.resource)
-    here = subst (λ h. IsForest i resource_blocks (record { blocks = o.world.blocks; held = h })) (sym (with_at_here k.resource o.world.held s.held)) came.represents.world
+    here : IsForest i tree (world_of state k.resource)
+    here = subst (λ h. IsForest i tree (record { blocks = o.world.blocks; held = h })) (sym (with_at_here k.resource o.world.held s.held)) came.represents.world
 
     metered : state.meters k.resource ≡ meter_of meter
     metered =

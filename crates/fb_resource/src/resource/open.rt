@@ -9,7 +9,7 @@ ghost use Rattle.fb_resource.specs.OfSystem.{opening_part};
 use crate::opening::{open_agenda, open_agendas, open_sent};
 use crate::resource::Resource;
 use fb_agenda::Agenda;
-use fb_net::ResourceBlocks;
+use fb_net::Tree;
 use fb_system::System;
 use std::alloc::{AllocError, Global};
 
@@ -28,9 +28,9 @@ impl Resource {
         // for the prover: what holds of each system
         system.facts();
         let sent = open_sent(alloc, system)?;
-        let resource_blocks = ResourceBlocks::build(alloc, system, number)?;
+        let tree = Tree::build(alloc, system, number)?;
         Ok(Resource {
-            resource_blocks,
+            tree,
             clock: 0,
             agenda,
             sent,
@@ -46,7 +46,7 @@ impl Resource {
         requires { IsResource system.now number }
         ensures of { IfOk result (IsOf system.now) }
         ensures opened { IfOk result (λ x. (limit : ℕ) → Represents system.now limit (opening_part system.now limit number) x) }
-        ensures fresh { IfOk result (λ x. (x.resource_blocks.resource ≡ number) × (x.clock ≡ 0) × (x.stopped ≡ None)) }
+        ensures fresh { IfOk result (λ x. (x.tree.resource ≡ number) × (x.clock ≡ 0) × (x.stopped ≡ None)) }
     {
         let agenda = open_agenda(alloc, system, Some(number))?;
         Resource::of_agenda(alloc, system, number, agenda)

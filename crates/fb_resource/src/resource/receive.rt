@@ -17,9 +17,9 @@ impl Resource {
     pub fn receive(&mut self, messages: Vec<Message>) -> Result<(), (AllocError, Vec<Message>)>
         ensures received { OnOk result (HasReceived messages.items self.old self.new) }
         ensures back { IfErr result (λ e. e.1.items ≡ messages.items) }
-        ensures err { OnErr result (AreNew self.old.resource_blocks.resource messages.items self.old.agenda → IsSame self.old self.new) }
+        ensures err { OnErr result (AreNew self.old.tree.resource messages.items self.old.agenda → IsSame self.old self.new) }
     {
-        let resource = self.resource_blocks.resource();
+        let resource = self.tree.resource();
         self.agenda.receive(resource, messages)
     }
 }

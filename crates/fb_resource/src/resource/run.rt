@@ -37,7 +37,7 @@ impl Resource {
         requires ahead { self.old.clock ≤ to }
         requires early { to ≤ 10 ^ 12 }
         requires few { steps ≤ 10 ^ 7 }
-        ensures { IfOk result (λ stop. HasRun system.now steps (with_traffic self.old traffic.old) to (Ran (with_traffic self.new traffic.new) traffic.new.effects.lines traffic.new.mail stop)) }
+        ensures { IfOk result (λ stop. HasRun system.now steps (with_traffic self.old traffic.old) to (Ran (with_traffic self.new traffic.new) traffic.new.outbox.lines traffic.new.mail stop)) }
     {
         // for the prover: what holds of each system
         system.facts();
@@ -47,7 +47,7 @@ impl Resource {
         'events: while found {
             self.clock = least.key.tick;
             let taken = take(
-                &mut self.resource_blocks,
+                &mut self.tree,
                 &mut counts,
                 traffic,
                 system,
@@ -161,7 +161,7 @@ impl Resource {
         let sent = mem::replace(&mut self.sent, Vec::new(alloc));
         let mut traffic = Traffic::over(alloc, agenda, sent, spent);
         let stop = self.take_all(&mut traffic, system, to, steps)?;
-        let lines = mem::replace(&mut traffic.effects.lines, Vec::new(alloc));
+        let lines = mem::replace(&mut traffic.outbox.lines, Vec::new(alloc));
         let mail = mem::replace(&mut traffic.mail, Vec::new(alloc));
         let (agenda, sent) = traffic.into_kept();
         self.agenda = agenda;

@@ -43,7 +43,7 @@ module _ (old : Talk) (p : Past) (s : Stimulus) (g : GivenRow) (m : Machine) (wa
     (given : (st : State) (a : Agenda) → IsAt old.inputs st a old.machine
     → IsAt old.inputs st (with_all ((stimulus_key tick ((system_of old.inputs).resource (path_at (system_of old.inputs) g.target.instance)) g.row, event_of old.inputs (Given g)) ∷ []) a) m)
     (ready : (limit from : ℕ) → from ≤ tick → IsReady old.inputs limit from old.machine → IsReady old.inputs limit from m)
-    (lines : m.traffic.effects.lines.items ≡ old.machine.traffic.effects.lines.items) where
+    (lines : m.traffic.outbox.lines.items ≡ old.machine.traffic.outbox.lines.items) where
   abbrev i : Inputs
   i = old.inputs
 
@@ -99,7 +99,7 @@ pub given_is : (v : Talk) (s : Stimulus) (g : GivenRow) (m : Machine) (n : ℕ) 
     → ((st : State) (a : Agenda) → IsAt v.inputs st a v.machine
     → IsAt v.inputs st (with_all ((stimulus_key tick ((system_of v.inputs).resource (path_at (system_of v.inputs) g.target.instance)) g.row, event_of v.inputs (Given g)) ∷ []) a) m)
     → ((limit from : ℕ) → from ≤ tick → IsReady v.inputs limit from v.machine → IsReady v.inputs limit from m)
-    → m.traffic.effects.lines.items ≡ v.machine.traffic.effects.lines.items → HasGiven s v (record v { rows = n; machine = m })
+    → m.traffic.outbox.lines.items ≡ v.machine.traffic.outbox.lines.items → HasGiven s v (record v { rows = n; machine = m })
 given_is v s g m n more running tick same later row is number given ready lines = record {
   talk = ap (λ z. record v { rows = z; machine = m }) more;
   stands = λ p was.

@@ -46,7 +46,7 @@ module _ (old : Talk) (p : Past) (was : StandsBy old p) (running : old.stage ≡
   from = (was.goes alive).0
 
   module _ (m : Machine) (more : List Taken) (chain : Chain (system_of i) old.steps (now i p) more)
-      (at : IsAt i (last (now i p) more).state (last (now i p) more).agenda m) (none : m.traffic.effects.lines.items ≡ []) where
+      (at : IsAt i (last (now i p) more).state (last (now i p) more).agenda m) (none : m.traffic.outbox.lines.items ≡ []) where
     abbrev pub then : Past
     then = record p { taken = p.taken ++ more }
 

@@ -27,7 +27,7 @@ module _ (v : Talk) (p : Past) (was : StandsBy v p) (running : v.stage ≡ stage
   f = (was.goes (alive v p was running)).0
 
   abbrev piece : List ℕ
-  piece = lines_text v.form (system_of i) (map (line_of (system_of i)) m1.traffic.effects.lines.items)
+  piece = lines_text v.form (system_of i) (map (line_of (system_of i)) m1.traffic.outbox.lines.items)
 
   ready : IsReady i v.steps f v.machine
   ready = (was.goes (alive v p was running)).2
@@ -38,7 +38,7 @@ module _ (v : Talk) (p : Past) (was : StandsBy v p) (running : v.stage ≡ stage
       ap (lines_text v.form (system_of i)) (x.lines ∙ ap (λ z. map (line_of (system_of i)) z ++ lines_of ts) (was.none (alive v p was running)))
 
   -- what is to be written are lines of the system
-  pub lines_belong : (s : Step) → Steps i (10 ^ 12) v.steps (now i p) v.machine m1 s → All (BelongsTo (system_of i)) m1.traffic.effects.lines.items
+  pub lines_belong : (s : Step) → Steps i (10 ^ 12) v.steps (now i p) v.machine m1 s → All (BelongsTo (system_of i)) m1.traffic.outbox.lines.items
   lines_belong Nothing s = (s.3 f ready).traffic.lines
   lines_belong (Took tick) s = (s.5 f ready).1.traffic.lines
   lines_belong (Stopped mark) s = (s.7 f ready).1.traffic.lines
@@ -56,7 +56,7 @@ module _ (v : Talk) (p : Past) (was : StandsBy v p) (running : v.stage ≡ stage
       (s.0 ∷ [], [], s.1.chain, inl refl, subst (λ (t : List ℕ). IsPartWritten w0 w1 t k) (piece_is (s.0 ∷ []) s.1 ∙ sym (append-nil (text_of i v.form (s.0 ∷ [])))) part)
 
   -- the lines were written and dropped
-  module _ (none : m2.traffic.effects.lines.items ≡ []) (on : (s : State) (a : Agenda) → IsAt i s a m1 → IsAt i s a m2)
+  module _ (none : m2.traffic.outbox.lines.items ≡ []) (on : (s : State) (a : Agenda) → IsAt i s a m1 → IsAt i s a m2)
       (clear : (t : ℕ) → IsReady i v.steps t m1 → IsReady i v.steps t m2) (w0 w1 : Option (List ℕ)) (got : Appends w0 w1 piece) (n : ℕ) (counted : n ≡ bounded (length piece)) where
     -- the bytes of what was taken are counted
     counted_on : (w : ℕ) (ts : List Taken) → w ≡ bounded (v.written + n) → piece ≡ text_of i v.form ts → bounded w ≡ bounded (v.written + length (text_of i v.form ts ++ stop_text (system_of i) v.stage))

@@ -61,7 +61,7 @@ pub record Gone (i : Inputs) (o : Reach) (bs : List Break) (c : Config) (old m :
   pub unbroken : AreUnbroken i o bs more
 
 module _ (i : Inputs) (o : Reach) (bs : List Break) where
-  pub gone_first : (c : Config) (m : Machine) (written : Option (List ℕ)) → IsAt i c.state c.agenda m → m.traffic.effects.lines.items ≡ [] → Gone i o bs c m m written written 0
+  pub gone_first : (c : Config) (m : Machine) (written : Option (List ℕ)) → IsAt i c.state c.agenda m → m.traffic.outbox.lines.items ≡ [] → Gone i o bs c m m written written 0
   gone_first c m written is none = record {
     more = [];
     run = record { chain = tt; at = is; none = none; got = Appends-nil written; counted = omega arith };
@@ -81,13 +81,13 @@ module _ (i : Inputs) (o : Reach) (bs : List Break) where
     d = last c g.more
 
     -- the lines that are there are those of the piece
-    piece_is : map (line_of (system_of i)) new.traffic.effects.lines.items ≡ lines_of taken
+    piece_is : map (line_of (system_of i)) new.traffic.outbox.lines.items ≡ lines_of taken
     piece_is = x.lines ∙ ap (λ z. map (line_of (system_of i)) z ++ lines_of taken) g.run.none
 
-    piece_text : lines_text o.form (system_of i) (map (line_of (system_of i)) new.traffic.effects.lines.items) ≡ text_of i o.form taken
+    piece_text : lines_text o.form (system_of i) (map (line_of (system_of i)) new.traffic.outbox.lines.items) ≡ text_of i o.form taken
     piece_text = ap (lines_text o.form (system_of i)) piece_is
 
-    pub cut_off : (now : Option (List ℕ)) (k : ℕ) → IsPartWritten mid now (lines_text o.form (system_of i) (map (line_of (system_of i)) new.traffic.effects.lines.items)) k
+    pub cut_off : (now : Option (List ℕ)) (k : ℕ) → IsPartWritten mid now (lines_text o.form (system_of i) (map (line_of (system_of i)) new.traffic.outbox.lines.items)) k
         → FailsRun i o c (fault.Write (bounded (n + k))) written now
     cut_off now k p = (
       g.more ++ taken,
@@ -96,9 +96,9 @@ module _ (i : Inputs) (o : Reach) (bs : List Break) where
           (part-after (text_of i o.form g.more) g.run.got g.run.counted (subst (λ (t : List ℕ). IsPartWritten mid now t k) piece_text p)),
     )
 
-    module _ (now : Option (List ℕ)) (k : ℕ) (got : Appends mid now (lines_text o.form (system_of i) (map (line_of (system_of i)) new.traffic.effects.lines.items)))
-        (counted : k ≡ bounded (length (lines_text o.form (system_of i) (map (line_of (system_of i)) new.traffic.effects.lines.items))))
-        (next : Machine) (none : next.traffic.effects.lines.items ≡ []) (on : (s : State) (a : Agenda) → IsAt i s a new → IsAt i s a next)
+    module _ (now : Option (List ℕ)) (k : ℕ) (got : Appends mid now (lines_text o.form (system_of i) (map (line_of (system_of i)) new.traffic.outbox.lines.items)))
+        (counted : k ≡ bounded (length (lines_text o.form (system_of i) (map (line_of (system_of i)) new.traffic.outbox.lines.items))))
+        (next : Machine) (none : next.traffic.outbox.lines.items ≡ []) (on : (s : State) (a : Agenda) → IsAt i s a new → IsAt i s a next)
         (ready : (t : ℕ) → IsReady i o.steps t new → IsReady i o.steps t next) where
       leads : last c (g.more ++ taken) ≡ last d taken
       leads = last_append g.more taken c
@@ -149,13 +149,13 @@ module _ (i : Inputs) (o : Reach) (bs : List Break) where
           }
 
       -- the lines that are there are those of the last event, where the others have none
-      last_lines : (before : List Taken) (t : Taken) → taken ≡ before ++ t ∷ [] → lines_of before ≡ [] → map (line_of (system_of i)) new.traffic.effects.lines.items ≡ t.effect.lines
+      last_lines : (before : List Taken) (t : Taken) → taken ≡ before ++ t ∷ [] → lines_of before ≡ [] → map (line_of (system_of i)) new.traffic.outbox.lines.items ≡ t.effect.lines
       last_lines before t is quiet =
           piece_is ∙ ap lines_of is ∙ lines_of-append before (t ∷ []) ∙ ap (λ z. z ++ (t.effect.lines ++ [])) quiet ∙ append-nil t.effect.lines
 
       -- no break is for a line that is there
       pub passes_here : (before : List Taken) (t : Taken) → taken ≡ before ++ t ∷ [] → (IsTrue o.is_watched → lines_of before ≡ [])
-          → (IsTrue o.is_watched → IsHitBy (system_of i) bs (map (line_of (system_of i)) new.traffic.effects.lines.items) None) → AreUnbroken i o bs taken
+          → (IsTrue o.is_watched → IsHitBy (system_of i) bs (map (line_of (system_of i)) new.traffic.outbox.lines.items) None) → AreUnbroken i o bs taken
       passes_here before t is quiet least watched =
           let P : Taken → Type 0 = λ (z : Taken). IsHitBy (system_of i) bs z.effect.lines None in
           subst (λ (zs : List Taken). PassBreaks (system_of i) bs zs) (sym is)
@@ -196,15 +196,15 @@ module _ (i : Inputs) (o : Reach) (bs : List Break) where
 
       -- a break is for the last event, of which a line is there
       pub break_here : (number tick : ℕ) → IsTrue o.is_watched → (before : List Taken) (t : Taken) → taken ≡ before ++ t ∷ [] → lines_of before ≡ []
-          → Each (λ (l : Line). l.key ≡ t.key) t.effect.lines → (l : run.Line) → Contains new.traffic.effects.lines.items l → l.key.tick ≡ tick
+          → Each (λ (l : Line). l.key ≡ t.key) t.effect.lines → (l : run.Line) → Contains new.traffic.outbox.lines.items l → l.key.tick ≡ tick
           → Each (λ (t : Taken). t.effect.stop ≡ None) taken → All (λ (t : Taken). t.key.tick < o.to) taken → Onward i o.to o.steps t.key.tick m new taken
-          → IsHitBy (system_of i) bs (map (line_of (system_of i)) new.traffic.effects.lines.items) (Some number) → EndsRun i o bs c old next (g.more ++ taken) (until.Break number tick)
+          → IsHitBy (system_of i) bs (map (line_of (system_of i)) new.traffic.outbox.lines.items) (Some number) → EndsRun i o bs c old next (g.more ++ taken) (until.Break number tick)
       break_here number tick watched before t is quiet its l there at going below y least =
           let less : t.key.tick < o.to = last_holds (λ (z : Taken). z.key.tick < o.to) before t (subst (λ zs. All (λ (z : Taken). z.key.tick < o.to) zs) is below) in
-          let lines : map (line_of (system_of i)) new.traffic.effects.lines.items ≡ t.effect.lines = last_lines before t is quiet in
+          let lines : map (line_of (system_of i)) new.traffic.outbox.lines.items ≡ t.effect.lines = last_lines before t is quiet in
           let own : l.key ≡ t.key =
           each_of (λ (z : Line). z.key ≡ t.key) t.effect.lines (line_of (system_of i) l) its
-          (subst (λ zs. Contains zs (line_of (system_of i) l)) lines (Contains-map (line_of (system_of i)) new.traffic.effects.lines.items l there)) in
+          (subst (λ zs. Contains zs (line_of (system_of i) l)) lines (Contains-map (line_of (system_of i)) new.traffic.outbox.lines.items l there)) in
           let same : t.key.tick ≡ tick = ap (λ (z : Key). z.tick) (sym own) ∙ at in (
             watched,
             going_more going,

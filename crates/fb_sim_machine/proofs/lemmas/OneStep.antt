@@ -21,5 +21,5 @@ pub one_gone : (i : Inputs) (limit : ℕ) (c : Config) (k : Key) (e : Event) (m 
 one_gone i limit c k e m new a stop is found least t = record {
   chain = (takes_least i limit c k e stop m.traffic.agenda (without_least m a) new is.agenda found least t, alone t.effect.stop, tt);
   at = t.at;
-  lines = t.lines ∙ ap (λ z. map (line_of (system_of i)) m.traffic.effects.lines.items ++ z) (sym (append-nil t.effect.lines));
+  lines = t.lines ∙ ap (λ z. map (line_of (system_of i)) m.traffic.outbox.lines.items ++ z) (sym (append-nil t.effect.lines));
 }

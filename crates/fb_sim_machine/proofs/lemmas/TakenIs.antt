@@ -67,16 +67,16 @@ elsewhere sys limit s k e x q other h = let m = begun limit k.tick (s.meters k.r
 -- ---- The machine
 
 -- An event was taken in its resource, and the messages were delivered: so the machine took it.
-pub taken_at : (i : Inputs) (limit : ℕ) (s : State) (a : Agenda) (k : Key) (e : AnEvent) (stop : Option Reason) (old new : Machine) (mid : Traffic) (resource_blocks : Forest) (meter : counted.TickCounts)
+pub taken_at : (i : Inputs) (limit : ℕ) (s : State) (a : Agenda) (k : Key) (e : AnEvent) (stop : Option Reason) (old new : Machine) (mid : Traffic) (tree : Forest) (meter : counted.TickCounts)
     → ((q : ℕ) (t : Forest) → slice_get old.trees.items q ≡ Some t → t.resource ≡ q)
     → k.resource < length old.trees.items → k.resource < length old.meters.items → (system_of i).resource (path_of e) ≡ k.resource
     → IsAt i s (without k a) old → old.traffic.mail.items ≡ []
-    → IsTakenHere i limit s k e stop 0 resource_blocks meter old.traffic mid
+    → IsTakenHere i limit s k e stop 0 tree meter old.traffic mid
     → ((j : Key) → meaning i new.traffic.agenda j ≡ or_else (found j (map (arriving i) mid.mail.items)) (meaning i mid.agenda j))
-    → new.trees.items ≡ slice_set old.trees.items k.resource resource_blocks → new.meters.items ≡ slice_set old.meters.items k.resource meter
-    → new.traffic.sent.items ≡ mid.sent.items → new.traffic.effects.lines.items ≡ mid.effects.lines.items
+    → new.trees.items ≡ slice_set old.trees.items k.resource tree → new.meters.items ≡ slice_set old.meters.items k.resource meter
+    → new.traffic.sent.items ≡ mid.sent.items → new.traffic.outbox.lines.items ≡ mid.outbox.lines.items
     → IsTaken i limit s a k e stop old new
-taken_at i limit s a k e stop old new mid resource_blocks meter ours has_tree has_meter home at none taken put trees meters sent lines = record {
+taken_at i limit s a k e stop old new mid tree meter ours has_tree has_meter home at none taken put trees meters sent lines = record {
   effect = effect;
   takes = taken.takes;
   stops = taken.stops;
@@ -103,15 +103,15 @@ taken_at i limit s a k e stop old new mid resource_blocks meter ours has_tree ha
 
     same : (q : ℕ) (t : Forest) (x : counted.TickCounts) → slice_get new.trees.items q ≡ Some t → slice_get new.meters.items q ≡ Some x → q ≡ k.resource → IsHere i effect.state q 0 t x
     same q t x its_tree its_meter is =
-        let t_at : slice_get (slice_set old.trees.items k.resource resource_blocks) k.resource ≡ Some t = sym (ap (λ ts. slice_get ts k.resource) trees) ∙ ap (slice_get new.trees.items) (sym is) ∙ its_tree in
+        let t_at : slice_get (slice_set old.trees.items k.resource tree) k.resource ≡ Some t = sym (ap (λ ts. slice_get ts k.resource) trees) ∙ ap (slice_get new.trees.items) (sym is) ∙ its_tree in
         let x_at : slice_get (slice_set old.meters.items k.resource meter) k.resource ≡ Some x = sym (ap (λ ms. slice_get ms k.resource) meters) ∙ ap (slice_get new.meters.items) (sym is) ∙ its_meter in
         subst (λ n. IsHere i effect.state n 0 t x) (sym is)
-        (subst (λ z. IsHere i effect.state k.resource 0 z x) (set_here old.trees.items k.resource resource_blocks t has_tree t_at)
-        (subst (λ z. IsHere i effect.state k.resource 0 resource_blocks z) (set_here old.meters.items k.resource meter x has_meter x_at) taken.here))
+        (subst (λ z. IsHere i effect.state k.resource 0 z x) (set_here old.trees.items k.resource tree t has_tree t_at)
+        (subst (λ z. IsHere i effect.state k.resource 0 tree z) (set_here old.meters.items k.resource meter x has_meter x_at) taken.here))
 
     apart : (q : ℕ) (t : Forest) (x : counted.TickCounts) → slice_get new.trees.items q ≡ Some t → slice_get new.meters.items q ≡ Some x → q ≢ k.resource → IsHere i effect.state q 0 t x
     apart q t x its_tree its_meter other =
-        let had : slice_get old.trees.items q ≡ Some t = set_apart old.trees.items k.resource q resource_blocks t other (sym (ap (λ ts. slice_get ts q) trees) ∙ its_tree) in
+        let had : slice_get old.trees.items q ≡ Some t = set_apart old.trees.items k.resource q tree t other (sym (ap (λ ts. slice_get ts q) trees) ∙ its_tree) in
         let had_meter : slice_get old.meters.items q ≡ Some x = set_apart old.meters.items k.resource q meter x other (sym (ap (λ ms. slice_get ms q) meters) ∙ its_meter) in
         let was = at.here q t x had had_meter in
         let stays = elsewhere sys limit s k e effect q other taken.takes in

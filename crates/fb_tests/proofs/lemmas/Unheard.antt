@@ -22,7 +22,7 @@ unmapped f (Some x) e = absurd cc
 
 pub unheard : (i : Inputs) (n : ℕ) (x : Resource) → IsSound (system_of i)
     → ((limit : ℕ) → Represents i limit (local_of (system_of i) limit n (opening (system_of i) (stimuli_of i)) None) x)
-    → (j : Key) → j.class ≡ 2 → j.resource ≡ x.resource_blocks.resource → waiting x.agenda j ≡ None
+    → (j : Key) → j.class ≡ 2 → j.resource ≡ x.tree.resource → waiting x.agenda j ≡ None
 unheard i n x sound represents j two here =
     let arrival : (j.class == 2) ≡ true = eq-eqb j.class 2 two in
     unmapped _ (waiting x.agenda j)

@@ -1,5 +1,5 @@
 -- What the emission of output events makes of a world, of the lines and of what goes out.
-use Rattle.fb_net.proofs.lemmas.Common.{◌≡◌, ℕ, ◌<◌, false, List, [], ◌∷◌, ◌++◌, map, length, refl, sym, ap, subst, ◌∙◌, suc, append_assoc, arith, All, Some, slice_get, map-append, none-some, Bound, Emission, Inputs, system_of, Name, Path, Port, carried_of, emission_of, event_at, event_output, line_of, pair_up, path_at, ports_at, Outcome, World, emitted_all, spread, with_block, System, Key, Variable, Carried, Line, Value, AreIndexes, variable_at, IsEmission, Changes, IsForest, Forest, carried_by, outputs_at, outputs_shown, IsOut, RepresentsOutcome, out_of, Effects}
+use Rattle.fb_net.proofs.lemmas.Common.{◌≡◌, ℕ, ◌<◌, false, List, [], ◌∷◌, ◌++◌, map, length, refl, sym, ap, subst, ◌∙◌, suc, append_assoc, arith, All, Some, slice_get, map-append, none-some, Bound, Emission, Inputs, system_of, Name, Path, Port, carried_of, emission_of, event_at, event_output, line_of, pair_up, path_at, ports_at, Outcome, World, emitted_all, spread, with_block, System, Key, Variable, Carried, Line, Value, AreIndexes, variable_at, IsEmission, Changes, IsForest, Forest, carried_by, outputs_at, outputs_shown, IsOut, RepresentsOutcome, out_of, Outbox}
 use Rattle.fb_types.proofs.Common.{slice_index_or, All-append, All-push, outputs_with, carried_from, emitted}
 use Rattle.fb_types.specs.Reactions as reactions
 use Rattle.fb_types.specs.States as model
@@ -64,11 +64,11 @@ emitted_all-append sys key p [] ds o = refl
 emitted_all-append sys key p (e ∷ es) ds o = emitted_all-append sys key p es ds (emitted sys key p e o)
 
 pub nothing_emitted :
-    (i : Inputs) (key : Key) (k : ℕ) (f : Forest) (x : Effects) → HasEmitted i key k f x [] f x
+    (i : Inputs) (key : Key) (k : ℕ) (f : Forest) (x : Outbox) → HasEmitted i key k f x [] f x
 nothing_emitted i key k f x = record { emitted = λ before o h. h; outs = λ were. were; resource = refl }
 
 pub more_emitted :
-    (i : Inputs) (key : Key) (k : ℕ) (f g h : Forest) (x y z : Effects) (es ds : List run.Emission)
+    (i : Inputs) (key : Key) (k : ℕ) (f g h : Forest) (x y z : Outbox) (es ds : List run.Emission)
     → HasEmitted i key k f x es g y → HasEmitted i key k g y ds h z → HasEmitted i key k f x (es ++ ds) h z
 more_emitted i key k f g h x y z es ds first then =
     let sys = system_of i in
@@ -90,7 +90,7 @@ abbrev pub line_by : Key → (instance : ℕ) → run.Emission → Line
 line_by key k e = record { key = key; taken = false; instance = k; event = e.event; values = e.values }
 
 -- how an emission was done
-pub record Doing (i : Inputs) (key : Key) (k : ℕ) (f : Forest) (x : Effects) (e : run.Emission) (g : Forest) (y : Effects) : Type 0 where
+pub record Doing (i : Inputs) (key : Key) (k : ℕ) (f : Forest) (x : Outbox) (e : run.Emission) (g : Forest) (y : Outbox) : Type 0 where
   pub indexes : List ℕ
   pub stand : AreIndexes (ports_at (system_of i) (path_at (system_of i) k)).outputs
       (outputs_with (ports_at (system_of i) (path_at (system_of i) k)) (event_at (ports_at (system_of i) (path_at (system_of i) k)).event_outputs e.event)) indexes
@@ -113,7 +113,7 @@ same_values :
     → outputs_at sys k indexes e.values ≡ (emission_of (ports_at sys (path_at sys k)) e).values
 same_values sys k e indexes stand = ap (λ (ns : List Name). pair_up ns e.values) stand.named
 
-module _ (i : Inputs) (key : Key) (k : ℕ) (f : Forest) (x : Effects) (e : run.Emission) (g : Forest) (y : Effects) (done : Doing i key k f x e g y) where
+module _ (i : Inputs) (key : Key) (k : ℕ) (f : Forest) (x : Outbox) (e : run.Emission) (g : Forest) (y : Outbox) (done : Doing i key k f x e g y) where
   abbrev sys : System
   sys = system_of i
 

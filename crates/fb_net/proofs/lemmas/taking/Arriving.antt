@@ -1,5 +1,5 @@
 -- The arrival of an event at an event block or a composite is what the model makes of it.
-use Rattle.fb_net.proofs.lemmas.Common.{◌≡◌, ◌≤◌, ℕ, true, false, List, [], ◌∷◌, ◌++◌, length, map, refl, sym, ap, subst, ◌∙◌, arith, All, Some, append-nil, Event, Bound, Emission, ports_of, ports_of_event_block, variable_names, Inputs, system_of, Name, Path, Port, carried_of, emission_of, event_at, line_of, pair_up, path_at, port_of, ports_at, Outcome, World, emissions, emitted_all, memory_of, spread, taking, System, Values, EventKind, Key, Ports, Variable, Target, TimerAsk, Value, IsEmission, RepresentsOutcome, asked, gathered, out_of, Out, Effects, EventCame, taken_reaction, InForest, IsForest, Forest, ComesTo, IsReady, entering, leaving, sampling}
+use Rattle.fb_net.proofs.lemmas.Common.{◌≡◌, ◌≤◌, ℕ, true, false, List, [], ◌∷◌, ◌++◌, length, map, refl, sym, ap, subst, ◌∙◌, arith, All, Some, append-nil, Event, Bound, Emission, ports_of, ports_of_event_block, variable_names, Inputs, system_of, Name, Path, Port, carried_of, emission_of, event_at, line_of, pair_up, path_at, port_of, ports_at, Outcome, World, emissions, emitted_all, memory_of, spread, taking, System, Values, EventKind, Key, Ports, Variable, Target, TimerAsk, Value, IsEmission, RepresentsOutcome, asked, gathered, out_of, Out, Outbox, EventCame, taken_reaction, InForest, IsForest, Forest, ComesTo, IsReady, entering, leaving, sampling}
 use Rattle.fb_types.proofs.Common.{bound, outputs_with, answered, crossing_out, emitted, from_inside, remembered, silent}
 use Rattle.fb_types.specs.EventBlocks as blocks
 use Rattle.fb_types.specs.Reactions as reactions
@@ -81,12 +81,12 @@ module _ (i : Inputs) (k : Key) (kind : EventKind) (at : Target) (is : (system_o
       ap (λ (x : Ports). taking sys k w (port_of sys at) x left) ports ∙ ap (λ (z : Port). taking sys k w z its left) port
 
   -- the blocks once the event is taken
-  begun-represents : (old mid : Forest) (x y : Effects) → ComesTo i (sampling i k at) old x mid y
+  begun-represents : (old mid : Forest) (x y : Outbox) → ComesTo i (sampling i k at) old x mid y
       → (w : World) (left : ℕ) → IsForest i old w → RepresentsOutcome i (gathered i x) mid y (begun w left)
   begun-represents old mid x y taken w left h = subst (λ (o : Outcome). RepresentsOutcome i (gathered i x) mid y o) (begun-is w left) (taken w left h)
 
   -- the blocks hold values of their types once the event is taken
-  pub event-typed : (old mid : Forest) (x y : Effects) → ComesTo i (sampling i k at) old x mid y → IsTypedSystem sys → AreTypedAt i old → InForest i mid at.instance
+  pub event-typed : (old mid : Forest) (x y : Outbox) → ComesTo i (sampling i k at) old x mid y → IsTypedSystem sys → AreTypedAt i old → InForest i mid at.instance
       → (w : World) × IsForest i mid w × InForest i mid at.instance × HasTypedInputs i kind at.instance w
   event-typed old mid x y taken sound typed lies =
       let w : World = typed.0 in (
@@ -97,7 +97,7 @@ module _ (i : Inputs) (k : Key) (kind : EventKind) (at : Target) (is : (system_o
       )
 
   -- The event block has reacted, and what it emits was put out.
-  pub event-reacts : (old mid late new : Forest) (x y z : Effects) (ask : TimerAsk) (emits : List run.Emission)
+  pub event-reacts : (old mid late new : Forest) (x y z : Outbox) (ask : TimerAsk) (emits : List run.Emission)
       → ComesTo i (sampling i k at) old x mid y → InForest i mid at.instance
       → ((w : World) → IsForest i mid w → InForest i mid at.instance → EventCame i at.instance kind (taken_reaction i kind at k.tick w) late ask emits w)
       → ((before : Gathered) (o : Outcome) → RepresentsOutcome i before late (record y { timer = asked y.timer ask }) o
@@ -119,7 +119,7 @@ module _ (i : Inputs) (k : Key) (kind : EventKind) (at : Target) (is : (system_o
 -- ---- Basic blocks
 
 -- The line of an event at a leaf and what the leaf emits were put out.
-pub wrote-so : (i : Inputs) (k : Key) (at : ℕ) (line : Line) (es : List Emission) (old new : Forest) (x y z : Effects)
+pub wrote-so : (i : Inputs) (k : Key) (at : ℕ) (line : Line) (es : List Emission) (old new : Forest) (x y z : Outbox)
     → map (line_of (system_of i)) y.lines.items ≡ map (line_of (system_of i)) x.lines.items ++ line ∷ []
     → y.outs.items ≡ x.outs.items → y.timer ≡ x.timer
     → ((before : Gathered) (o : Outcome) → RepresentsOutcome i before old y o → RepresentsOutcome i before new z (emitted_all (system_of i) k (path_at (system_of i) at) es o))
@@ -143,7 +143,7 @@ sent-of i r at before after =
     ++ spread (system_of i) r (map (carried_of (system_of i)) []) ((system_of i).targets (port_of (system_of i) at))
 
 -- An event has gone on inside.
-pub enters : (i : Inputs) (k : Key) (at : Target) (old mid : Forest) (x y z : Effects) → ComesTo i (sampling i k at) old x mid y → IsReady k mid
+pub enters : (i : Inputs) (k : Key) (at : Target) (old mid : Forest) (x y z : Outbox) → ComesTo i (sampling i k at) old x mid y → IsReady k mid
     → z.lines.items ≡ y.lines.items → z.timer ≡ y.timer
     → sent-of i mid.resource at y.outs.items z.outs.items → ComesTo i (entering i k at) old x mid z
 enters i k at old mid x y z taken ready lines timer sent w left h =
@@ -159,7 +159,7 @@ enters i k at old mid x y z taken ready lines timer sent w left h =
     }
 
 -- An event has left, with what the composite shows.
-pub leaves : (i : Inputs) (k : Key) (at : Target) (old new : Forest) (x y : Effects) (values : List Value) (emits : List run.Emission)
+pub leaves : (i : Inputs) (k : Key) (at : Target) (old new : Forest) (x y : Outbox) (values : List Value) (emits : List run.Emission)
     → IsReady k old → at.is_output ≡ true → InForest i old at.instance → AreShown i old at values
     → emits ≡ record { event = at.event; values = values } ∷ []
     → ((before : Gathered) (o : Outcome) → RepresentsOutcome i before old x o → RepresentsOutcome i before new y

@@ -1,5 +1,5 @@
 -- Taking an event is what the model makes of it, by what the event is.
-use Rattle.fb_net.proofs.lemmas.Common.{◌≡◌, ℕ, List, map, refl, sym, ap, subst, ◌∙◌, None, Option, Some, Result, Ok, Err, append-nil, Bound, Emission, Event, ports_of, kind_of, Inputs, system_of, Path, Port, carried_of, emission_of, line_of, path_at, port_of, ports_at, Outcome, World, emissions, emitted_all, System, EventKind, Key, BlockType, Ports, Halt, Target, TimerAsk, Value, InputValue, RepresentsOutcome, asked, gathered, out_of, Effects, EventCame, HoldsAll, Changes, InForest, IsForest, Forest, Arrives, ComesTo, HasReacted, AreKept}
+use Rattle.fb_net.proofs.lemmas.Common.{◌≡◌, ℕ, List, map, refl, sym, ap, subst, ◌∙◌, None, Option, Some, Result, Ok, Err, append-nil, Bound, Emission, Event, ports_of, kind_of, Inputs, system_of, Path, Port, carried_of, emission_of, line_of, path_at, port_of, ports_at, Outcome, World, emissions, emitted_all, System, EventKind, Key, BlockType, Ports, Halt, Target, TimerAsk, Value, InputValue, RepresentsOutcome, asked, gathered, out_of, Outbox, EventCame, HoldsAll, Changes, InForest, IsForest, Forest, Arrives, ComesTo, HasReacted, AreKept}
 use Rattle.fb_types.proofs.Common.{Reacts, ReactsAt, expires, hold_all, remembered, silent, with_slots, Stimulated, path_of}
 use Rattle.fb_types.specs.declared.run.Message.{Message}
 use Rattle.fb_types.specs.declared.value.Reason.{Reason}
@@ -27,7 +27,7 @@ use Rattle.fb_net.proofs.lemmas.values.Sampling.{ports-of_kind}
 -- ---- From the arrival to the taking
 
 -- An event is taken by what it brings first, and by its arrival then.
-module _ (i : Inputs) (k : Key) (e : Waiting) (at : Target) (old mid new : Forest) (x y : Effects) (left after : ℕ) (brings : World → World)
+module _ (i : Inputs) (k : Key) (e : Waiting) (at : Target) (old mid new : Forest) (x y : Outbox) (left after : ℕ) (brings : World → World)
     (brought : (w : World) → IsForest i old w → IsForest i mid (brings w))
     (takes : (w : World) (o : Outcome) → Arrives i k at left (brings w) o → Reacts (system_of i) k w (event_of i e) left o) where
   came : (stop : Option Reason) → ReactedIn i (Arrives i k at left) mid x stop new after y → Came i k e old x left stop new after y
@@ -47,7 +47,7 @@ arrives-at i k at left w o h =
     subst (λ (p : Path). ReactsAt (system_of i) k w (port_of (system_of i) at) left ((system_of i).kind p) o) (sym (path-of_port (system_of i) at)) h
 
 -- A local event is its arrival.
-pub local-taken : (i : Inputs) (k : Key) (at : Target) (old new : Forest) (x y : Effects) (left after : ℕ) (r : Result (Unit {0}) Halt)
+pub local-taken : (i : Inputs) (k : Key) (at : Target) (old new : Forest) (x y : Outbox) (left after : ℕ) (r : Result (Unit {0}) Halt)
     → HasReacted i (Arrives i k at left) old x r new after y → HasTaken i k (waits.Local at) old x left r new after y
 local-taken i k at old new x y left after r h =
     taken-by_arrival i k (waits.Local at) at old old new x y left after (λ w. w) (λ w represents. represents) (arrives-at i k at left) r h
@@ -63,7 +63,7 @@ module _ (i : Inputs) (k : Key) (m : Message) (old mid : Forest) (holds : HoldsA
       let w : World = typed.0 in
       (record w { held = hold_all carried w.held }, holds.represents w typed.1, held_typed (system_of i) w typed.2 carried event)
 
-  pub arrival-taken : (new : Forest) (x y : Effects) (left after : ℕ) (r : Result (Unit {0}) Halt)
+  pub arrival-taken : (new : Forest) (x y : Outbox) (left after : ℕ) (r : Result (Unit {0}) Halt)
       → HasReacted i (Arrives i k m.target left) mid x r new after y → HasTaken i k (waits.Arrival m) old x left r new after y
   arrival-taken new x y left after r h =
       taken-by_arrival i k (waits.Arrival m) m.target old mid new x y left after (λ w. record w { held = hold_all carried w.held }) holds.represents
@@ -121,7 +121,7 @@ module _ (i : Inputs) (e : Waiting) (at : Target) (xs : List InputValue)
         subst (λ (z : model.Event). Reacts sys k w z left o) (sym is)
         (subst (λ (z : Path). ReactsAt sys k (with_slots z sets w) q left (sys.kind z) o) (sym (path-of_port sys at)) h)
 
-    pub stimulus-taken : (new : Forest) (x y : Effects) (left after : ℕ) (r : Result (Unit {0}) Halt)
+    pub stimulus-taken : (new : Forest) (x y : Outbox) (left after : ℕ) (r : Result (Unit {0}) Halt)
         → HasReacted i (Arrives i k at left) mid x r new after y → HasTaken i k e old x left r new after y
     stimulus-taken new x y left after r h =
         taken-by_arrival i k e at old mid new x y left after (with_slots p sets) brought (takes left) r h
@@ -129,7 +129,7 @@ module _ (i : Inputs) (e : Waiting) (at : Target) (xs : List InputValue)
 -- ---- Timers
 
 -- nothing was put out yet
-silent-represents : (i : Inputs) (f : Forest) (x : Effects) (w : World) (left : ℕ) → IsForest i f w
+silent-represents : (i : Inputs) (f : Forest) (x : Outbox) (w : World) (left : ℕ) → IsForest i f w
     → RepresentsOutcome i (gathered i x) f x (silent w left)
 silent-represents i f x w left h = record {
   world = h;
@@ -139,7 +139,7 @@ silent-represents i f x w left h = record {
 }
 
 -- An event block has reacted to its timer, and what it emits was put out.
-pub timer-expires : (i : Inputs) (k : Key) (kind : EventKind) (at : ℕ) (old late new : Forest) (x y : Effects) (ask : TimerAsk) (emits : List run.Emission)
+pub timer-expires : (i : Inputs) (k : Key) (kind : EventKind) (at : ℕ) (old late new : Forest) (x y : Outbox) (ask : TimerAsk) (emits : List run.Emission)
     → (system_of i).kind (path_at (system_of i) at) ≡ Some (Event kind) → InForest i old at
     → ((w : World) → IsForest i old w → InForest i old at → EventCame i at kind (expiry_reaction i kind at k.tick w) late ask emits w)
     → ((before : Gathered) (o : Outcome) → RepresentsOutcome i before late (record x { timer = asked x.timer ask }) o → RepresentsOutcome i before new y
@@ -160,7 +160,7 @@ timer-expires i k kind at old late new x y ask emits is here comes put_out w lef
     (put_out (gathered i x) (remembered p r (silent w left)) settled)
 
 -- The timer of an event block was taken.
-pub timer-taken : (i : Inputs) (k : Key) (kind : EventKind) (at : ℕ) (old new : Forest) (x y : Effects)
+pub timer-taken : (i : Inputs) (k : Key) (kind : EventKind) (at : ℕ) (old new : Forest) (x y : Outbox)
     → (system_of i).kind (path_at (system_of i) at) ≡ Some (Event kind) → ComesTo i (expiring i k kind at) old x new y
     → (left : ℕ) → Came i k (waits.Timer at) old x left None new left y
 timer-taken i k kind at old new x y is represents left w h =
@@ -181,7 +181,7 @@ rests i k p w left None = refl
 rests i k p w left (Some (block.Basic t)) = refl
 rests i k p w left (Some (block.Composite t)) = refl
 
-pub timer-rests : (i : Inputs) (k : Key) (at : ℕ) (declared : Option BlockType) (f : Forest) (x : Effects)
+pub timer-rests : (i : Inputs) (k : Key) (at : ℕ) (declared : Option BlockType) (f : Forest) (x : Outbox)
     → option_map kind_of declared ≡ (system_of i).kind (path_at (system_of i) at) → (left : ℕ) → Came i k (waits.Timer at) f x left None f left x
 timer-rests i k at declared f x is left w h =
     let sys = system_of i in

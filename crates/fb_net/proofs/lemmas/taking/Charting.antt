@@ -1,5 +1,5 @@
 -- The arrival of an event at a basic block is what the model makes of it, also where a reason stops it.
-use Rattle.fb_net.proofs.lemmas.Common.{◌≡◌, ℕ, Bool, true, false, cond, List, [], ◌∷◌, map, refl, sym, ap, subst, ◌∙◌, None, Option, Some, Result, Ok, Err, fun_ext, Kind, Basic, Emission, inputs_with, Inputs, system_of, Path, Port, same_path, emission_of, event_at, line_of, path_at, ports_at, Outcome, World, emitted_all, taking, with_block, System, Values, Key, BasicType, Ports, Halt, Target, Value, gathered, RepresentsOutcome, Effects, InForest, IsForest, Forest, Arrives, HasReacted, IsReady}
+use Rattle.fb_net.proofs.lemmas.Common.{◌≡◌, ℕ, Bool, true, false, cond, List, [], ◌∷◌, map, refl, sym, ap, subst, ◌∙◌, None, Option, Some, Result, Ok, Err, fun_ext, Kind, Basic, Emission, inputs_with, Inputs, system_of, Path, Port, same_path, emission_of, event_at, line_of, path_at, ports_at, Outcome, World, emitted_all, taking, with_block, System, Values, Key, BasicType, Ports, Halt, Target, Value, gathered, RepresentsOutcome, Outbox, InForest, IsForest, Forest, Arrives, HasReacted, IsReady}
 use Rattle.fb_types.proofs.Common.{ChartReacts, Position, ReactsAt, charted, emitted, sampled, settled, start_of, state_of}
 use Rattle.fb_types.specs.declared.value.Reason.{Reason}
 use Rattle.fb_types.specs.States as model
@@ -49,7 +49,7 @@ start_at b left = record { state = state_of b.memory; vars = b.variables; left =
 
 -- A basic block t has reacted to an event with values that it sampled, and line and emissions were written.
 module _ (i : Inputs) (k : Key) (at : Target) (t : BasicType) (is : (system_of i).kind (path_at (system_of i) at.instance) ≡ Some (Basic t))
-    (input : at.is_output ≡ false) (old mid new : Forest) (x y : Effects) (ready : IsReady k old) (here : InForest i old at.instance)
+    (input : at.is_output ≡ false) (old mid new : Forest) (x y : Outbox) (ready : IsReady k old) (here : InForest i old at.instance)
     (values : List Value) (are : AreSampled i old at values) (before after : ℕ) (emits : List run.Emission)
     (wrote : WritesAndEmits i k at.instance (line_of (system_of i) (taken_line k at values))
     (map (emission_of (ports_at (system_of i) (path_at (system_of i) at.instance))) emits) mid x new y) where

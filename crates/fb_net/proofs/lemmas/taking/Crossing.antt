@@ -1,5 +1,5 @@
 -- What arrives at an instance is taken as its kind says.
-use Rattle.fb_net.proofs.lemmas.Common.{◌≡◌, ◌<◌, inl, inr, ℕ, Bool, true, false, cond, List, [], ◌∷◌, ◌++◌, length, Contains, refl, sym, ap, subst, ◌∙◌, None, Option, Some, Result, Ok, Err, slice_get, slice_get_within, Kind, Composite, Event, ports_of, variable_names, AreAccepted, Inputs, system_of, Name, Path, Port, event_at, path_at, port_of, ports_at, Outcome, World, emissions, memory_of, taking, Twice, System, EventKind, Key, BlockType, CompositeType, Ports, Halt, Target, Effects, Forest, Arrives, ComesTo, HasReacted, entering, leaving, Remembered}
+use Rattle.fb_net.proofs.lemmas.Common.{◌≡◌, ◌<◌, inl, inr, ℕ, Bool, true, false, cond, List, [], ◌∷◌, ◌++◌, length, Contains, refl, sym, ap, subst, ◌∙◌, None, Option, Some, Result, Ok, Err, slice_get, slice_get_within, Kind, Composite, Event, ports_of, variable_names, AreAccepted, Inputs, system_of, Name, Path, Port, event_at, path_at, port_of, ports_at, Outcome, World, emissions, memory_of, taking, Twice, System, EventKind, Key, BlockType, CompositeType, Ports, Halt, Target, Outbox, Forest, Arrives, ComesTo, HasReacted, entering, leaving, Remembered}
 use Rattle.fb_types.proofs.Common.{⊎_elim, IfErr, OnOk, false_from_ne_true, length-map, Contains-append_right, Contains-get_or, get_or_from_slice_get, unwrap_or-slice_get, event_names, is_event_input, ReactsAt, answered, crossing_in, crossing_out, remembered}
 use Rattle.fb_types.specs.declared.library.EventPort.{EventPort}
 use Rattle.fb_types.specs.EventBlocks as blocks
@@ -17,7 +17,7 @@ use Rattle.fb_net.proofs.lemmas.values.Sampling.{input_port, output_port, ports-
 -- ---- How a reaction ended
 
 -- A step that did not stop is a reaction of the model.
-pub done-reacted : (i : Inputs) (step : World → ℕ → Outcome) (Comes : World → Outcome → Type 0) (old new : Forest) (x y : Effects) (left : ℕ)
+pub done-reacted : (i : Inputs) (step : World → ℕ → Outcome) (Comes : World → Outcome → Type 0) (old new : Forest) (x y : Outbox) (left : ℕ)
     → ((w : World) → Comes w (step w left)) → ((w : World) → (step w left).stop ≡ None) → ((w : World) → (step w left).left ≡ left)
     → ComesTo i step old x new y → ReactedIn i Comes old x None new left y
 done-reacted i step Comes old new x y left comes stops leaves represents w h = record {
@@ -29,7 +29,7 @@ done-reacted i step Comes old new x y left comes stops leaves represents w h = r
 }
 
 -- However a reaction ended that nothing stops, its result is what it says.
-pub reacted-ended : (i : Inputs) (Comes : World → Outcome → Type 0) (old new : Forest) (x y : Effects) (left : ℕ) (r : Result (Unit {0}) Halt)
+pub reacted-ended : (i : Inputs) (Comes : World → Outcome → Type 0) (old new : Forest) (x y : Outbox) (left : ℕ) (r : Result (Unit {0}) Halt)
     → IfErr r (λ h. h ≡ halt.Memory) → OnOk r (ReactedIn i Comes old x None new left y) → HasReacted i Comes old x r new left y
 reacted-ended i Comes old new x y left (Ok u) memory done = done
 reacted-ended i Comes old new x y left (Err (halt.Stop s)) memory done = absurd cc

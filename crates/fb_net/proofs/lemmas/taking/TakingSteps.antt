@@ -1,5 +1,5 @@
 -- A taking goes on after a step of it, of the same system and under the same key.
-use Rattle.fb_net.proofs.lemmas.Common.{◌≡◌, ◌<◌, ◌++◌, ℕ, List, Result, Ok, Err, length, refl, sym, ap, subst, ◌∙◌, Inputs, system_of, Outcome, World, Key, ComesTo, IsReady, StillAreOuts, AreKept, Effects, Forest}
+use Rattle.fb_net.proofs.lemmas.Common.{◌≡◌, ◌<◌, ◌++◌, ℕ, List, Result, Ok, Err, length, refl, sym, ap, subst, ◌∙◌, Inputs, system_of, Outcome, World, Key, ComesTo, IsReady, StillAreOuts, AreKept, Outbox, Forest}
 use Rattle.fb_types.proofs.Common.{OnOk}
 use Rattle.fb_types.specs.declared.run.Emission.{Emission}
 use Rattle.fb_net.specs.Emitting.{HasEmitted}
@@ -21,7 +21,7 @@ already P a b same h = subst (λ (k : Key). P a.system.now k) same.key (subst (�
 -- nothing has changed
 pub stays-whole : (a : Taking) → StaysWhole a a
 stays-whole a = record {
-  same = record { system = refl; key = refl; forest = refl; effects = refl };
+  same = record { system = refl; key = refl; forest = refl; outbox = refl };
   kept = kept-same a.system.now a.forest.now;
 }
 
@@ -37,15 +37,15 @@ whole-after a b c first next = record {
     system = next.same.system ∙ first.same.system;
     key = next.same.key ∙ first.same.key;
     forest = next.same.forest ∙ first.same.forest;
-    effects = next.same.effects ∙ first.same.effects;
+    outbox = next.same.outbox ∙ first.same.outbox;
   };
   kept = kept-after a b c first.same first.kept next.kept;
 }
 
 pub emitted-after : (a b c : Taking) (n : ℕ) (es ds : List Emission) → IsSame a b → EmitsWell a n es b → EmitsWell b n ds c → EmitsWell a n (es ++ ds) c
 emitted-after a b c n es ds same first next =
-    more_emitted a.system.now a.key.now n a.forest.now b.forest.now c.forest.now a.effects.now b.effects.now c.effects.now es ds first
-    (already (λ (i : Inputs) (k : Key). HasEmitted i k n b.forest.now b.effects.now ds c.forest.now c.effects.now) a b same next)
+    more_emitted a.system.now a.key.now n a.forest.now b.forest.now c.forest.now a.outbox.now b.outbox.now c.outbox.now es ds first
+    (already (λ (i : Inputs) (k : Key). HasEmitted i k n b.forest.now b.outbox.now ds c.forest.now c.outbox.now) a b same next)
 
 pub ready-after : (a b : Taking) → StaysWhole a b → MayBegin a → IsReady a.key.now b.forest.now
 ready-after a b whole ready = record { resource = ready.resource ∙ sym whole.kept.resource }
@@ -59,15 +59,15 @@ may-emit-again a b n whole may = record {
 
 -- a step that did not fail has its result, and what it put out belongs to the system
 pub done-well :
-    {E : Type 0} (step : World → ℕ → Outcome) (a b : Taking) (r : Result (Unit {0}) E) → OnOk r (ComesTo a.system.now step a.forest.now a.effects.now b.forest.now b.effects.now)
+    {E : Type 0} (step : World → ℕ → Outcome) (a b : Taking) (r : Result (Unit {0}) E) → OnOk r (ComesTo a.system.now step a.forest.now a.outbox.now b.forest.now b.outbox.now)
     → OnOk r (ArePutOut a b) → OnOk r (HasDone step a b)
 done-well step a b (Ok u) comes outs = record { comes = comes; outs = outs }
 done-well step a b (Err e) comes outs = tt
 
-pub put-out-after : (a b : Taking) (f : Forest) (x : Effects) → IsSame a b → ArePutOut a b → StillAreOuts b.system.now b.forest.now b.effects.now f x → StillAreOuts a.system.now a.forest.now a.effects.now f x
+pub put-out-after : (a b : Taking) (f : Forest) (x : Outbox) → IsSame a b → ArePutOut a b → StillAreOuts b.system.now b.forest.now b.outbox.now f x → StillAreOuts a.system.now a.forest.now a.outbox.now f x
 put-out-after a b f x same first next were =
     already (λ (i : Inputs) (k : Key). AreOuts (system_of i) f.resource x) a b same
-    (next (still (λ (i : Inputs) (k : Key). AreOuts (system_of i) b.forest.now.resource b.effects.now) a b same (first were)))
+    (next (still (λ (i : Inputs) (k : Key). AreOuts (system_of i) b.forest.now.resource b.outbox.now) a b same (first were)))
 
 -- Of some emissions those before the rest were made.
 pub record EmittedSoFar (a b : Taking) (n : ℕ) (all rest : List Emission) : Type 0 where

@@ -5,7 +5,7 @@ use Rattle.fb_types.specs.Reactions as reactions
 use Rattle.fb_system.specs.declared.next_target.NextTarget.{NextTarget}
 use Rattle.fb_system.specs.Ports.{AreTogether, IsCarried, IsTarget, link_of}
 use Rattle.fb_net.specs.Emitting.{GoesTo, PutsOut, message_to, out_at, out_to}
-use Rattle.fb_net.specs.declared.effects.Out.TheVariants.{Local}
+use Rattle.fb_net.specs.declared.outbox.Out.TheVariants.{Local}
 use Rattle.fb_net.proofs.lemmas.emitting.PortRows.{path-of_port}
 
 -- ---- One target

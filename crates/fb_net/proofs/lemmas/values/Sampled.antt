@@ -56,48 +56,48 @@ module _ (i : Inputs) (x : InstanceVariable) (variable : IsVariable (system_of i
 
 -- a source in the resource shows what connections see at it
 pub shown_here : (i : Inputs) (t : Forest) (x : InstanceVariable) (v : Value) → InForest i t x.instance → Sees i t x v → Shows i t x v
-shown_here i t x v lies sees w resource_blocks read is_source =
+shown_here i t x v lies sees w tree read is_source =
     let sys = system_of i in
     let q = variable_of sys x in
     let at : sys.resource q.at ≡ t.resource = ap sys.resource (at_is sys x) ∙ lies in
     let test : (sys.resource q.at == t.resource) ≡ true = grind (arith, nat_tests) in
-    sees w resource_blocks lies is_source ∙ sym (ap (λ b. if b then seen sys w q else w.held q) test)
+    sees w tree lies is_source ∙ sym (ap (λ b. if b then seen sys w q else w.held q) test)
 
 -- a source in another resource shows its held copy
 pub shown_away : (i : Inputs) (t : Forest) (x : InstanceVariable) (v : Value) → IsVariable (system_of i) x → (InForest i t x.instance → ⊥) → v ≡ unwrap_or (held_at t.held x) zero_value
     → Shows i t x v
-shown_away i t x v variable away is w resource_blocks read is_source =
+shown_away i t x v variable away is w tree read is_source =
     let sys = system_of i in
     let q = variable_of sys x in
     let apart : sys.resource q.at ≢ t.resource = λ e. away (sym (ap sys.resource (at_is sys x)) ∙ e) in
     let test : (sys.resource q.at == t.resource) ≡ false = grind (arith, nat_tests) in
-    is ∙ ap (λ o. unwrap_or o zero_value) (resource_blocks.held x variable read away) ∙ sym (ap (λ b. if b then seen sys w q else w.held q) test)
+    is ∙ ap (λ o. unwrap_or o zero_value) (tree.held x variable read away) ∙ sym (ap (λ b. if b then seen sys w q else w.held q) test)
 
 pub source_sampled :
     (i : Inputs) (t : Forest) (x s : InstanceVariable) (v : Value) → IsVariable (system_of i) x → IsSource (system_of i) s →
     Some (variable_of (system_of i) s) ≡ (system_of i).source (variable_of (system_of i) x) → Shows i t s v → Samples i t x v
-source_sampled i t x s v is_x is_s comes shows w resource_blocks within =
-    shows w resource_blocks (record { to = x; variable = is_x; within = within; source = sym comes }) is_s
+source_sampled i t x s v is_x is_s comes shows w tree within =
+    shows w tree (record { to = x; variable = is_x; within = within; source = sym comes }) is_s
     ∙ ap (λ o. elim o [ None ↦ (w.blocks (variable_of (system_of i) x).at).slots (variable_of (system_of i) x).name | Some q ↦ shown (system_of i) t.resource w q ]) comes
 
 -- the same for a data output of a composite, from inside
 pub source_inside :
     (i : Inputs) (t : Forest) (x s : InstanceVariable) (v : Value) → IsVariable (system_of i) x → IsSource (system_of i) s →
     Some (variable_of (system_of i) s) ≡ (system_of i).source (variable_of (system_of i) x) → Shows i t s v → ShowsInside i t x v
-source_inside i t x s v is_x is_s comes shows w resource_blocks within =
-    shows w resource_blocks (record { to = x; variable = is_x; within = within; source = sym comes }) is_s
+source_inside i t x s v is_x is_s comes shows w tree within =
+    shows w tree (record { to = x; variable = is_x; within = within; source = sym comes }) is_s
     ∙ ap (λ o. elim o [ None ↦ (w.blocks (variable_of (system_of i) x).at).published (variable_of (system_of i) x).name | Some q ↦ shown (system_of i) t.resource w q ]) comes
 
 -- without a source a data input has what a stimulus has set
 pub slot_sampled :
     (i : Inputs) (t : Forest) (x : InstanceVariable) (v : Value) → None ≡ (system_of i).source (variable_of (system_of i) x) → Reads i t x (λ b. b.slots) v → Samples i t x v
-slot_sampled i t x v comes reads w resource_blocks within =
-    reads w resource_blocks within
+slot_sampled i t x v comes reads w tree within =
+    reads w tree within
     ∙ ap (λ o. elim o [ None ↦ (w.blocks (variable_of (system_of i) x).at).slots (variable_of (system_of i) x).name | Some q ↦ shown (system_of i) t.resource w q ]) comes
 
 -- without a source a data output of a composite shows what it showed before
 pub published_inside :
     (i : Inputs) (t : Forest) (x : InstanceVariable) (v : Value) → None ≡ (system_of i).source (variable_of (system_of i) x) → Reads i t x (λ b. b.published) v → ShowsInside i t x v
-published_inside i t x v comes reads w resource_blocks within =
-    reads w resource_blocks within
+published_inside i t x v comes reads w tree within =
+    reads w tree within
     ∙ ap (λ o. elim o [ None ↦ (w.blocks (variable_of (system_of i) x).at).published (variable_of (system_of i) x).name | Some q ↦ shown (system_of i) t.resource w q ]) comes

@@ -1,5 +1,5 @@
 -- Values that are sampled one by one are what the model's variables hold then.
-use Rattle.fb_net.proofs.lemmas.Common.{◌≡◌, ℕ, Bool, true, false, cond, List, [], ◌∷◌, ◌++◌, map, refl, sym, ap, subst, ◌∙◌, Option, None, Some, fun_ext, append-nil, Kind, among, Bound, inputs_with, ports, ports_of, Inputs, system_of, Name, Path, Port, same_name, with_value, event_at, event_output, line_of, pair_up, path_at, port_of, ports_at, Outcome, World, sampled_from, taking, with_block, with_values, System, Values, Key, Ports, Target, Value, AreIndexes, RepresentsOutcome, gathered, out_of, Effects, all_sampled, names_in, Changes, InForest, IsForest, Forest, ComesTo, IsReady, sampling}
+use Rattle.fb_net.proofs.lemmas.Common.{◌≡◌, ℕ, Bool, true, false, cond, List, [], ◌∷◌, ◌++◌, map, refl, sym, ap, subst, ◌∙◌, Option, None, Some, fun_ext, append-nil, Kind, among, Bound, inputs_with, ports, ports_of, Inputs, system_of, Name, Path, Port, same_name, with_value, event_at, event_output, line_of, pair_up, path_at, port_of, ports_at, Outcome, World, sampled_from, taking, with_block, with_values, System, Values, Key, Ports, Target, Value, AreIndexes, RepresentsOutcome, gathered, out_of, Outbox, all_sampled, names_in, Changes, InForest, IsForest, Forest, ComesTo, IsReady, sampling}
 use Rattle.fb_types.proofs.Common.{◌||◌, or_left, or_right, bound, sampled}
 use Rattle.fb_types.specs.Numbers.{event_input}
 use Rattle.fb_types.specs.States.{Line}
@@ -125,7 +125,7 @@ module _ (i : Inputs) (k : Key) (at : Target) (its : Ports) (ports : ports_at (s
       ap (λ (x : Ports). taking sys k w (port_of sys at) x left) ports ∙ ap (λ (q : Port). taking sys k w q its left) port-here
 
 -- An event block or a composite has taken the event.
-pub sampling-represents : (i : Inputs) (k : Key) (at : Target) (old new : Forest) (x y : Effects) (values : List Value)
+pub sampling-represents : (i : Inputs) (k : Key) (at : Target) (old new : Forest) (x y : Outbox) (values : List Value)
     → IsReady k old → at.is_output ≡ false → InForest i old at.instance → AreSampled i old at values
     → Changes i old at.instance (all_sampled (names_in (system_of i) at) values) new
     → map (line_of (system_of i)) y.lines.items ≡ map (line_of (system_of i)) x.lines.items ++ line_of (system_of i) (taken_line k at values) ∷ []

@@ -1,5 +1,5 @@
 use Rattle.fb_resource.proofs.lemmas.Common.{[], ◌∷◌, All, refl, sym, ◌∙◌, ap, subst, arith, system_of, Out, IsPostable, IsSendable}
-use Rattle.fb_net.specs.declared.effects.Out.TheVariants.{Send}
+use Rattle.fb_net.specs.declared.outbox.Out.TheVariants.{Send}
 use Rattle.fb_resource.specs.Posts.{IsOneMessage}
 use Rattle.fb_resource.proofs.lemmas.Lone.{lone_out, message_settles, nothing_out, still_settles}
 use Rattle.fb_resource.proofs.lemmas.ReadyIs.{when_ok_four}
@@ -33,7 +33,7 @@ post_lone-requires-clause-link c =
 
 pub returns-in-Send : goal.returns-in-Send
 returns-in-Send c =
-    let alone : IsOneMessage c.in-Send.sending.link c.args.traffic.now.effects.outs.items = record {
+    let alone : IsOneMessage c.in-Send.sending.link c.args.traffic.now.outbox.outs.items = record {
       message = c.in-Send.sending;
       is = sym c.as_slice.ensures.value
           ∙ lone_out c.as_slice.result.now c.only-item.result _ (omega (arith, c.in-len1.len_at_least, c.in-len1.len_below)) c.only-item.is

@@ -24,13 +24,13 @@ returns c =
     let i = c.args.system.now in
     let l = c.args.least.now in
     let now = c.settle.new.self in
-    let new : Traffic = record { agenda = now.agenda.now; sent = now.sent.now; mail = now.mail.now; effects = c.settle.new.effects } in
+    let new : Traffic = record { agenda = now.agenda.now; sent = now.sent.now; mail = now.mail.now; outbox = c.settle.new.outbox } in
     let locals : now.locals.now ≡ c.locals-1.given.0 = search rules in
     subst (λ (n : ℕ). OnOk c.settle.result (Settles i l c.args.locals.now c.args.traffic.now n new)) locals
     (when_ok_three c.settle.result c.settle.ensures.settled c.settle.ensures.grown c.settle.ensures.emptied
     (λ settled grown emptied. record {
       settled = settled;
-      ready = ready_again _ now c.settle.new.effects c.settle.ensures.same grown.may
+      ready = ready_again _ now c.settle.new.outbox c.settle.ensures.same grown.may
           (subst (All (BelongsTo (system_of i))) (sym emptied.lines) c.requires.may.lines) emptied.none emptied.keeps;
       later = grown.later;
       few = grown.few;

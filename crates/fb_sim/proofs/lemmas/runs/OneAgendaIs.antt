@@ -60,18 +60,18 @@ module _ (i : Inputs) (o : Options) where
     split = sym all.lines ∙ sym (append-nil ls);
   }
 
-  module _ (m new : Machine) (old mid : Option (List ℕ)) (n : ℕ) (g : Gone i o m old mid n) (none : m.traffic.effects.lines.items ≡ []) where
+  module _ (m new : Machine) (old mid : Option (List ℕ)) (n : ℕ) (g : Gone i o m old mid n) (none : m.traffic.outbox.lines.items ≡ []) where
     -- the lines of the piece
     abbrev piece : List Line
-    piece = map (line_of (system_of i)) new.traffic.effects.lines.items
+    piece = map (line_of (system_of i)) new.traffic.outbox.lines.items
 
-    after_none : (ts : List Taken) → piece ≡ map (line_of (system_of i)) m.traffic.effects.lines.items ++ lines_of ts → piece ≡ lines_of ts
+    after_none : (ts : List Taken) → piece ≡ map (line_of (system_of i)) m.traffic.outbox.lines.items ++ lines_of ts → piece ≡ lines_of ts
     after_none ts is = is ∙ ap (λ z. map (line_of (system_of i)) z ++ lines_of ts) none
 
-    all_of : (stop : Option StopMark) → Completes i o.horizon o.steps g.at m.traffic.effects.lines.items new.traffic.effects.lines.items stop
+    all_of : (stop : Option StopMark) → Completes i o.horizon o.steps g.at m.traffic.outbox.lines.items new.traffic.outbox.lines.items stop
         → AreAll i o.steps o.horizon (lines_of g.taken ++ piece) (ending_at o.horizon stop)
     all_of stop rest =
-        let whole = joins i o.horizon o.steps start g.at g.taken m.traffic.effects.lines.items new.traffic.effects.lines.items stop g.goes rest in
+        let whole = joins i o.horizon o.steps start g.at g.taken m.traffic.outbox.lines.items new.traffic.outbox.lines.items stop g.goes rest in
         record {
           takings = g.taken ++ rest.taken;
           simulation = record { chain = whole.chain; below = whole.below; rests = whole.rests };
@@ -109,7 +109,7 @@ module _ (i : Inputs) (o : Options) where
             counted = subst (λ (ls : List Line). bounded (n + k) ≡ bounded (length (text_of i o.form ls))) same counted_both;
           }
 
-      through : (stop : Option StopMark) → Completes i o.horizon o.steps g.at m.traffic.effects.lines.items new.traffic.effects.lines.items stop
+      through : (stop : Option StopMark) → Completes i o.horizon o.steps g.at m.traffic.outbox.lines.items new.traffic.outbox.lines.items stop
           → RunsThrough i o old now (ending_at o.horizon stop) (bounded (n + k))
       through stop rest = record {
         out = lines_of g.taken ++ piece;

@@ -7,7 +7,7 @@ use Rattle.fb_sim.proofs.one_agenda.run_through.Given as goal
 abbrev pub invariant-loop-pause : goal.invariant-loop-pause
 invariant-loop-pause g l = record {
   ready : (tick : ℕ) × IsReady l.system l.options.steps tick l.machine;
-  none : l.machine.traffic.effects.lines.items ≡ [];
+  none : l.machine.traffic.outbox.lines.items ≡ [];
   gone : Gone l.system l.options l.machine (g.W.Write.contents l.initial.out) (g.W.Write.contents l.out) l.written;
 }
 

@@ -27,8 +27,8 @@ pub left_as :
 left_as i s a limit k m left ready at named found =
     let counted = ready.trees_counted in
     let within : k.resource < length m.trees.items = omega (arith, counted, named) in
-    let resource_blocks = element_at m.trees.items k.resource within in
-    let here = at.here k.resource resource_blocks.0 found.0 resource_blocks.1 found.1 in
+    let tree = element_at m.trees.items k.resource within in
+    let here = at.here k.resource tree.0 found.0 tree.1 found.1 in
     found.2 ∙ sym (ap (λ (z : Meter). z.left) (here.meter limit k.tick (omega arith)))
 
 -- the counts of a resource, as they are read

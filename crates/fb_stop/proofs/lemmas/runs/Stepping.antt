@@ -261,7 +261,7 @@ has_stepped i limit s a k e o from mid new t none run copies = record {
     effect = t.effect;
     takes = t.takes;
     stops = t.stops ∙ none;
-    lines = ap (λ (r : Machine). map (line_of (system_of i)) r.traffic.effects.lines.items) run ∙ t.lines;
+    lines = ap (λ (r : Machine). map (line_of (system_of i)) r.traffic.outbox.lines.items) run ∙ t.lines;
     at = subst (λ (r : Machine). IsAt i t.effect.state (agenda_after k a t.effect) r) (sym run) t.at;
   };
   copies = copies;

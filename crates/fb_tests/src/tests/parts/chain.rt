@@ -15,7 +15,7 @@ use super::narrow::{ALL_AT_ONCE, Narrow};
 use fb_check::accept;
 use fb_inputs::{read_deploy, read_stimuli};
 use fb_link::exchange;
-use fb_net::ResourceBlocks;
+use fb_net::Tree;
 use fb_read::read_library;
 use fb_resource::{Resource, WindowDone};
 use fb_system::System;
@@ -50,8 +50,8 @@ pub fn accepted(
 /// The resource of a number as it is before the first event. No message waits at it.
 pub fn opened(rt: &impl Abort, alloc: Global, system: &System, number: u32) -> Resource
     ensures of { IsOf system.now result }
-    ensures number { result.resource_blocks.resource ≡ number }
-    ensures unheard { (j : Key) → j.class ≡ 2 → j.resource ≡ result.resource_blocks.resource → waiting result.agenda j ≡ None }
+    ensures number { result.tree.resource ≡ number }
+    ensures unheard { (j : Key) → j.class ≡ 2 → j.resource ≡ result.tree.resource → waiting result.agenda j ≡ None }
 {
     assert!(rt; (number as usize) < system.resources());
     system.facts(); // for the prover: what holds of every accepted system
@@ -62,17 +62,17 @@ pub fn opened(rt: &impl Abort, alloc: Global, system: &System, number: u32) -> R
 }
 
 /// The blocks of the resource of a number, as they are before the first event. Their values fit their types.
-pub fn built(rt: &impl Abort, alloc: Global, system: &System, number: u32) -> ResourceBlocks
+pub fn built(rt: &impl Abort, alloc: Global, system: &System, number: u32) -> Tree
     ensures belongs { (w : World) × IsForest system.now result w × AreTyped system.now w }
     ensures named { IsResource system.now result.resource }
     ensures number { result.resource ≡ number }
 {
     assert!(rt; (number as usize) < system.resources());
     system.facts(); // for the prover: what holds of every accepted system
-    let Ok(resource_blocks) = ResourceBlocks::build(alloc, system, number) else {
+    let Ok(tree) = Tree::build(alloc, system, number) else {
         rt.panic("memory")
     };
-    resource_blocks
+    tree
 }
 
 /// What a run gave.
@@ -189,7 +189,7 @@ pub fn handed(rt: &impl Abort, alloc: Global, system: &System, sent: Vec<Message
 
 /// Whether all messages go to the resource of this number, none before its clock.
 fn are_for(resource: &Resource, number: usize, system: &System, messages: &[Message]) -> bool
-    requires number { resource.now.resource_blocks.resource ≡ number }
+    requires number { resource.now.tree.resource ≡ number }
     requires messages { All (IsMessage system.now) messages.now }
     ensures { IsTrue result → All (IsFor system.now resource.now) messages.now }
 {
@@ -213,8 +213,8 @@ pub fn deliver_first(
     messages: Vec<Message>,
 ) -> Resource
     requires of { IsOf system.now resource }
-    requires number { resource.resource_blocks.resource ≡ number }
-    requires unheard { (j : Key) → j.class ≡ 2 → j.resource ≡ resource.resource_blocks.resource → waiting resource.agenda j ≡ None }
+    requires number { resource.tree.resource ≡ number }
+    requires unheard { (j : Key) → j.class ≡ 2 → j.resource ≡ resource.tree.resource → waiting resource.agenda j ≡ None }
     requires messages { All (IsMessage system.now) messages.items }
     ensures { IsOf system.now result }
 {

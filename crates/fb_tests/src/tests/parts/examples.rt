@@ -1,10 +1,10 @@
-//! The examples of the documentation of `fb_check::accept`, `fb_net::ResourceBlocks::take`, `fb_resource::Resource::run_to` and
+//! The examples of the documentation of `fb_check::accept`, `fb_net::Tree::take`, `fb_resource::Resource::run_to` and
 //! `fb_wave::write_wave`. `tools/documents.py` compares them.
 
 use super::chain::{accepted, built, opened};
 use fb_check::accept;
 use fb_inputs::read_stimuli;
-use fb_net::{Arrival, Effects};
+use fb_net::{Arrival, Outbox};
 use fb_read::read_library;
 use fb_resource::WindowDone;
 use fb_st::Meter;
@@ -32,19 +32,18 @@ fn an_application_is_accepted(rt: HostRuntime) {
 fn a_tree_takes_a_timer(rt: HostRuntime) {
     let declaration = "APPLICATION A FBS S : E_RESTART; END_FBS END_APPLICATION";
     let system = accepted(&rt, rt.alloc(), declaration, "", "tick,event,values\n");
-    let mut resource_blocks = built(&rt, rt.alloc(), &system, 0);
-    let mut effects = Effects {
+    let mut tree = built(&rt, rt.alloc(), &system, 0);
+    let mut outbox = Outbox {
         lines: Vec::new(rt.alloc()),
         outs: Vec::new(rt.alloc()),
         timer: TimerAsk::Keep,
     };
     let mut meter = Meter { left: 100 };
     assert!(rt; system.count() == 1 && system.resource(0) == 0);
-    resource_blocks
-        .take(&system, Arrival::Timer(0), 0, &mut meter, &mut effects)
+    tree.take(&system, Arrival::Timer(0), 0, &mut meter, &mut outbox)
         .expect(&rt, "taken");
-    assert!(rt; effects.lines.len() == 1 && effects.outs.is_empty());
-    forget((resource_blocks, effects));
+    assert!(rt; outbox.lines.len() == 1 && outbox.outs.is_empty());
+    forget((tree, outbox));
     drop(system);
 }
 

@@ -49,7 +49,7 @@ fn carry_three<R: Abort>(rt: &R, alloc: Global, system: &System, before: u128) -
     let Pause::Horizon = pause else {
         rt.panic("it pauses")
     };
-    assert!(rt; machine.traffic.effects.lines.len() == LINES);
+    assert!(rt; machine.traffic.outbox.lines.len() == LINES);
     machine.traffic.sent.first().copied()
 }
 

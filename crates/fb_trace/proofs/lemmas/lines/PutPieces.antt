@@ -1,6 +1,6 @@
 -- Text that is put piece by piece.
 use Rattle.fb_types.proofs.Common.{◌≡◌, ℕ, ◌+◌, ◌<◌, List, [], ◌∷◌, ◌++◌, length, take, drop, Option, Result, Ok, Err, refl, sym, subst, ◌∙◌, arith, append_assoc, append-nil, length-append, length-drop, length-take, take-append-drop, IsErrAnd, Appends, Appends-nil, Appends-trans}
-use Rattle.fb_trace.specs.declared.fault.WriteError.{WriteError}
+use Rattle.fb_trace.specs.declared.fault.WriteFault.{WriteFault}
 use Rattle.fb_trace.specs.Page.{Page}
 use Rattle.fb_trace.specs.Progress.{Puts, Fails, Gathers, bounded}
 
@@ -63,15 +63,15 @@ pub appended-more : (p q r : Page) (x y : List ℕ) → q ≡ record p { waiting
 appended-more p q r x y e f = rw (f, e, append_assoc p.waiting x y) refl
 
 -- the result of the last piece
-pub Gathers-after : {a b c : Option (List ℕ)} {p q r : Page} {x y : List ℕ} (result : Result (Unit {0}) WriteError) → Puts a b p q x → Gathers b c q r y result → Gathers a c p r (x ++ y) result
+pub Gathers-after : {a b c : Option (List ℕ)} {p q r : Page} {x y : List ℕ} (result : Result (Unit {0}) WriteFault) → Puts a b p q x → Gathers b c q r y result → Gathers a c p r (x ++ y) result
 Gathers-after (Ok u) s t = record { whole = Puts-more s t.whole; part = tt }
 Gathers-after (Err f) s t = record { whole = tt; part = Fails-after s t.part }
 
 -- the fault that `?` passes on
-pub Gathers-passed : {a b : Option (List ℕ)} {p q : Page} {x : List ℕ} {f : WriteError} (result : Result (Unit {0}) WriteError) → IsErrAnd result (λ g. g ≡ f) → Fails a b p x f.written → Gathers a b p q x result
+pub Gathers-passed : {a b : Option (List ℕ)} {p q : Page} {x : List ℕ} {f : WriteFault} (result : Result (Unit {0}) WriteFault) → IsErrAnd result (λ g. g ≡ f) → Fails a b p x f.written → Gathers a b p q x result
 Gathers-passed (Ok u) h t = absurd h
 Gathers-passed {a} {b} {p} {q} {x} (Err g) h t =
-    record { whole = tt; part = subst (λ (y : WriteError). Fails a b p x y.written) (sym h) t }
+    record { whole = tt; part = subst (λ (y : WriteFault). Fails a b p x y.written) (sym h) t }
 
 -- bytes that are written past an empty page
 pub Puts-direct : {a b : Option (List ℕ)} (p q : Page) (x : List ℕ) → p.waiting ≡ [] → q.waiting ≡ [] → Appends a b x → q.written ≡ bounded (p.written + length x) → Puts a b p q x

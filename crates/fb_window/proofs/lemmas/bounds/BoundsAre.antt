@@ -28,7 +28,7 @@ module _ (i : Inputs) (limit : ℕ) (c : Core (machine (system_of i) limit)) (xs
     idle = λ r x e t h j b.
         let s = at.each r x e in
         none_since _ (λ v w.
-        let home : j.resource ≡ x.resource_blocks.resource = s.of.home j v w in
+        let home : j.resource ≡ x.tree.resource = s.of.home j v w in
         none_some _ _ (sym (s.state.waits j home) ∙ h j (home ∙ s.number) b) (ap (λ o. option_map (event_of i) o) w));
     posted = λ r. ⊎_elim (λ b. let e = at.counted in let s = element_at xs r (omega arith) in (at.each r s.0 s.1).posted) (λ b. (at.others r b).posted) (cases_lt r (count_of (system_of i)));
     live = λ r b. (at.others r b).live;

@@ -66,7 +66,7 @@ found_keyed i (m ∷ ms) j = step (found j (map (arriving i) ms)) (found j (keye
 -- ---- What a resource represents
 
 pub stands_alike : (i : Inputs) (limit : ℕ) (l n : Local (machine (system_of i) limit)) (x : Resource) → Represents i limit l x → n.part ≡ l.part → n.stop ≡ l.stop → ((j : Key) → n.own j ≡ l.own j)
-    → ((j : Key) → j.resource ≡ x.resource_blocks.resource → n.inbox j ≡ l.inbox j) → ((j : Key) → (j.class == 2) ≡ false → n.inbox j ≡ None) → Represents i limit n x
+    → ((j : Key) → j.resource ≡ x.tree.resource → n.inbox j ≡ l.inbox j) → ((j : Key) → (j.class == 2) ≡ false → n.inbox j ≡ None) → Represents i limit n x
 stands_alike i limit l n x s part stop own inbox class = record {
   state = s.state;
   part = part ∙ s.part;
@@ -84,7 +84,7 @@ stands_alike i limit l n x s part stop own inbox class = record {
 
 -- The resource at an index is what a member of the core has there, which may have an outbox that is not empty.
 pub record IsBackAs (i : Inputs) (limit : ℕ) (m : Member (machine (system_of i) limit)) (r : ℕ) (y : Resource) : Type 0 where
-  pub number : y.resource_blocks.resource ≡ r
+  pub number : y.tree.resource ≡ r
   pub of : IsOf i y
   pub state : Represents i limit m.state y
   pub clock : m.clock ≡ y.clock
@@ -99,7 +99,7 @@ module _ (i : Inputs) (limit horizon : ℕ) (d : Core (machine (system_of i) lim
 
   -- a message may be received
   pub fits : (s : ℕ) (m : Message) (x : model.Event) → found (arriving i m).0 (d s).outbox ≡ Some x → IsMessage i m
-      → (r : ℕ) (y : Resource) → y.resource_blocks.resource ≡ r → (d r).clock ≡ y.clock → receiver_of (system_of i) m ≡ r → IsFor i y m
+      → (r : ℕ) (y : Resource) → y.tree.resource ≡ r → (d r).clock ≡ y.clock → receiver_of (system_of i) m ≡ r → IsFor i y m
   fits s m x f message r y number clock to =
       let late : (d (arriving i m).0.resource).clock ≤ (arriving i m).0.tick =
       arrives_at_clock M law horizon w d runs v s (arriving i m).0 x (home (arriving i m).0.resource) f in
@@ -129,7 +129,7 @@ module _ (i : Inputs) (limit horizon : ℕ) (d : Core (machine (system_of i) lim
   pub sits_received : (r : ℕ) (y u : Resource) (ms : List Message) → IsBackAs i limit (d r) r y → All (IsFor i y) ms
       → ((j : Key) → j.resource ≡ r → found j (map (arriving i) ms) ≡ found j (map (arriving i) all)) → HasReceived ms y u → Sits i limit (exchanged M d r) r u
   sits_received r y u ms b fit last g =
-      let there : u.resource_blocks.resource ≡ y.resource_blocks.resource = ap (λ (q : Resource). q.resource_blocks.resource) g.besides in
+      let there : u.tree.resource ≡ y.tree.resource = ap (λ (q : Resource). q.tree.resource) g.besides in
       record {
         number = there ∙ b.number;
         of = g.of i b.of fit;

@@ -70,7 +70,7 @@ module _ (i : Inputs) (limit horizon : ℕ) (c : Core (machine (system_of i) lim
   as_back r l = let it = (b.each r l).back in record { number = it.number; of = it.of; state = it.state; clock = it.clock }
 
   -- each message may be received
-  due : (r : ℕ) (y : Resource) → y.resource_blocks.resource ≡ r → (d r).clock ≡ y.clock → All (λ m. receiver_of (system_of i) m ≡ r → IsFor i y m) all
+  due : (r : ℕ) (y : Resource) → y.tree.resource ≡ r → (d r).clock ≡ y.clock → All (λ m. receiver_of (system_of i) m ≡ r → IsFor i y m) all
   due r y number clock =
       all_flat (λ m. receiver_of (system_of i) m ≡ r → IsFor i y m) (λ (a : Vec Message). a.items) h.outboxes.items
       (λ s a e. all_by_index (λ m. receiver_of (system_of i) m ≡ r → IsFor i y m) a.items
@@ -82,7 +82,7 @@ module _ (i : Inputs) (limit horizon : ℕ) (c : Core (machine (system_of i) lim
       fits i limit horizon d all law w runs v home out_found s m x.0 (ap (λ z. found (arriving i m).0 z) (box_is s a e) ∙ x.1)
       (all_at (IsMessage i) a.items n m (subst (λ (z : Vec Message). All (IsMessage i) z.items) same it.back.messages) f) r y number clock to))
 
-  due_to : (r : ℕ) (y : Resource) (ms : List Message) → y.resource_blocks.resource ≡ r → (d r).clock ≡ y.clock → AreFor (system_of i) r all ms → All (IsFor i y) ms
+  due_to : (r : ℕ) (y : Resource) (ms : List Message) → y.tree.resource ≡ r → (d r).clock ≡ y.clock → AreFor (system_of i) r all ms → All (IsFor i y) ms
   due_to r y ms number clock f =
       All-permutation (IsFor i y) (filter (goes_to (system_of i) r) all) ms f.those
       (all_filter (IsFor i y) (goes_to (system_of i) r) all

@@ -42,7 +42,7 @@ received_more ms m x y z f g = record {
         All-cons (IsFor i y) m []
         (record {
           message = it.message;
-          here = it.here ∙ sym (ap (λ (u : Resource). u.resource_blocks.resource) f.besides);
+          here = it.here ∙ sym (ap (λ (u : Resource). u.tree.resource) f.besides);
           later = let same = ap (λ (u : Resource). u.clock) f.besides in let late = it.later in omega arith;
         })
         (All-nil (IsFor i y))

@@ -16,7 +16,7 @@ module _ (i : Inputs) (limit horizon : ℕ) (c : Core (machine (system_of i) lim
     pub live : x.stopped ≡ None → (run : List (Item (machine (system_of i) limit))) × (loan ≡ Some (record { worker = worker; bound = bound; run = run }))
     pub stopped : (reason : Reason) → x.stopped ≡ Some reason → loan ≡ None
     pub may : (t : Loan (machine (system_of i) limit)) → loan ≡ Some t → IsLegalLoan (machine (system_of i) limit) horizon c r t
-    pub number : y.resource_blocks.resource ≡ r
+    pub number : y.tree.resource ≡ r
     pub of : IsOf i y
     pub state : Represents i limit (after_loan (machine (system_of i) limit) (c r) loan).state y
     pub clock : (after_loan (machine (system_of i) limit) (c r) loan).clock ≡ y.clock
@@ -47,7 +47,7 @@ module _ (i : Inputs) (limit horizon : ℕ) (c : Core (machine (system_of i) lim
           let done = h.2 in
           let it : RanTo i limit (c r).state bound y h.0.items sent.items = done.5 (c r).state sits.state in
           let leave = may e in
-          let number : y.resource_blocks.resource ≡ r = done.1 ∙ sits.number in
+          let number : y.tree.resource ≡ r = done.1 ∙ sits.number in
           let run : Run M r (c r).state bound it.items = subst (λ (n : ℕ). Run M n (c r).state bound it.items) number it.run in
           let t : Loan M = record { worker = worker; bound = bound; run = it.items } in
           let is_legal : IsLegalLoan M horizon c r t = record {
@@ -83,7 +83,7 @@ module _ (i : Inputs) (limit horizon : ℕ) (c : Core (machine (system_of i) lim
               live = λ e. absurd (none_some _ _ e q.1);
               stopped = λ reason e. refl;
               may = λ u e. absurd (let f : None ≡ Some u = e in cc);
-              number = ap (λ (z : Resource). z.resource_blocks.resource) h.0 ∙ sits.number;
+              number = ap (λ (z : Resource). z.tree.resource) h.0 ∙ sits.number;
               of = subst (λ (z : Resource). IsOf i z) same sits.of;
               state = subst (λ (z : Resource). Represents i limit (c r).state z) same sits.state;
               clock = sits.clock ∙ ap (λ (z : Resource). z.clock) same;

@@ -78,7 +78,7 @@ module _ (i : Inputs) (limit : ℕ) (c : Core (machine (system_of i) limit)) (xs
           let j = t.3.waits in
           let e = some_of (waiting t.1.agenda j.0) j.2 in
           let sits = at.each t.0 t.1 t.2 in
-          let own : j.0.resource ≡ t.1.resource_blocks.resource = sits.of.home j.0 e.0 e.1 in
+          let own : j.0.resource ≡ t.1.tree.resource = sits.of.home j.0 e.0 e.1 in
           let tick : j.0.tick ≡ m = j.1 in
           absurd (none_some _ _ ((f t.0 j.0 (omega arith)).0 (own ∙ sits.number)) (sits.state.waits j.0 own ∙ ap (λ o. option_map (event_of i) o) e.1)))
           (λ (g : n ≤ m). omega arith)

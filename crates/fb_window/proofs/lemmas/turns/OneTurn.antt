@@ -116,7 +116,7 @@ module _ (i : Inputs) (good : AreGood i) (limit horizon : ℕ) (es : List (CoreS
   pub it : RanTo i limit (core_of i limit es r).state (m + 1) y new.items sent.items
   it = ran.5 (c r).state sits.state
 
-  number : y.resource_blocks.resource ≡ r
+  number : y.tree.resource ≡ r
   number = ran.1 ∙ sits.number
 
   run : Run (machine (system_of i) limit) r (core_of i limit es r).state (m + 1) it.items
@@ -145,7 +145,7 @@ module _ (i : Inputs) (good : AreGood i) (limit horizon : ℕ) (es : List (CoreS
   some none =
       let j = next.waits in
       let e = some_from_is_some (waiting x.agenda j.0) j.2 in
-      let own : j.0.resource ≡ x.resource_blocks.resource = sits.of.home j.0 e.0 e.1 in
+      let own : j.0.resource ≡ x.tree.resource = sits.of.home j.0 e.0 e.1 in
       let at_it : j.0.tick ≡ m = j.1 in
       let rests = subst (λ (is : List (Item M)). machines.Rests M r (m + 1) (end M (c r).state is)) none run.rests in
       none_some _ _ (rests (core_live r) j.0 (own ∙ sits.number) (omega arith)) (sits.state.waits j.0 own ∙ ap (λ o. option_map (event_of i) o) e.1)

@@ -113,7 +113,7 @@ module _ (i : Inputs) (limit horizon : ℕ) (first : CoreState) where
     stopped_at mark e =
         let a = after_at in
         ⊎_elim
-        (λ n. absurd (let f : Some mark ≡ None = sym e ∙ turned.ran.4 ∙ ap (λ o. mark_of turned.after.resource_blocks.resource turned.after.clock o) n in cc))
+        (λ n. absurd (let f : Some mark ≡ None = sym e ∙ turned.ran.4 ∙ ap (λ o. mark_of turned.after.tree.resource turned.after.clock o) n in cc))
         (λ q. (a.0, q.0, a.1, a.2 ∙ q.1))
         (option_cases turned.after.stopped)
 
@@ -129,7 +129,7 @@ module _ (i : Inputs) (limit horizon : ℕ) (first : CoreState) where
         here : turned.after.stopped ≡ None
         here =
             ⊎_elim (λ n. n)
-            (λ r. absurd (let f : None ≡ Some _ = sym e ∙ turned.ran.4 ∙ ap (λ o. mark_of turned.after.resource_blocks.resource turned.after.clock o) r.1 in cc))
+            (λ r. absurd (let f : None ≡ Some _ = sym e ∙ turned.ran.4 ∙ ap (λ o. mark_of turned.after.tree.resource turned.after.clock o) r.1 in cc))
             (option_cases turned.after.stopped)
 
 -- What is known after one turn more.

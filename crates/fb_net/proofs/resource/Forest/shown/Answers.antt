@@ -15,10 +15,10 @@ returns-then-source c =
     let i = c.args.system.now in
     let source = c.args.source.now.variable in
     shown_here i c.args.self.now source _ (c.requires.place.0 c.if-not-source.false)
-    (λ w resource_blocks within is_source.
+    (λ w tree within is_source.
     shell_there_reads i c.args.self.now source (λ b. b.published) c.shell-shell.result.now _ c.requires.variable.instance c.shell-shell.ensures
     (λ m s. c.value_of.ensures ∙ ap (λ vs. value_in vs source.variable) c.as_slice.ensures
-    ∙ published_stands _ _ _ m c.requires.variable s c.if-source.true) w resource_blocks within
+    ∙ published_stands _ _ _ m c.requires.variable s c.if-source.true) w tree within
     ∙ output_seen i source c.requires.variable c.facts.ensures.accepted c.if-source.true w)
 
 pub returns-else-source : goal.returns-else-source
@@ -26,9 +26,9 @@ returns-else-source c =
     let i = c.args.system.now in
     let source = c.args.source.now.variable in
     shown_here i c.args.self.now source _ (c.requires.place.0 c.if-not-source.false)
-    (λ w resource_blocks within is_source.
+    (λ w tree within is_source.
     let composite = is_source.composite c.if-source.false in
     shell_there_reads i c.args.self.now source (λ b. b.variables) c.shell-shell.result.now _ c.requires.variable.instance c.shell-shell.ensures
     (λ m s. c.value_of-else-source.ensures ∙ ap (λ vs. value_in vs source.variable) c.as_slice-else-source.ensures
-    ∙ copy_stands _ _ _ m c.requires.variable s composite c.if-source.false) w resource_blocks within
+    ∙ copy_stands _ _ _ m c.requires.variable s composite c.if-source.false) w tree within
     ∙ input_seen i source c.requires.variable c.if-source.false composite w)

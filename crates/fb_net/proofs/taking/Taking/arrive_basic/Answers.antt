@@ -4,7 +4,7 @@ use Rattle.fb_net.specs.Leaves.{ChartEnded, HasCharted, IsReadyAt}
 use Rattle.fb_net.proofs.lemmas.blocks.Basics.{ended_from, is_ready, is_sound, whole_from}
 use Rattle.fb_net.proofs.lemmas.taking.Arriving.{wrote-so}
 use Rattle.fb_net.proofs.lemmas.taking.Charting.{chart-reacts}
-use Rattle.fb_net.proofs.lemmas.emitting.EffectsKept.{blocks-changed, lines-put, remembered-always}
+use Rattle.fb_net.proofs.lemmas.emitting.OutboxKept.{blocks-changed, lines-put, remembered-always}
 use Rattle.fb_net.proofs.lemmas.blocks.BlocksKept.{kept-same, kept-then, kept-world}
 use Rattle.fb_net.proofs.lemmas.values.Sampling.{ports-of_kind, taken_line}
 use Rattle.fb_types.specs.declared.run.Emission.{Emission}
@@ -75,21 +75,21 @@ returns-clause-arrived c =
     (arrives.stands.whole.0, arrives.stands.whole.1, arrives.stands.here) in
     let g : Forest = record f { blocks = end.new.blocks } in
     let k = c.args.self.now.key.now in
-    let x = c.args.self.now.effects.now in
-    let y = c.write_taken.new.effects in
+    let x = c.args.self.now.outbox.now in
+    let y = c.write_taken.new.outbox in
     let z = c.emit_all.new.self in
     let came = ended_from i c.facts.ensures.numbered f at t values left end.new.meter.left emitted end.new.emits end.result c.requires.of_kind arrives.port.instance end.new.blocks changed c.clear.ensures in
     let ended = subst (λ (vs : List Value). ChartEnded i f at t vs left end.result g end.new.meter.left end.new.emits) c.as_slice.ensures came in
     let well = c.in_ok-emit_all.ensures.emitted in
     let wrote = wrote-so i k at.instance (line_of (system_of i) (taken_line k at c.in_ok-values.values))
     (map (emission_of (ports_at (system_of i) (path_at (system_of i) at.instance))) end.new.emits)
-    g z.forest.now x y z.effects.now
+    g z.forest.now x y z.outbox.now
     c.in_ok-write_taken.ensures.written c.write_taken.ensures.outs c.write_taken.ensures.timer well.emitted in
     record {
       reacted = chart-reacts i k at t c.requires.of_kind c.requires.input f g z.forest.now
-          x z.effects.now arrives.ready arrives.stands.here c.in_ok-values.values c.in_ok-values.ensures.sampled left end.new.meter.left end.new.emits
+          x z.outbox.now arrives.ready arrives.stands.here c.in_ok-values.values c.in_ok-values.ensures.sampled left end.new.meter.left end.new.emits
           wrote end.result ended;
-      outs = remembered-always (StillAreOuts i f x z.forest.now z.effects.now) end.result
+      outs = remembered-always (StillAreOuts i f x z.forest.now z.outbox.now) end.result
           (λ were. well.outs (lines-put i g g x y refl c.write_taken.ensures.outs c.in_ok-write_taken.ensures.lines (blocks-changed i f g x refl were)));
       fewer = end.ensures.fewer;
     }
@@ -97,7 +97,7 @@ returns-clause-arrived c =
 -- ---- What is kept
 
 pub returns-in_err-values-clause-whole : goal.returns-in_err-values-clause-whole
-returns-in_err-values-clause-whole c = record { same = record { system = refl; key = refl; forest = refl; effects = refl }; kept = kept-same c.args.self.now.system.now c.args.self.now.forest.now }
+returns-in_err-values-clause-whole c = record { same = record { system = refl; key = refl; forest = refl; outbox = refl }; kept = kept-same c.args.self.now.system.now c.args.self.now.forest.now }
 
 pub returns-in_err-write_taken-clause-whole : goal.returns-in_err-write_taken-clause-whole
 returns-in_err-write_taken-clause-whole c =
@@ -115,7 +115,7 @@ returns-in_err-write_taken-clause-whole c =
     (arrives.stands.whole.0, arrives.stands.whole.1, arrives.stands.here) in
     let g : Forest = record f { blocks = end.new.blocks } in
     record {
-      same = record { system = refl; key = refl; forest = refl; effects = refl };
+      same = record { system = refl; key = refl; forest = refl; outbox = refl };
       kept = kept-world i f g refl whole;
     }
 
@@ -136,7 +136,7 @@ returns-in_err-emit_all-clause-whole c =
     let g : Forest = record f { blocks = end.new.blocks } in
     let stays = c.emit_all.ensures.whole in
     record {
-      same = record { system = stays.same.system; key = stays.same.key; forest = stays.same.forest; effects = stays.same.effects };
+      same = record { system = stays.same.system; key = stays.same.key; forest = stays.same.forest; outbox = stays.same.outbox };
       kept = kept-then i f g c.emit_all.new.self.forest.now (kept-world i f g refl whole) stays.kept;
     }
 
@@ -157,6 +157,6 @@ returns-clause-whole c =
     let g : Forest = record f { blocks = end.new.blocks } in
     let stays = c.emit_all.ensures.whole in
     record {
-      same = record { system = stays.same.system; key = stays.same.key; forest = stays.same.forest; effects = stays.same.effects };
+      same = record { system = stays.same.system; key = stays.same.key; forest = stays.same.forest; outbox = stays.same.outbox };
       kept = kept-then i f g c.emit_all.new.self.forest.now (kept-world i f g refl whole) stays.kept;
     }

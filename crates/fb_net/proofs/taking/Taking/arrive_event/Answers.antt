@@ -1,10 +1,10 @@
-use Rattle.fb_net.proofs.lemmas.Common.{◌≡◌, ◌<◌, Some, length, sym, subst, ◌∙◌, All, Event, Inputs, system_of, path_at, ports_at, World, Key, IsEmission, InForest, IsForest, EventCame, taken_reaction, asked, Effects, AreKept}
+use Rattle.fb_net.proofs.lemmas.Common.{◌≡◌, ◌<◌, Some, length, sym, subst, ◌∙◌, All, Event, Inputs, system_of, path_at, ports_at, World, Key, IsEmission, InForest, IsForest, EventCame, taken_reaction, asked, Outbox, AreKept}
 use Rattle.fb_system.specs.Ports.{IsPort}
 use Rattle.fb_net.specs.Emitting.{EmitsSo}
 use Rattle.fb_net.specs.Leaves.{HasTypedInputs}
 use Rattle.fb_net.proofs.lemmas.taking.Arriving.{event-reacts, event-typed, ports-of_event}
 use Rattle.fb_net.proofs.lemmas.emitting.PortRows.{event-no_basic}
-use Rattle.fb_net.proofs.lemmas.emitting.EffectsKept.{timer-asked}
+use Rattle.fb_net.proofs.lemmas.emitting.OutboxKept.{timer-asked}
 use Rattle.fb_net.proofs.lemmas.taking.TakingSteps.{already, put-out-after, ready-after, still, whole-after}
 use Rattle.fb_net.proofs.lemmas.blocks.BlocksKept.{kept-then, kept-world}
 use Rattle.fb_net.proofs.taking.Taking.arrive_event.Goals as goal
@@ -35,7 +35,7 @@ react_event-requires-clause-typed c =
     let whole = c.take_samples.ensures.whole in
     still (λ (i : Inputs) (k : Key). (w : World) × IsForest i b.forest.now w × InForest i b.forest.now c.args.at.instance × HasTypedInputs i c.args.kind c.args.at.instance w) a b whole.same
     (event-typed a.system.now a.key.now c.args.kind c.args.at c.requires.of_kind c.requires.input a.forest.now b.forest.now
-    a.effects.now b.effects.now c.in_ok-take_samples-in-None.ensures.taken.comes c.requires.sound c.requires.typed (c.requires.arrives.stands.here ∙ sym whole.kept.resource))
+    a.outbox.now b.outbox.now c.in_ok-take_samples-in-None.ensures.taken.comes c.requires.sound c.requires.typed (c.requires.arrives.stands.here ∙ sym whole.kept.resource))
 
 pub emit_all-requires-clause-index : goal.emit_all-requires-clause-index
 emit_all-requires-clause-index c =
@@ -74,14 +74,14 @@ returns-in_ok-emit_all-in-None-clause-reacted c =
     let taken = c.in_ok-take_samples-in-None.ensures.taken in
     let well = c.in_ok-emit_all-in-None.ensures.emitted in
     record {
-      comes = event-reacts a.system.now a.key.now c.args.kind at c.requires.of_kind c.requires.input a.forest.now b.forest.now late z.forest.now a.effects.now b.effects.now z.effects.now ask emits
+      comes = event-reacts a.system.now a.key.now c.args.kind at c.requires.of_kind c.requires.input a.forest.now b.forest.now late z.forest.now a.outbox.now b.outbox.now z.outbox.now ask emits
           taken.comes (c.requires.arrives.stands.here ∙ sym whole.kept.resource)
           (already (λ (i : Inputs) (k : Key). (w : World) → IsForest i b.forest.now w → InForest i b.forest.now at.instance → EventCame i at.instance c.args.kind (taken_reaction i c.args.kind at k.tick w) late ask emits w) a b whole.same
           c.in_ok-react_event-in-None.ensures.reacted)
-          (already (λ (i : Inputs) (k : Key). EmitsSo i k at.instance late (record b.effects.now { timer = asked b.effects.now.timer ask }) emits z.forest.now z.effects.now) a b whole.same
-          (subst (λ (x : Effects). EmitsSo b.system.now b.key.now at.instance late x emits z.forest.now z.effects.now) c.ask_timer.ensures well.emitted));
-      outs = put-out-after a b z.forest.now z.effects.now whole.same taken.outs
-          (λ were. well.outs (timer-asked b.system.now b.forest.now late b.effects.now _ _ c.react_event.ensures.resource c.ask_timer.ensures were));
+          (already (λ (i : Inputs) (k : Key). EmitsSo i k at.instance late (record b.outbox.now { timer = asked b.outbox.now.timer ask }) emits z.forest.now z.outbox.now) a b whole.same
+          (subst (λ (x : Outbox). EmitsSo b.system.now b.key.now at.instance late x emits z.forest.now z.outbox.now) c.ask_timer.ensures well.emitted));
+      outs = put-out-after a b z.forest.now z.outbox.now whole.same taken.outs
+          (λ were. well.outs (timer-asked b.system.now b.forest.now late b.outbox.now _ _ c.react_event.ensures.resource c.ask_timer.ensures were));
     }
 
 pub returns-in_ok-emit_all-in-None-clause-whole : goal.returns-in_ok-emit_all-in-None-clause-whole
@@ -91,7 +91,7 @@ returns-in_ok-emit_all-in-None-clause-whole c =
     let next = c.emit_all.ensures.whole in
     whole-after c.args.self.now b c.emit_all.new.self c.take_samples.ensures.whole
     (record {
-      same = record { system = next.same.system; key = next.same.key; forest = next.same.forest; effects = next.same.effects };
+      same = record { system = next.same.system; key = next.same.key; forest = next.same.forest; outbox = next.same.outbox };
       kept = kept-then b.system.now b.forest.now g c.emit_all.new.self.forest.now (kept-world b.system.now b.forest.now g c.react_event.ensures.resource c.react_event.ensures.whole) next.kept;
     })
 
@@ -101,7 +101,7 @@ returns-in_err-react_event-in-None-clause-whole c =
     let g = c.react_event.new.forest in
     let first = c.take_samples.ensures.whole in
     record {
-      same = record { system = first.same.system; key = first.same.key; forest = first.same.forest; effects = first.same.effects };
+      same = record { system = first.same.system; key = first.same.key; forest = first.same.forest; outbox = first.same.outbox };
       kept = kept-then c.args.self.now.system.now c.args.self.now.forest.now b.forest.now g first.kept
           (already (λ (i : Inputs) (k : Key). AreKept i b.forest.now g) c.args.self.now b first.same (kept-world b.system.now b.forest.now g c.react_event.ensures.resource c.react_event.ensures.whole));
     }
@@ -113,7 +113,7 @@ returns-in_err-emit_all-in-None-clause-whole c =
     let next = c.emit_all.ensures.whole in
     whole-after c.args.self.now b c.emit_all.new.self c.take_samples.ensures.whole
     (record {
-      same = record { system = next.same.system; key = next.same.key; forest = next.same.forest; effects = next.same.effects };
+      same = record { system = next.same.system; key = next.same.key; forest = next.same.forest; outbox = next.same.outbox };
       kept = kept-then b.system.now b.forest.now g c.emit_all.new.self.forest.now (kept-world b.system.now b.forest.now g c.react_event.ensures.resource c.react_event.ensures.whole) next.kept;
     })
 

@@ -10,7 +10,7 @@ use Rattle.fb_net.specs.declared.arrival.Arrival.{Arrival}
 use Rattle.fb_net.proofs.lemmas.taking.ByEvent.{arrival-taken, arrival-typed, local-taken, stimulus-is, stimulus-kept, stimulus-lies, stimulus-taken, stimulus-typed}
 use Rattle.fb_net.proofs.lemmas.taking.TakingSteps.{stays-whole}
 use Rattle.fb_net.proofs.lemmas.emitting.PortRows.{path-of_port}
-use Rattle.fb_net.proofs.lemmas.emitting.EffectsKept.{blocks-changed, remembered-then}
+use Rattle.fb_net.proofs.lemmas.emitting.OutboxKept.{blocks-changed, remembered-then}
 use Rattle.fb_net.proofs.lemmas.blocks.BlocksKept.{kept-held, kept-then}
 use Rattle.fb_net.proofs.taking.Taking.bring.Goals as goal
 
@@ -26,7 +26,7 @@ returns-in-Stimulus c =
     let i = a.system.now in
     let k = a.key.now in
     let f = a.forest.now in
-    let x = a.effects.now in
+    let x = a.outbox.now in
     let s = c.stimulus-stimulus.result in
     let e : Waiting = waits.Stimulus c.in-Stimulus.row in
     let at : Target = s.target in
@@ -41,11 +41,11 @@ returns-in-Stimulus c =
       here = stimulus-lies i e at xs is f may.event.here ∙ sym kept.resource;
       ready = record { resource = may.ready.resource ∙ sym kept.resource };
       typed = stimulus-typed i e at xs is k f mid changes may.event.here may.belongs may.typed;
-      whole = record { same = record { system = refl; key = refl; forest = refl; effects = refl }; kept = kept };
+      whole = record { same = record { system = refl; key = refl; forest = refl; outbox = refl }; kept = kept };
       taken = λ left end last after arrived stays. subst (λ (r : Arrival). WasTaken a (event_in r) left end last after) (sym c.in-Stimulus.is) (record {
-        taken = stimulus-taken i e at xs is k f mid changes may.event.here last.forest.now x last.effects.now left after end arrived.reacted;
+        taken = stimulus-taken i e at xs is k f mid changes may.event.here last.forest.now x last.outbox.now left after end arrived.reacted;
         outs =
-            remembered-then (StillAreOuts i mid x last.forest.now last.effects.now) (StillAreOuts i f x last.forest.now last.effects.now) end
+            remembered-then (StillAreOuts i mid x last.forest.now last.outbox.now) (StillAreOuts i f x last.forest.now last.outbox.now) end
             (λ outs were. outs (blocks-changed i f mid x kept.resource were)) arrived.outs;
         fewer = arrived.fewer;
         kept = kept-then i f mid last.forest.now kept stays.kept;
@@ -70,7 +70,7 @@ returns-in-Given c =
     let i = a.system.now in
     let k = a.key.now in
     let f = a.forest.now in
-    let x = a.effects.now in
+    let x = a.outbox.now in
     let g : GivenRow = c.in-Given.given.now in
     let e : Waiting = waits.Given g in
     let at : Target = g.target in
@@ -85,11 +85,11 @@ returns-in-Given c =
       here = stimulus-lies i e at xs is f may.event.here ∙ sym kept.resource;
       ready = record { resource = may.ready.resource ∙ sym kept.resource };
       typed = stimulus-typed i e at xs is k f mid changes may.event.here may.belongs may.typed;
-      whole = record { same = record { system = refl; key = refl; forest = refl; effects = refl }; kept = kept };
+      whole = record { same = record { system = refl; key = refl; forest = refl; outbox = refl }; kept = kept };
       taken = λ left end last after arrived stays. subst (λ (r : Arrival). WasTaken a (event_in r) left end last after) (sym c.in-Given.is) (record {
-        taken = stimulus-taken i e at xs is k f mid changes may.event.here last.forest.now x last.effects.now left after end arrived.reacted;
+        taken = stimulus-taken i e at xs is k f mid changes may.event.here last.forest.now x last.outbox.now left after end arrived.reacted;
         outs =
-            remembered-then (StillAreOuts i mid x last.forest.now last.effects.now) (StillAreOuts i f x last.forest.now last.effects.now) end
+            remembered-then (StillAreOuts i mid x last.forest.now last.outbox.now) (StillAreOuts i f x last.forest.now last.outbox.now) end
             (λ outs were. outs (blocks-changed i f mid x kept.resource were)) arrived.outs;
         fewer = arrived.fewer;
         kept = kept-then i f mid last.forest.now kept stays.kept;
@@ -114,7 +114,7 @@ returns-in-Message c =
     let i = a.system.now in
     let k = a.key.now in
     let f = a.forest.now in
-    let x = a.effects.now in
+    let x = a.outbox.now in
     let m = c.in-Message.message.now in
     let mid = c.hold_carried.new.forest in
     let holds = c.hold_carried.ensures in
@@ -126,11 +126,11 @@ returns-in-Message c =
       here = here ∙ sym held.resource;
       ready = record { resource = may.ready.resource ∙ sym held.resource };
       typed = arrival-typed i k m f mid holds may.belongs may.typed;
-      whole = record { same = record { system = refl; key = refl; forest = refl; effects = refl }; kept = held };
+      whole = record { same = record { system = refl; key = refl; forest = refl; outbox = refl }; kept = held };
       taken = λ left end last after arrived stays. subst (λ (r : Arrival). WasTaken a (event_in r) left end last after) (sym c.in-Message.is) (record {
-        taken = arrival-taken i k m f mid holds last.forest.now x last.effects.now left after end arrived.reacted;
+        taken = arrival-taken i k m f mid holds last.forest.now x last.outbox.now left after end arrived.reacted;
         outs =
-            remembered-then (StillAreOuts i mid x last.forest.now last.effects.now) (StillAreOuts i f x last.forest.now last.effects.now) end
+            remembered-then (StillAreOuts i mid x last.forest.now last.outbox.now) (StillAreOuts i f x last.forest.now last.outbox.now) end
             (λ outs were. outs (blocks-changed i f mid x held.resource were)) arrived.outs;
         fewer = arrived.fewer;
         kept = kept-then i f mid last.forest.now held stays.kept;
@@ -143,7 +143,7 @@ returns-in-Local c =
     let i = a.system.now in
     let k = a.key.now in
     let f = a.forest.now in
-    let x = a.effects.now in
+    let x = a.outbox.now in
     let at : Target = c.in-Local.target in
     let may = subst (λ (r : Arrival). MayTake a (event_in r)) c.in-Local.is c.requires.may in
     let here : InForest i f at.instance = ap (system_of i).resource (sym (path-of_port (system_of i) at)) ∙ may.event.here in
@@ -154,7 +154,7 @@ returns-in-Local c =
       typed = may.belongs;
       whole = stays-whole a;
       taken = λ left end last after arrived stays. subst (λ (r : Arrival). WasTaken a (event_in r) left end last after) (sym c.in-Local.is) (record {
-        taken = local-taken i k at f last.forest.now x last.effects.now left after end arrived.reacted;
+        taken = local-taken i k at f last.forest.now x last.outbox.now left after end arrived.reacted;
         outs = arrived.outs;
         fewer = arrived.fewer;
         kept = stays.kept;

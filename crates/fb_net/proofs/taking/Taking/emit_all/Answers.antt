@@ -10,7 +10,7 @@ pub loop-emission-init : goal.loop-emission-init
 loop-emission-init c = record {
   done = [];
   parts = refl;
-  emitted = nothing_emitted c.args.self.now.system.now c.args.self.now.key.now c.args.instance c.args.self.now.forest.now c.args.self.now.effects.now;
+  emitted = nothing_emitted c.args.self.now.system.now c.args.self.now.key.now c.args.instance c.args.self.now.forest.now c.args.self.now.outbox.now;
   whole = stays-whole c.args.self.now;
 }
 

@@ -1,4 +1,4 @@
-use Rattle.fb_net.proofs.lemmas.Common.{ℕ, [], ◌∷◌, ◌++◌, ◌∙◌, List, map, ap, subst, refl, All, system_of, event_output, spread, Line, Value, IsOut, out_of, Effects}
+use Rattle.fb_net.proofs.lemmas.Common.{ℕ, [], ◌∷◌, ◌++◌, ◌∙◌, List, map, ap, subst, refl, All, system_of, event_output, spread, Line, Value, IsOut, out_of, Outbox}
 use Rattle.fb_net.specs.Emitting.{bare}
 use Rattle.fb_net.proofs.lemmas.emitting.Emitting.{Doing, has_emitted, line_by, no_indexes}
 use Rattle.fb_net.proofs.lemmas.emitting.Publishing.{nothing_shown}
@@ -16,8 +16,8 @@ returns-clause-emitted c =
     let k = c.args.instance in
     let e = bare c.args.event in
     let f = c.args.self.now.forest.now in
-    let x = c.args.self.now.effects.now in
-    let y : Effects = record { lines = c.push_reserved.new.self; outs = c.send_out.new.outs; timer = x.timer } in
+    let x = c.args.self.now.outbox.now in
+    let y : Outbox = record { lines = c.push_reserved.new.self; outs = c.send_out.new.outs; timer = x.timer } in
     let lies = c.requires.index.stands.here in
     let done : Doing i key k f x e f y = record {
       indexes = [];
@@ -34,10 +34,10 @@ returns-clause-emitted c =
     has_emitted i key k f x e f y done c.requires.index.number lies c.requires.index.resource c.args.self.now.named c.requires.emission
 
 pub returns-in_err-send_out-clause-whole : goal.returns-in_err-send_out-clause-whole
-returns-in_err-send_out-clause-whole c = record { same = record { system = refl; key = refl; forest = refl; effects = refl }; kept = kept-same c.args.self.now.system.now c.args.self.now.forest.now }
+returns-in_err-send_out-clause-whole c = record { same = record { system = refl; key = refl; forest = refl; outbox = refl }; kept = kept-same c.args.self.now.system.now c.args.self.now.forest.now }
 
 pub returns-in_err-reserve-clause-whole : goal.returns-in_err-reserve-clause-whole
-returns-in_err-reserve-clause-whole c = record { same = record { system = refl; key = refl; forest = refl; effects = refl }; kept = kept-same c.args.self.now.system.now c.args.self.now.forest.now }
+returns-in_err-reserve-clause-whole c = record { same = record { system = refl; key = refl; forest = refl; outbox = refl }; kept = kept-same c.args.self.now.system.now c.args.self.now.forest.now }
 
 pub returns-clause-whole : goal.returns-clause-whole
-returns-clause-whole c = record { same = record { system = refl; key = refl; forest = refl; effects = refl }; kept = kept-same c.args.self.now.system.now c.args.self.now.forest.now }
+returns-clause-whole c = record { same = record { system = refl; key = refl; forest = refl; outbox = refl }; kept = kept-same c.args.self.now.system.now c.args.self.now.forest.now }

@@ -1,4 +1,4 @@
-use Rattle.fb_net.proofs.lemmas.Common.{◌≡◌, ℕ, [], ◌∷◌, ◌++◌, ◌∙◌, List, map, ap, sym, subst, refl, All, system_of, carried_of, event_output, path_at, spread, Line, Value, Changes, carried_by, outputs_at, outputs_shown, IsOut, out_of, Effects}
+use Rattle.fb_net.proofs.lemmas.Common.{◌≡◌, ℕ, [], ◌∷◌, ◌++◌, ◌∙◌, List, map, ap, sym, subst, refl, All, system_of, carried_of, event_output, path_at, spread, Line, Value, Changes, carried_by, outputs_at, outputs_shown, IsOut, out_of, Outbox}
 use Rattle.fb_net.proofs.lemmas.emitting.Emitting.{Doing, are_carried, has_emitted, line_by}
 use Rattle.fb_net.proofs.lemmas.blocks.BlocksKept.{kept-changed}
 use Rattle.fb_net.proofs.taking.Taking.emit_one.Goals as goal
@@ -22,9 +22,9 @@ returns-clause-emitted c =
     let indexes = c.indexes_of-indexes.result.now in
     let f = c.args.self.now.forest.now in
     let g = c.publish_all.new.forest in
-    let x = c.args.self.now.effects.now in
+    let x = c.args.self.now.outbox.now in
     let lies : sys.resource (path_at sys k) ≡ g.resource = c.requires.index.stands.here ∙ sym c.publish_all.ensures.resource in
-    let y : Effects = record { lines = c.push_reserved.new.self; outs = c.send_out.new.outs; timer = x.timer } in
+    let y : Outbox = record { lines = c.push_reserved.new.self; outs = c.send_out.new.outs; timer = x.timer } in
     let done : Doing i c.args.self.now.key.now k f x e g y = record {
       indexes = indexes;
       stand = c.indexes_of-indexes.ensures;
@@ -41,18 +41,18 @@ returns-clause-emitted c =
 
 pub returns-in_err-send_out-clause-whole : goal.returns-in_err-send_out-clause-whole
 returns-in_err-send_out-clause-whole c = record {
-  same = record { system = refl; key = refl; forest = refl; effects = refl };
+  same = record { system = refl; key = refl; forest = refl; outbox = refl };
   kept = kept-changed c.args.self.now.system.now c.args.self.now.forest.now c.publish_all.new.forest c.args.instance _ c.publish_all.ensures c.requires.index.stands.here;
 }
 
 pub returns-in_err-reserve-clause-whole : goal.returns-in_err-reserve-clause-whole
 returns-in_err-reserve-clause-whole c = record {
-  same = record { system = refl; key = refl; forest = refl; effects = refl };
+  same = record { system = refl; key = refl; forest = refl; outbox = refl };
   kept = kept-changed c.args.self.now.system.now c.args.self.now.forest.now c.publish_all.new.forest c.args.instance _ c.publish_all.ensures c.requires.index.stands.here;
 }
 
 pub returns-clause-whole : goal.returns-clause-whole
 returns-clause-whole c = record {
-  same = record { system = refl; key = refl; forest = refl; effects = refl };
+  same = record { system = refl; key = refl; forest = refl; outbox = refl };
   kept = kept-changed c.args.self.now.system.now c.args.self.now.forest.now c.publish_all.new.forest c.args.instance _ c.publish_all.ensures c.requires.index.stands.here;
 }

@@ -1,4 +1,4 @@
-use Rattle.fb_net.proofs.lemmas.Common.{◌≡◌, ℕ, [], ◌∷◌, ◌++◌, ◌∙◌, List, length, map, ap, sym, subst, refl, rules, arith, All, system_of, carried_of, event_output, path_at, spread, Line, Value, carried_by, outputs_at, outputs_shown, IsOut, out_of, Effects}
+use Rattle.fb_net.proofs.lemmas.Common.{◌≡◌, ℕ, [], ◌∷◌, ◌++◌, ◌∙◌, List, length, map, ap, sym, subst, refl, rules, arith, All, system_of, carried_of, event_output, path_at, spread, Line, Value, carried_by, outputs_at, outputs_shown, IsOut, out_of, Outbox}
 use Rattle.fb_types.proofs.Common.{common_steps}
 use Rattle.fb_types.specs.declared.run.Emission.{Emission}
 use Rattle.fb_net.proofs.lemmas.blocks.Changing.{changes_as}
@@ -23,8 +23,8 @@ returns-clause-emitted c =
     let indexes = c.args.variable ∷ [] in
     let f = c.args.self.now.forest.now in
     let g = c.publish.new.self in
-    let x = c.args.self.now.effects.now in
-    let y : Effects = record { lines = c.push_reserved.new.self; outs = c.send_out.new.outs; timer = x.timer } in
+    let x = c.args.self.now.outbox.now in
+    let y : Outbox = record { lines = c.push_reserved.new.self; outs = c.send_out.new.outs; timer = x.timer } in
     let lies : sys.resource (path_at sys k) ≡ g.resource = c.requires.index.stands.here ∙ sym c.publish.ensures.resource in
     let one : c.from_ref.result.now ≡ c.args.value.now ∷ [] = first_of (cc, search rules, search (rules, c.from_ref.ensures.value), grind (arith, common_steps)) in
     let done : Doing i key k f x e g y = record {
@@ -49,18 +49,18 @@ returns-clause-emitted c =
 
 pub returns-in_err-send_out-clause-whole : goal.returns-in_err-send_out-clause-whole
 returns-in_err-send_out-clause-whole c = record {
-  same = record { system = refl; key = refl; forest = refl; effects = refl };
+  same = record { system = refl; key = refl; forest = refl; outbox = refl };
   kept = kept-changed c.args.self.now.system.now c.args.self.now.forest.now c.publish.new.self c.args.instance _ c.publish.ensures c.requires.index.stands.here;
 }
 
 pub returns-in_err-reserve-clause-whole : goal.returns-in_err-reserve-clause-whole
 returns-in_err-reserve-clause-whole c = record {
-  same = record { system = refl; key = refl; forest = refl; effects = refl };
+  same = record { system = refl; key = refl; forest = refl; outbox = refl };
   kept = kept-changed c.args.self.now.system.now c.args.self.now.forest.now c.publish.new.self c.args.instance _ c.publish.ensures c.requires.index.stands.here;
 }
 
 pub returns-clause-whole : goal.returns-clause-whole
 returns-clause-whole c = record {
-  same = record { system = refl; key = refl; forest = refl; effects = refl };
+  same = record { system = refl; key = refl; forest = refl; outbox = refl };
   kept = kept-changed c.args.self.now.system.now c.args.self.now.forest.now c.publish.new.self c.args.instance _ c.publish.ensures c.requires.index.stands.here;
 }

@@ -34,16 +34,16 @@ returns-clause-entered c =
     let lies = still (λ (i : Inputs) (k : Key). InForest i b.forest.now at.instance) a b same (c.requires.arrives.stands.here ∙ sym whole.kept.resource) in
     done-well (entering a.system.now a.key.now at) a _ c.send_out.result
     (on_ok_weaker c.send_out.result
-    (λ went. enters a.system.now a.key.now at a.forest.now b.forest.now a.effects.now b.effects.now (record b.effects.now { outs = c.send_out.new.outs })
+    (λ went. enters a.system.now a.key.now at a.forest.now b.forest.now a.outbox.now b.outbox.now (record b.outbox.now { outs = c.send_out.new.outs })
     taken.comes (ready-after a b whole c.requires.arrives.ready) refl refl
-    (already (λ (i : Inputs) (k : Key). sent-of i b.forest.now.resource at b.effects.now.outs.items c.send_out.new.outs.items) a b same
-    (subst (λ (r : ℕ). sent-of b.system.now r at b.effects.now.outs.items c.send_out.new.outs.items) lies went.sent)))
+    (already (λ (i : Inputs) (k : Key). sent-of i b.forest.now.resource at b.outbox.now.outs.items c.send_out.new.outs.items) a b same
+    (subst (λ (r : ℕ). sent-of b.system.now r at b.outbox.now.outs.items c.send_out.new.outs.items) lies went.sent)))
     c.send_out.ensures)
     (on_ok_weaker c.send_out.result
-    (λ went. put-out-after a b b.forest.now (record b.effects.now { outs = c.send_out.new.outs }) same taken.outs
+    (λ went. put-out-after a b b.forest.now (record b.outbox.now { outs = c.send_out.new.outs }) same taken.outs
     (λ were. record {
       lines = were.lines;
-      outs = subst (λ (r : ℕ). All (IsOut (system_of b.system.now) r) b.effects.now.outs.items → All (IsOut (system_of b.system.now) r) c.send_out.new.outs.items) lies went.belong were.outs;
+      outs = subst (λ (r : ℕ). All (IsOut (system_of b.system.now) r) b.outbox.now.outs.items → All (IsOut (system_of b.system.now) r) c.send_out.new.outs.items) lies went.belong were.outs;
     })) c.send_out.ensures)
 
 pub returns-in_err-take_samples-clause-whole : goal.returns-in_err-take_samples-clause-whole
@@ -52,4 +52,4 @@ returns-in_err-take_samples-clause-whole c = c.take_samples.ensures.whole
 pub returns-clause-whole : goal.returns-clause-whole
 returns-clause-whole c =
     let whole = c.take_samples.ensures.whole in
-    record { same = record { system = whole.same.system; key = whole.same.key; forest = whole.same.forest; effects = whole.same.effects }; kept = whole.kept }
+    record { same = record { system = whole.same.system; key = whole.same.key; forest = whole.same.forest; outbox = whole.same.outbox }; kept = whole.kept }

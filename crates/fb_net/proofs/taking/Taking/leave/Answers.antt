@@ -46,7 +46,7 @@ returns-in-One-clause-left c =
     let value = c.shown_inside.result.now in
     done-well (leaving a.system.now a.key.now at) a b c.emit_value.result
     (on_ok_weaker c.emit_value.result
-    (λ well. leaves a.system.now a.key.now at a.forest.now b.forest.now a.effects.now b.effects.now (value ∷ [])
+    (λ well. leaves a.system.now a.key.now at a.forest.now b.forest.now a.outbox.now b.outbox.now (value ∷ [])
     (record { event = at.event; values = value ∷ [] } ∷ [])
     arrives.ready c.requires.side arrives.stands.here
     (one-shown a.system.now a.forest.now at c.in-One.variable value (value ∷ []) stand c.shown_inside.ensures refl) refl well.emitted)
@@ -56,7 +56,7 @@ returns-in-One-clause-left c =
 pub returns-in-One-clause-whole : goal.returns-in-One-clause-whole
 returns-in-One-clause-whole c =
     let whole = c.emit_value.ensures.whole in
-    record { same = record { system = whole.same.system; key = whole.same.key; forest = whole.same.forest; effects = whole.same.effects }; kept = whole.kept }
+    record { same = record { system = whole.same.system; key = whole.same.key; forest = whole.same.forest; outbox = whole.same.outbox }; kept = whole.kept }
 
 pub emit_one-requires-clause-index : goal.emit_one-requires-clause-index
 emit_one-requires-clause-index c =
@@ -69,16 +69,16 @@ returns-clause-left c =
     let arrives = c.requires.arrives in
     done-well (leaving a.system.now a.key.now c.args.at) a b c.emit_one.result
     (on_ok_weaker c.emit_one.result
-    (λ well. leaves a.system.now a.key.now c.args.at a.forest.now b.forest.now a.effects.now b.effects.now c.in_ok-values.values
+    (λ well. leaves a.system.now a.key.now c.args.at a.forest.now b.forest.now a.outbox.now b.outbox.now c.in_ok-values.values
     (record { event = c.args.at.event; values = c.in_ok-values.values } ∷ [])
     arrives.ready c.requires.side arrives.stands.here c.in_ok-values.ensures.shown refl well.emitted)
     c.emit_one.ensures.emitted)
     (on_ok_weaker c.emit_one.result (λ well. well.outs) c.emit_one.ensures.emitted)
 
 pub returns-in_err-values-clause-whole : goal.returns-in_err-values-clause-whole
-returns-in_err-values-clause-whole c = record { same = record { system = refl; key = refl; forest = refl; effects = refl }; kept = kept-same c.args.self.now.system.now c.args.self.now.forest.now }
+returns-in_err-values-clause-whole c = record { same = record { system = refl; key = refl; forest = refl; outbox = refl }; kept = kept-same c.args.self.now.system.now c.args.self.now.forest.now }
 
 pub returns-clause-whole : goal.returns-clause-whole
 returns-clause-whole c =
     let whole = c.emit_one.ensures.whole in
-    record { same = record { system = whole.same.system; key = whole.same.key; forest = whole.same.forest; effects = whole.same.effects }; kept = whole.kept }
+    record { same = record { system = whole.same.system; key = whole.same.key; forest = whole.same.forest; outbox = whole.same.outbox }; kept = whole.kept }

@@ -5,7 +5,7 @@ use Rattle.fb_net.specs.Samples.{names_in}
 use Rattle.fb_net.proofs.lemmas.taking.Arriving.{event-reacts}
 use Rattle.fb_net.proofs.lemmas.blocks.Changing.{samples_none}
 use Rattle.fb_net.proofs.lemmas.taking.PassingOn.{is_emission, no_names, nothing_sampled, passed_came}
-use Rattle.fb_net.proofs.lemmas.emitting.EffectsKept.{lines-put}
+use Rattle.fb_net.proofs.lemmas.emitting.OutboxKept.{lines-put}
 use Rattle.fb_net.proofs.lemmas.values.Sampling.{sampling-represents}
 use Rattle.fb_net.proofs.lemmas.blocks.BlocksKept.{kept-same}
 use Rattle.fb_net.proofs.taking.Taking.pass_on.Goals as goal
@@ -39,8 +39,8 @@ returns-clause-reacted c =
     let i = t.system.now in
     let k = t.key.now in
     let f = t.forest.now in
-    let x = t.effects.now in
-    let y = c.write_taken.new.effects in
+    let x = t.outbox.now in
+    let y = c.write_taken.new.outbox in
     let z = c.emit_bare.new.self in
     let at = c.args.at in
     let values = c.new-values.result in
@@ -52,16 +52,16 @@ returns-clause-reacted c =
     c.in_ok-write_taken.ensures.written c.write_taken.ensures.outs c.write_taken.ensures.timer in
     on_ok_weaker c.emit_bare.result
     (λ well. record {
-      comes = event-reacts i k c.args.kind at may.of_kind may.input f f f z.forest.now x y z.effects.now Keep (bare c.args.event ∷ []) taken
+      comes = event-reacts i k c.args.kind at may.of_kind may.input f f f z.forest.now x y z.outbox.now Keep (bare c.args.event ∷ []) taken
           may.arrives.stands.here (passed_came i f c.args.kind at c.args.event passes may.of_kind may.arrives.port.instance k.tick) well.emitted;
       outs = λ were. well.outs (lines-put i f f x y refl c.write_taken.ensures.outs c.in_ok-write_taken.ensures.lines were);
     })
     c.emit_bare.ensures.emitted
 
 pub returns-in_err-write_taken-clause-whole : goal.returns-in_err-write_taken-clause-whole
-returns-in_err-write_taken-clause-whole c = record { same = record { system = refl; key = refl; forest = refl; effects = refl }; kept = kept-same c.args.self.now.system.now c.args.self.now.forest.now }
+returns-in_err-write_taken-clause-whole c = record { same = record { system = refl; key = refl; forest = refl; outbox = refl }; kept = kept-same c.args.self.now.system.now c.args.self.now.forest.now }
 
 pub returns-clause-whole : goal.returns-clause-whole
 returns-clause-whole c =
     let whole = c.emit_bare.ensures.whole in
-    record { same = record { system = whole.same.system; key = whole.same.key; forest = whole.same.forest; effects = whole.same.effects }; kept = whole.kept }
+    record { same = record { system = whole.same.system; key = whole.same.key; forest = whole.same.forest; outbox = whole.same.outbox }; kept = whole.kept }

@@ -62,14 +62,14 @@ returns-in-Event-clause-taken c =
     let left = c.args.meter.now.left in
     let kind = c.in-Event.kind in
     let f = a.forest.now in
-    let x = a.effects.now in
+    let x = a.outbox.now in
     let done = c.arrive_event in
     let z = done.new.self in
     brought.taken left done.result z left
     (record {
-      reacted = reacted-ended i (Arrives i k at left) f z.forest.now x z.effects.now left done.result done.ensures.only_memory
+      reacted = reacted-ended i (Arrives i k at left) f z.forest.now x z.outbox.now left done.result done.ensures.only_memory
           (on_ok_weaker done.result
-          (λ did. done-reacted i (reacting i k kind at) (Arrives i k at left) f z.forest.now x z.effects.now left
+          (λ did. done-reacted i (reacting i k kind at) (Arrives i k at left) f z.forest.now x z.outbox.now left
           (event-arrives i k kind at (sym c.in-Event.ensures) left) (reacting-stop i k kind at left) (reacting-left i k kind at left) did.comes)
           done.ensures.reacted);
       outs = remembered-ended _ done.result done.ensures.only_memory (on_ok_weaker done.result (λ did. did.outs) done.ensures.reacted);
@@ -125,7 +125,7 @@ returns-in_ok-leave-in-Some-Composite-clause-taken c =
     let z = c.leave.new.self in
     brought.taken left (Ok tt) z left
     (record {
-      reacted = done-reacted i (leaving i k at) (Arrives i k at left) a.forest.now z.forest.now a.effects.now z.effects.now left
+      reacted = done-reacted i (leaving i k at) (Arrives i k at left) a.forest.now z.forest.now a.outbox.now z.outbox.now left
           (composite-leaves i k at t is brought.target.port c.facts.ensures.accepted c.in-Declared.index declared c.if-at.true left) (λ w. refl) (λ w. refl) did.comes;
       outs = did.outs;
       fewer = omega arith;
@@ -148,7 +148,7 @@ returns-in_ok-enter-in-Some-Composite-clause-taken c =
     let z = c.enter.new.self in
     brought.taken left (Ok tt) z left
     (record {
-      reacted = done-reacted i (entering i k at) (Arrives i k at left) a.forest.now z.forest.now a.effects.now z.effects.now left
+      reacted = done-reacted i (entering i k at) (Arrives i k at left) a.forest.now z.forest.now a.outbox.now z.outbox.now left
           (composite-enters i k at t is brought.target.port c.if-at.false left) (λ w. refl) (λ w. refl) did.comes;
       outs = did.outs;
       fewer = omega arith;

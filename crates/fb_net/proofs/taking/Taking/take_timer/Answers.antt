@@ -1,7 +1,7 @@
-use Rattle.fb_net.proofs.lemmas.Common.{◌∙◌, refl, sym, subst, arith, on_ok_weaker, slice_get, Effects}
+use Rattle.fb_net.proofs.lemmas.Common.{◌∙◌, refl, sym, subst, arith, on_ok_weaker, slice_get, Outbox}
 use Rattle.fb_net.specs.Emitting.{EmitsSo}
 use Rattle.fb_net.proofs.lemmas.taking.ByEvent.{timer-expires, timer-rests, timer-taken}
-use Rattle.fb_net.proofs.lemmas.emitting.EffectsKept.{timer-asked}
+use Rattle.fb_net.proofs.lemmas.emitting.OutboxKept.{timer-asked}
 use Rattle.fb_net.proofs.lemmas.taking.TakingSteps.{stays-whole}
 use Rattle.fb_net.proofs.lemmas.blocks.BlocksKept.{kept-same, kept-then, kept-world}
 use Rattle.fb_net.proofs.taking.Taking.take_timer.Goals as goal
@@ -12,16 +12,16 @@ returns-in-Ok-clause-taken c =
     let i = a.system.now in
     let k = a.key.now in
     let f = a.forest.now in
-    let x = a.effects.now in
+    let x = a.outbox.now in
     let kind = c.in-Event.kind in
     let late = c.expire_event.new.forest in
     let emits = c.expire_event.new.emits in
     let z = c.emit_all.new.self in
     on_ok_weaker c.emit_all.result
     (λ well left. record {
-      taken = timer-taken i k kind c.args.instance f z.forest.now x z.effects.now (sym c.in-Event.ensures)
-          (timer-expires i k kind c.args.instance f late z.forest.now x z.effects.now c.expire_event.new.ask emits (sym c.in-Event.ensures) c.requires.event.here c.in-Ok.ensures.reacted
-          (subst (λ (y : Effects). EmitsSo i k c.args.instance late y emits z.forest.now z.effects.now) c.ask_timer.ensures well.emitted)) left;
+      taken = timer-taken i k kind c.args.instance f z.forest.now x z.outbox.now (sym c.in-Event.ensures)
+          (timer-expires i k kind c.args.instance f late z.forest.now x z.outbox.now c.expire_event.new.ask emits (sym c.in-Event.ensures) c.requires.event.here c.in-Ok.ensures.reacted
+          (subst (λ (y : Outbox). EmitsSo i k c.args.instance late y emits z.forest.now z.outbox.now) c.ask_timer.ensures well.emitted)) left;
       outs = λ were. well.outs (timer-asked i f late x _ _ c.expire_event.ensures.resource c.ask_timer.ensures were);
       fewer = omega arith;
       kept = kept-then i f late z.forest.now (kept-world i f late c.expire_event.ensures.resource c.expire_event.ensures.whole) c.emit_all.ensures.whole.kept;
@@ -41,14 +41,14 @@ pub returns-in-Ok-clause-whole : goal.returns-in-Ok-clause-whole
 returns-in-Ok-clause-whole c =
     let whole = c.emit_all.ensures.whole in
     record {
-      same = record { system = whole.same.system; key = whole.same.key; forest = whole.same.forest; effects = whole.same.effects };
+      same = record { system = whole.same.system; key = whole.same.key; forest = whole.same.forest; outbox = whole.same.outbox };
       kept = kept-then c.args.self.now.system.now c.args.self.now.forest.now c.expire_event.new.forest c.emit_all.new.self.forest.now
           (kept-world c.args.self.now.system.now c.args.self.now.forest.now c.expire_event.new.forest c.expire_event.ensures.resource c.expire_event.ensures.whole) whole.kept;
     }
 
 pub returns-in-Err-clause-whole : goal.returns-in-Err-clause-whole
 returns-in-Err-clause-whole c = record {
-  same = record { system = refl; key = refl; forest = refl; effects = refl };
+  same = record { system = refl; key = refl; forest = refl; outbox = refl };
   kept = kept-world c.args.self.now.system.now c.args.self.now.forest.now c.expire_event.new.forest c.expire_event.ensures.resource c.expire_event.ensures.whole;
 }
 
@@ -57,7 +57,7 @@ returns-in-Declared-clause-taken c left =
     let i = c.args.self.now.system.now in
     let f = c.args.self.now.forest.now in
     record {
-      taken = timer-rests i c.args.self.now.key.now c.args.instance (slice_get i.library.blocks c.in-Declared.field-0) f c.args.self.now.effects.now c.in-Declared.ensures left;
+      taken = timer-rests i c.args.self.now.key.now c.args.instance (slice_get i.library.blocks c.in-Declared.field-0) f c.args.self.now.outbox.now c.in-Declared.ensures left;
       outs = λ were. were;
       fewer = omega arith;
       kept = kept-same i f;

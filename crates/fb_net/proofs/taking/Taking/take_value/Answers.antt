@@ -1,7 +1,7 @@
 use Rattle.fb_net.proofs.lemmas.Common.{◌<◌, cond, [], ◌∷◌, ◌∙◌, List, length, map, refl, sym, ap, subst, arith, on_ok_weaker, system_of, Name, path_at, ports_at, Value, variable_at, sampling, all_sampled, names_in, Changes}
 use Rattle.fb_net.proofs.lemmas.blocks.Changing.{changes_as}
 use Rattle.fb_net.proofs.lemmas.emitting.PortRows.{indexes_in, source_in}
-use Rattle.fb_net.proofs.lemmas.emitting.EffectsKept.{lines-put}
+use Rattle.fb_net.proofs.lemmas.emitting.OutboxKept.{lines-put}
 use Rattle.fb_net.proofs.lemmas.taking.TakingSteps.{done-well}
 use Rattle.fb_net.proofs.lemmas.values.Sampling.{one-sampled, sampling-represents}
 use Rattle.fb_net.proofs.lemmas.blocks.BlocksKept.{kept-changed}
@@ -43,8 +43,8 @@ returns-clause-taken c =
     let may = c.requires.may in
     let f = c.args.self.now.forest.now in
     let g = c.set_input.new.self in
-    let x = c.args.self.now.effects.now in
-    let y = c.write_taken.new.effects in
+    let x = c.args.self.now.outbox.now in
+    let y = c.write_taken.new.outbox in
     let stand = indexes_in sys at (c.args.variable ∷ []) may.input c.requires.one.indexes in
     let value = c.sampled-value.result.now in
     let values = c.one-values.result in
@@ -62,6 +62,6 @@ returns-clause-taken c =
 
 pub returns-clause-whole : goal.returns-clause-whole
 returns-clause-whole c = record {
-  same = record { system = refl; key = refl; forest = refl; effects = refl };
+  same = record { system = refl; key = refl; forest = refl; outbox = refl };
   kept = kept-changed c.args.self.now.system.now c.args.self.now.forest.now c.set_input.new.self c.args.at.instance _ c.set_input.ensures c.requires.may.arrives.stands.here;
 }

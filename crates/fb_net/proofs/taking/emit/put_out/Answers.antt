@@ -1,5 +1,5 @@
 use Rattle.fb_net.proofs.lemmas.Common.{◌∷◌, [], ◌++◌, ◌∙◌, List, sym, ap, on_ok_weaker, carried_by, Out}
-use Rattle.fb_net.specs.declared.effects.Out.TheVariants.{Local}
+use Rattle.fb_net.specs.declared.outbox.Out.TheVariants.{Local}
 use Rattle.fb_net.proofs.lemmas.taking.Targets.{kept_to, sent_to}
 use Rattle.fb_net.proofs.taking.emit.put_out.Goals as goal
 

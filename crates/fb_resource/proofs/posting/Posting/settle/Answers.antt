@@ -7,7 +7,7 @@ pub post_all-requires-clause-may : goal.post_all-requires-clause-may
 post_all-requires-clause-may c = c.in_ok-set_timer.ensures.grown.may
 
 pub post_all-requires-clause-outs : goal.post_all-requires-clause-outs
-post_all-requires-clause-outs c = still_postable c.args.self.now c.set_timer.new.self c.args.effects.now.outs.items c.set_timer.ensures.same c.requires.outs
+post_all-requires-clause-outs c = still_postable c.args.self.now c.set_timer.new.self c.args.outbox.now.outs.items c.set_timer.ensures.same c.requires.outs
 
 pub post_all-requires-clause-room : goal.post_all-requires-clause-room
 post_all-requires-clause-room c =
@@ -21,12 +21,12 @@ returns-clause-settled c = when_ok c.post_all.result c.post_all.ensures.posted
     record {
       mid = c.set_timer.new.self.agenda.now;
       set = set.set;
-      posted = posted_after c.args.self.now c.set_timer.new.self c.post_all.new.self c.args.effects.now.timer c.args.event.now c.args.effects.now.outs.items c.set_timer.ensures.same set posted counts are;
+      posted = posted_after c.args.self.now c.set_timer.new.self c.post_all.new.self c.args.outbox.now.timer c.args.event.now c.args.outbox.now.outs.items c.set_timer.ensures.same set posted counts are;
     })
 
 pub returns-clause-grown : goal.returns-clause-grown
 returns-clause-grown c = when_ok c.post_all.result c.post_all.ensures.grown
-    (grown_then c.args.self.now c.set_timer.new.self c.post_all.new.self 0 (length c.args.effects.now.outs.items) (2 ^ 64) c.set_timer.ensures.same (omega arith) c.in_ok-set_timer.ensures.grown)
+    (grown_then c.args.self.now c.set_timer.new.self c.post_all.new.self 0 (length c.args.outbox.now.outs.items) (2 ^ 64) c.set_timer.ensures.same (omega arith) c.in_ok-set_timer.ensures.grown)
 
 pub returns-clause-emptied : goal.returns-clause-emptied
 returns-clause-emptied c = when_ok c.post_all.result c.post_all.ensures.none (λ none. record { lines = refl; none = none; keeps = refl })

@@ -18,5 +18,5 @@ returns-clause-opened c =
 pub returns-clause-fresh : goal.returns-clause-fresh
 returns-clause-fresh c =
     let i = c.args.system.now in
-    IfOk-weaker c.of_agenda.result (IsFresh i c.args.number) (λ x. (x.resource_blocks.resource ≡ c.args.number) × (x.clock ≡ 0) × (x.stopped ≡ None))
+    IfOk-weaker c.of_agenda.result (IsFresh i c.args.number) (λ x. (x.tree.resource ≡ c.args.number) × (x.clock ≡ 0) × (x.stopped ≡ None))
     (λ x fresh. (fresh.numbered, fresh.clock, fresh.live)) c.of_agenda.ensures

@@ -30,15 +30,15 @@ events-init c =
       running = running_first i c.args.steps x counts q empty c.requires.of (metered_fresh c.args.steps counts begins) (past_fresh x.clock counts begins);
       ahead = c.requires.ahead;
       live = c.requires.live;
-      resource_blocks = refl;
+      tree = refl;
       unused = unused_fresh c.args.to counts begins;
       comes = λ l represents. comes_first i c.args.steps x counts q empty c.args.to l c.requires.live (unused_fresh x.clock counts begins) represents;
     }
 
 -- ---- The event in `Least`
 
-pub take-requires-clause-resource_blocks : goal.take-requires-clause-resource_blocks
-take-requires-clause-resource_blocks c =
+pub take-requires-clause-tree : goal.take-requires-clause-tree
+take-requires-clause-tree c =
     let i = c.args.system.now in
     let inv = c.events.invariant in
     let k = c.events.least.key in
@@ -130,21 +130,21 @@ returns-in-Some c =
     let z = apart.least in
     let mid = with_least_event taken.raised z apart.traffic in
     let last = c.put_next.new.agenda in
-    let new : Running = record { resource_blocks = apart.resource_blocks; clock = k.tick; meter = apart.counts; traffic = record apart.traffic { agenda = last }; stopped = taken.stop } in
+    let new : Running = record { tree = apart.tree; clock = k.tick; meter = apart.counts; traffic = record apart.traffic { agenda = last }; stopped = taken.stop } in
     let put = c.in_ok-put_next.ensures.put in
     let went = record c.events.traffic { agenda = a } in
     let ready = ready_alike i k.tick mid last put (c.put_next.ensures.due ∙ sym (due_next taken.raised z.key z.event apart.traffic.agenda)) gave.traffic in
     has_run i c.args.steps (with_traffic c.args.self.now c.args.traffic.now) new c.args.to _ c.requires.of
-    (running_more i c.args.steps old new k e a sound gave.resource_blocks mine inv.live may.event.here gone inv.running s.state
-    (taken_alike i c.args.steps s.state k (event_of i e) taken.stop k.tick apart.resource_blocks apart.counts went mid last put t) gave.counts within ready)
-    (gave.resource_blocks ∙ inv.resource_blocks)
+    (running_more i c.args.steps old new k e a sound gave.tree mine inv.live may.event.here gone inv.running s.state
+    (taken_alike i c.args.steps s.state k (event_of i e) taken.stop k.tick apart.tree apart.counts went mid last put t) gave.counts within ready)
+    (gave.tree ∙ inv.tree)
     (λ l represents.
     let comes = inv.comes l represents in
     let m = comes.represents in
     let its = gave.taken m.state k.tick now (here_at i m.state k old mine may.later m.here) m.counts in
-    ran_stop i c.args.steps old new k e a sound gave.resource_blocks mine inv.live may.event.here gone c.args.self.now.resource_blocks.resource c.args.to l comes inv.resource_blocks finds.below
-    (taken_alike i c.args.steps m.state k (event_of i e) taken.stop k.tick apart.resource_blocks apart.counts went mid last put its) c.in-Some.reason c.in-Some.is refl)
-    (marked z.key apart.resource_blocks.resource taken.stop c.in-Some.reason (gave.moment.1 ∙ mine ∙ sym gave.resource_blocks) c.in-Some.is ∙ ap (λ t. mark_of apart.resource_blocks.resource t taken.stop) gave.moment.0)
+    ran_stop i c.args.steps old new k e a sound gave.tree mine inv.live may.event.here gone c.args.self.now.tree.resource c.args.to l comes inv.tree finds.below
+    (taken_alike i c.args.steps m.state k (event_of i e) taken.stop k.tick apart.tree apart.counts went mid last put its) c.in-Some.reason c.in-Some.is refl)
+    (marked z.key apart.tree.resource taken.stop c.in-Some.reason (gave.moment.1 ∙ mine ∙ sym gave.tree) c.in-Some.is ∙ ap (λ t. mark_of apart.tree.resource t taken.stop) gave.moment.0)
 
 -- ---- One event more
 
@@ -187,7 +187,7 @@ events-preserved c =
     let apart = c.take.new in
     let z = apart.least in
     let mid = with_least_event taken.raised z apart.traffic in
-    let new : Running = record { resource_blocks = apart.resource_blocks; clock = k.tick; meter = apart.counts; traffic = mid; stopped = taken.stop } in
+    let new : Running = record { tree = apart.tree; clock = k.tick; meter = apart.counts; traffic = mid; stopped = taken.stop } in
     let below : k.tick < c.args.to = finds.below in
     let ahead : k.tick ≤ c.args.to = omega (arith, below) in
     let going = c.in_default.is in
@@ -195,16 +195,16 @@ events-preserved c =
       was = mid.agenda;
       finds = c.in_ok-found.ensures.finds;
       due = c.in_ok-found.ensures.due ∙ sym (due_next taken.raised z.key z.event apart.traffic.agenda);
-      running = running_more i c.args.steps old new k e a sound gave.resource_blocks mine inv.live may.event.here gone inv.running s.state t gave.counts within gave.traffic;
+      running = running_more i c.args.steps old new k e a sound gave.tree mine inv.live may.event.here gone inv.running s.state t gave.counts within gave.traffic;
       ahead = ahead;
       live = going;
-      resource_blocks = gave.resource_blocks ∙ inv.resource_blocks;
+      tree = gave.tree ∙ inv.tree;
       unused = unused_below c.args.to k.tick (meter_of apart.counts) (gave.spent going).0 below;
       comes = λ l represents.
           let comes = inv.comes l represents in
           let m = comes.represents in
           let its = gave.taken m.state k.tick now (here_at i m.state k old mine may.later m.here) m.counts in
-          comes_more i c.args.steps old new k e a sound gave.resource_blocks mine inv.live may.event.here gone c.args.self.now.resource_blocks.resource c.args.to l comes inv.resource_blocks finds.below its going;
+          comes_more i c.args.steps old new k e a sound gave.tree mine inv.live may.event.here gone c.args.self.now.tree.resource c.args.to l comes inv.tree finds.below its going;
     }
 
 -- ---- Nothing is left below the tick
@@ -219,6 +219,6 @@ returns c =
     let new : Running = record old { clock = c.args.to; traffic = record old.traffic { agenda = a } } in
     has_run i c.args.steps (with_traffic c.args.self.now c.args.traffic.now) new c.args.to _ c.requires.of
     (running_rest i c.args.steps old a c.args.to rest.kept inv.due rest.none inv.ahead inv.running)
-    inv.resource_blocks
-    (λ l represents. ran_rest i c.args.steps old a c.args.to rest.kept inv.due rest.none inv.ahead c.args.self.now.resource_blocks.resource l (inv.comes l represents) inv.resource_blocks inv.unused)
-    (sym (ap (mark_of c.events.self.resource_blocks.resource c.args.to) inv.live))
+    inv.tree
+    (λ l represents. ran_rest i c.args.steps old a c.args.to rest.kept inv.due rest.none inv.ahead c.args.self.now.tree.resource l (inv.comes l represents) inv.tree inv.unused)
+    (sym (ap (mark_of c.events.self.tree.resource c.args.to) inv.live))

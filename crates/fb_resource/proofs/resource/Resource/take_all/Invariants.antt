@@ -12,10 +12,10 @@ invariant-events l = record {
   running : IsRunning l.system l.steps (in_run l.self l.counts (record l.traffic { agenda = was }));
   ahead : l.self.clock ≤ l.to;
   live : l.self.stopped ≡ None;
-  resource_blocks : l.self.resource_blocks.resource ≡ l.fn.self.resource_blocks.resource;
+  tree : l.self.tree.resource ≡ l.fn.self.tree.resource;
   unused : IsUnused l.to (meter_of l.counts);
   comes : (m : Local (machine (system_of l.system) l.steps)) → Represents l.system l.steps m (with_traffic l.fn.self l.fn.traffic)
-      → ComesTo l.system l.steps l.fn.self.resource_blocks.resource l.to m (in_run l.self l.counts (record l.traffic { agenda = was }));
+      → ComesTo l.system l.steps l.fn.self.tree.resource l.to m (in_run l.self l.counts (record l.traffic { agenda = was }));
 }
 
 abbrev pub decreases-events : goal.decreases-events

@@ -31,7 +31,7 @@ events-init c =
         [],
         at,
         reaches_none c.args.system.now c.args.horizon c.args.limit start,
-        sym (append-nil (map (line_of (system_of c.args.system.now)) c.args.self.now.traffic.effects.lines.items)),
+        sym (append-nil (map (line_of (system_of c.args.system.now)) c.args.self.now.traffic.outbox.lines.items)),
       );
       quiet = λ start at one. refl;
       few = λ start at some. absurd (some refl);
@@ -122,7 +122,7 @@ returns-in-Some-clause-pauses c start is =
     subst (λ n. Pauses i c.args.horizon c.args.limit start c.args.self.now new (Stop (record { tick = n; resource = z.key.resource; reason = c.in-Some.reason }))) (sym moment.0)
     (subst (λ n. Pauses i c.args.horizon c.args.limit start c.args.self.now new (Stop (record { tick = k.tick; resource = n; reason = c.in-Some.reason }))) (sym moment.1) (
       (inv.ready.1.traffic.order.waits k e finds.found).resource,
-      completes_after i c.args.horizon c.args.limit start d comes.1 _ c.events.self.traffic.effects.lines.items _ _ comes.3 comes.4
+      completes_after i c.args.horizon c.args.limit start d comes.1 _ c.events.self.traffic.outbox.lines.items _ _ comes.3 comes.4
           (completes_stop i c.args.horizon c.args.limit d _ c.in-Some.reason _ _ least (taken.stops ∙ c.in-Some.is) finds.below taken.lines),
     ))
 
@@ -236,7 +236,7 @@ returns-then-len-many-clause-stands c start is =
     let t : Taken = record { key = k; event = event_of i e; effect = taken.effect } in
     let pauses = returns-then-len-many-clause-pauses c start is in
     let new = on_agenda c.put_next-then-len-many.new.agenda c.take.new.self in
-    let counted = c.take.new.self.traffic.effects.lines.ok.0 in (
+    let counted = c.take.new.self.traffic.outbox.lines.ok.0 in (
       pauses.1,
       record {
         chain = pauses.3.chain;
@@ -333,15 +333,15 @@ events-preserved c =
           let d = comes.0 in
           let taken = c.in_ok-taken.ensures.taken d.state d.agenda (at_left i k d was c.events.self.traffic.agenda comes.2 finds.left) in
           let t : Taken = record { key = k; event = event_of i e; effect = taken.effect } in
-          let counted = machine.traffic.effects.lines.ok.0 in
-          none_came (system_of i) _ machine.traffic.effects.lines.items _ (omega (arith, c.if-len-many.false, c.len.ensures, counted, one)) (lines_more comes.1 t _ _ _ comes.4 taken.lines);
+          let counted = machine.traffic.outbox.lines.ok.0 in
+          none_came (system_of i) _ machine.traffic.outbox.lines.items _ (omega (arith, c.if-len-many.false, c.len.ensures, counted, one)) (lines_more comes.1 t _ _ _ comes.4 taken.lines);
       few = λ start is some.
           let comes = inv.comes start is in
           let d = comes.0 in
           let taken = c.in_ok-taken.ensures.taken d.state d.agenda (at_left i k d was c.events.self.traffic.agenda comes.2 finds.left) in
           let t : Taken = record { key = k; event = event_of i e; effect = taken.effect } in
-          let counted = machine.traffic.effects.lines.ok.0 in
-          let came = count_came (system_of i) c.args.self.now.traffic.effects.lines.items machine.traffic.effects.lines.items (lines_of (comes.1 ++ t ∷ [])) (lines_more comes.1 t _ _ _ comes.4 taken.lines) in
+          let counted = machine.traffic.outbox.lines.ok.0 in
+          let came = count_came (system_of i) c.args.self.now.traffic.outbox.lines.items machine.traffic.outbox.lines.items (lines_of (comes.1 ++ t ∷ [])) (lines_more comes.1 t _ _ _ comes.4 taken.lines) in
           omega (arith, c.if-len-many.false, c.len.ensures, counted, came);
       ahead = λ from le ready.
           let ahead = inv.ahead from le ready in
@@ -365,8 +365,8 @@ returns-clause-pauses c start is =
     let inv = c.events.invariant in
     let comes = inv.comes start is in
     let finds = subst (λ (b : Bool). Finds c.args.horizon inv.was b c.events.least.key c.events.least.event c.events.self.traffic.agenda) c.events-test.false inv.finds in
-    completes_after c.args.system.now c.args.horizon c.args.limit start comes.0 comes.1 _ c.events.self.traffic.effects.lines.items _ _ comes.3 comes.4
-    (completes_rest c.args.system.now c.args.horizon c.args.limit comes.0 inv.was c.events.self.traffic.effects.lines.items comes.2.agenda finds.none)
+    completes_after c.args.system.now c.args.horizon c.args.limit start comes.0 comes.1 _ c.events.self.traffic.outbox.lines.items _ _ comes.3 comes.4
+    (completes_rest c.args.system.now c.args.horizon c.args.limit comes.0 inv.was c.events.self.traffic.outbox.lines.items comes.2.agenda finds.none)
 
 pub returns-clause-stands : goal.returns-clause-stands
 returns-clause-stands c start is =

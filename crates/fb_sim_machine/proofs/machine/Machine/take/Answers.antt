@@ -9,15 +9,15 @@ use Rattle.fb_sim_machine.proofs.lemmas.Nexts.{no_mail, nothing_delivered}
 use Rattle.fb_sim_machine.proofs.lemmas.TakenIs.{taken_at}
 use Rattle.fb_sim_machine.proofs.machine.Machine.take.Goals as goal
 
-pub take-requires-clause-resource_blocks : goal.take-requires-clause-resource_blocks
-take-requires-clause-resource_blocks c =
+pub take-requires-clause-tree : goal.take-requires-clause-tree
+take-requires-clause-tree c =
     let trees = c.args.self.now.trees.items in
     let counted = c.requires.ready.trees_counted in
     let named = c.requires.named in
     let r = c.args.least.now.key.resource in
     let within : r < length trees = omega (arith, counted, named) in
-    let resource_blocks = c.index_mut.result.now in
-    c.requires.ready.trees r resource_blocks (slice_get_read trees (length trees) r resource_blocks refl within c.index_mut.ensures.value)
+    let tree = c.index_mut.result.now in
+    c.requires.ready.trees r tree (slice_get_read trees (length trees) r tree refl within c.index_mut.ensures.value)
 
 pub take-requires-clause-counts : goal.take-requires-clause-counts
 take-requires-clause-counts c =
@@ -39,12 +39,12 @@ take-requires-clause-represents c =
     let r = c.args.least.now.key.resource in
     let has_tree : r < length trees = omega (arith, trees_counted, named) in
     let has_meter : r < length meters = omega (arith, meters_counted, named) in
-    let resource_blocks = c.index_mut.result.now in
+    let tree = c.index_mut.result.now in
     let meter = c.index_mut-2.result.now in
     let represents = c.requires.represents in
     let here =
-    represents.2.here r resource_blocks meter (slice_get_read trees (length trees) r resource_blocks refl has_tree c.index_mut.ensures.value) (slice_get_read meters (length meters) r meter refl has_meter c.index_mut-2.ensures.value) in
-    (represents.0, here_later c.args.system.now represents.0 r 0 c.args.least.now.key.tick resource_blocks meter (omega arith) here)
+    represents.2.here r tree meter (slice_get_read trees (length trees) r tree refl has_tree c.index_mut.ensures.value) (slice_get_read meters (length meters) r meter refl has_meter c.index_mut-2.ensures.value) in
+    (represents.0, here_later c.args.system.now represents.0 r 0 c.args.least.now.key.tick tree meter (omega arith) here)
 
 pub returns-then-taken-clause-taken : goal.returns-then-taken-clause-taken
 returns-then-taken-clause-taken c s a at =
@@ -59,18 +59,18 @@ returns-then-taken-clause-taken c s a at =
     let meters_counted = ready.meters_counted in
     let has_tree : r < length trees = omega (arith, trees_counted, named) in
     let has_meter : r < length meters = omega (arith, meters_counted, named) in
-    let resource_blocks = c.index_mut.result.now in
+    let tree = c.index_mut.result.now in
     let meter = c.index_mut-2.result.now in
-    let was = slice_get_read trees (length trees) r resource_blocks refl has_tree c.index_mut.ensures.value in
+    let was = slice_get_read trees (length trees) r tree refl has_tree c.index_mut.ensures.value in
     let had = slice_get_read meters (length meters) r meter refl has_meter c.index_mut-2.ensures.value in
     let new = c.take.new in
     let raised = c.in_ok-taken.taken.raised in
     let z = c.take.new.least in
     let mid = with_least_event raised z new.traffic in
     let none = no_mail raised new.traffic.agenda c.args.self.now.traffic.agenda new.traffic.mail c.args.self.now.traffic.mail c.if-taken.true c.in_ok-taken.ensures.alone ready.delivered in
-    taken_at i c.args.limit s a k (event_of i c.args.least.now.event) _ c.args.self.now _ mid new.resource_blocks new.counts
+    taken_at i c.args.limit s a k (event_of i c.args.least.now.event) _ c.args.self.now _ mid new.tree new.counts
     ready.trees has_tree has_meter c.requires.event.here at ready.delivered
-    (c.in_ok-taken.ensures.taken s 0 (omega arith) (at.here r resource_blocks meter was had) at.sent) (nothing_delivered i mid none) refl refl refl refl
+    (c.in_ok-taken.ensures.taken s 0 (omega arith) (at.here r tree meter was had) at.sent) (nothing_delivered i mid none) refl refl refl refl
 
 pub returns-clause-taken : goal.returns-clause-taken
 returns-clause-taken c s a at =
@@ -85,9 +85,9 @@ returns-clause-taken c s a at =
     let meters_counted = ready.meters_counted in
     let has_tree : r < length trees = omega (arith, trees_counted, named) in
     let has_meter : r < length meters = omega (arith, meters_counted, named) in
-    let resource_blocks = c.index_mut.result.now in
+    let tree = c.index_mut.result.now in
     let meter = c.index_mut-2.result.now in
-    let was = slice_get_read trees (length trees) r resource_blocks refl has_tree c.index_mut.ensures.value in
+    let was = slice_get_read trees (length trees) r tree refl has_tree c.index_mut.ensures.value in
     let had = slice_get_read meters (length meters) r meter refl has_meter c.index_mut-2.ensures.value in
     let new = c.take.new in
     let raised = c.in_ok-taken.taken.raised in
@@ -95,10 +95,10 @@ returns-clause-taken c s a at =
     let e = event_of i c.args.least.now.event in
     let old = c.args.self.now in
     let mid = new.traffic in
-    let taken = subst (λ (b : Bool). IsTakenHere i c.args.limit s k e c.in_ok-taken.taken.stop 0 new.resource_blocks new.counts old.traffic (with_least_event b z new.traffic))
-    c.if-taken.false (c.in_ok-taken.ensures.taken s 0 (omega arith) (at.here r resource_blocks meter was had) at.sent) in
+    let taken = subst (λ (b : Bool). IsTakenHere i c.args.limit s k e c.in_ok-taken.taken.stop 0 new.tree new.counts old.traffic (with_least_event b z new.traffic))
+    c.if-taken.false (c.in_ok-taken.ensures.taken s 0 (omega arith) (at.here r tree meter was had) at.sent) in
     rw c.if-taken.false
-    (taken_at i c.args.limit s a k e _ old _ mid new.resource_blocks new.counts
+    (taken_at i c.args.limit s a k e _ old _ mid new.tree new.counts
     ready.trees has_tree has_meter c.requires.event.here at ready.delivered taken c.in_ok-deliver.ensures.put refl refl refl refl)
 
 pub returns-then-taken-clause-ready : goal.returns-then-taken-clause-ready
@@ -114,15 +114,15 @@ returns-then-taken-clause-ready c =
     let meters_counted = ready.meters_counted in
     let has_tree : r < length trees = omega (arith, trees_counted, named) in
     let has_meter : r < length meters = omega (arith, meters_counted, named) in
-    let resource_blocks = c.index_mut.result.now in
+    let tree = c.index_mut.result.now in
     let meter = c.index_mut-2.result.now in
-    let was = slice_get_read trees (length trees) r resource_blocks refl has_tree c.index_mut.ensures.value in
+    let was = slice_get_read trees (length trees) r tree refl has_tree c.index_mut.ensures.value in
     let had = slice_get_read meters (length meters) r meter refl has_meter c.index_mut-2.ensures.value in
     let new = c.take.new in
     let raised = c.in_ok-taken.taken.raised in
     let z = c.take.new.least in
     let ensured = c.in_ok-taken.ensures in
-    ready_after i c.args.limit k c.args.self.now _ new.resource_blocks meter new.counts ready has_tree has_meter had ensured.counts ensured.tick (c.take.ensures.resource_blocks ∙ ready.trees r resource_blocks was) refl refl
+    ready_after i c.args.limit k c.args.self.now _ new.tree meter new.counts ready has_tree has_meter had ensured.counts ensured.tick (c.take.ensures.tree ∙ ready.trees r tree was) refl refl
     ensured.traffic (no_mail raised new.traffic.agenda c.args.self.now.traffic.agenda new.traffic.mail c.args.self.now.traffic.mail c.if-taken.true ensured.alone ready.delivered)
 
 pub returns-clause-ready : goal.returns-clause-ready
@@ -138,9 +138,9 @@ returns-clause-ready c =
     let meters_counted = ready.meters_counted in
     let has_tree : r < length trees = omega (arith, trees_counted, named) in
     let has_meter : r < length meters = omega (arith, meters_counted, named) in
-    let resource_blocks = c.index_mut.result.now in
+    let tree = c.index_mut.result.now in
     let meter = c.index_mut-2.result.now in
-    let was = slice_get_read trees (length trees) r resource_blocks refl has_tree c.index_mut.ensures.value in
+    let was = slice_get_read trees (length trees) r tree refl has_tree c.index_mut.ensures.value in
     let had = slice_get_read meters (length meters) r meter refl has_meter c.index_mut-2.ensures.value in
     let new = c.take.new in
     let raised = c.in_ok-taken.taken.raised in
@@ -151,7 +151,7 @@ returns-clause-ready c =
     let later = ensured.later (subst (All Later) (sym ready.delivered) (All-nil Later)) in
     let traffic = subst (λ (b : Bool). AreReady i k.tick (with_least_event b z new.traffic)) c.if-taken.false ensured.traffic in
     rw c.if-taken.false
-    (ready_after i c.args.limit k c.args.self.now _ new.resource_blocks meter new.counts ready has_tree has_meter had ensured.counts ensured.tick (c.take.ensures.resource_blocks ∙ ready.trees r resource_blocks was) refl refl
+    (ready_after i c.args.limit k c.args.self.now _ new.tree meter new.counts ready has_tree has_meter had ensured.counts ensured.tick (c.take.ensures.tree ∙ ready.trees r tree was) refl refl
     (record {
       order = put.order k.tick traffic.order later;
       due = ap length put.due ∙ traffic.due;
@@ -176,9 +176,9 @@ returns-then-taken-clause-spent c going =
     let meters_counted = ready.meters_counted in
     let has_tree : r < length trees = omega (arith, trees_counted, named) in
     let has_meter : r < length meters = omega (arith, meters_counted, named) in
-    let resource_blocks = c.index_mut.result.now in
+    let tree = c.index_mut.result.now in
     let meter = c.index_mut-2.result.now in
-    let was = slice_get_read trees (length trees) r resource_blocks refl has_tree c.index_mut.ensures.value in
+    let was = slice_get_read trees (length trees) r tree refl has_tree c.index_mut.ensures.value in
     let had = slice_get_read meters (length meters) r meter refl has_meter c.index_mut-2.ensures.value in
     let new = c.take.new in
     let raised = c.in_ok-taken.taken.raised in
@@ -199,9 +199,9 @@ returns-clause-spent c going =
     let meters_counted = ready.meters_counted in
     let has_tree : r < length trees = omega (arith, trees_counted, named) in
     let has_meter : r < length meters = omega (arith, meters_counted, named) in
-    let resource_blocks = c.index_mut.result.now in
+    let tree = c.index_mut.result.now in
     let meter = c.index_mut-2.result.now in
-    let was = slice_get_read trees (length trees) r resource_blocks refl has_tree c.index_mut.ensures.value in
+    let was = slice_get_read trees (length trees) r tree refl has_tree c.index_mut.ensures.value in
     let had = slice_get_read meters (length meters) r meter refl has_meter c.index_mut-2.ensures.value in
     let new = c.take.new in
     let raised = c.in_ok-taken.taken.raised in

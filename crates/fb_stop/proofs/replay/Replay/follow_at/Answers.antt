@@ -10,7 +10,7 @@ use Rattle.fb_stop.proofs.replay.Replay.follow_at.Goals as goal
 pub returns-clause-followed : goal.returns-clause-followed
 returns-clause-followed c =
     let i = c.args.system.now in
-    let lines = c.args.self.now.run.traffic.effects.lines.items in
+    let lines = c.args.self.now.run.traffic.outbox.lines.items in
     let copies = c.args.self.now.copies.items in
     let t = c.in-Port.target in
     let block = c.in-Some-basic_type.block.now in

@@ -10,7 +10,7 @@ use Rattle.fb_stop.proofs.replay.Replay.site_at.Goals as goal
 pub unreachable-requires-in-None : goal.unreachable-requires-in-None
 unreachable-requires-in-None c =
     let i = c.args.system.now in
-    let lines = c.args.self.now.run.traffic.effects.lines.items in
+    let lines = c.args.self.now.run.traffic.outbox.lines.items in
     let copies = c.args.self.now.copies.items in
     let t = c.in-Port.target in
     let left = c.in-Some.left in
@@ -28,7 +28,7 @@ unreachable-requires-in-None c =
 pub returns-clause-site : goal.returns-clause-site
 returns-clause-site c =
     let i = c.args.system.now in
-    let lines = c.args.self.now.run.traffic.effects.lines.items in
+    let lines = c.args.self.now.run.traffic.outbox.lines.items in
     let copies = c.args.self.now.copies.items in
     let t = c.in-Port.target in
     let left = c.in-Some.left in

@@ -48,13 +48,13 @@ returns-in_default-clause-steps c s a at copies =
     let has_meter : r < length run.meters.items = omega (arith, meters_counted, named) in
     let has_tree : r < length run.trees.items = omega (arith, trees_counted, named) in
     let meter = c.index.result.now in
-    let resource_blocks = element_at run.trees.items r has_tree in
+    let tree = element_at run.trees.items r has_tree in
     let cleared = c.clear_lines.ensures.at i s (without k a) at in
-    let here = cleared.here r resource_blocks.0 meter resource_blocks.1 (slice_get_read run.meters.items (length run.meters.items) r meter refl has_meter c.index.ensures) in
+    let here = cleared.here r tree.0 meter tree.1 (slice_get_read run.meters.items (length run.meters.items) r meter refl has_meter c.index.ensures) in
     let left = c.steps_left-left.result in
-    let counted = left_is i s r resource_blocks.0 meter c.args.limit k.tick here left c.steps_left-left.ensures.some c.steps_left-left.ensures.none in
+    let counted = left_is i s r tree.0 meter c.args.limit k.tick here left c.steps_left-left.ensures.some c.steps_left-left.ensures.none in
     let t = c.in_ok-reason.ensures.taken s a cleared in
-    let lines = c.take_event.new.self.traffic.effects.lines.items in
+    let lines = c.take_event.new.self.traffic.outbox.lines.items in
     let lines_are : map (line_of sys) lines ≡ t.effect.lines = t.lines ∙ ap (λ (ls : List Line). map (line_of sys) ls ++ t.effect.lines) c.clear_lines.ensures.none in
     has_stepped i c.args.limit s a k e c.in_ok-reason.field-0 run c.take_event.new.self c.follow_at.new.self t c.in_default.is c.in_ok-follow_at.ensures.run
     (copies_after i c.facts.ensures.numbered c.args.limit s k e t.effect t.takes lines lines_are c.args.self.now.copies.items copies
@@ -78,13 +78,13 @@ site_at-requires c =
     let has_meter : r < length run.meters.items = omega (arith, meters_counted, named) in
     let has_tree : r < length run.trees.items = omega (arith, trees_counted, named) in
     let meter = c.index.result.now in
-    let resource_blocks = element_at run.trees.items r has_tree in
+    let tree = element_at run.trees.items r has_tree in
     let cleared = c.clear_lines.ensures.at i s (without k a) represents.2 in
-    let here = cleared.here r resource_blocks.0 meter resource_blocks.1 (slice_get_read run.meters.items (length run.meters.items) r meter refl has_meter c.index.ensures) in
+    let here = cleared.here r tree.0 meter tree.1 (slice_get_read run.meters.items (length run.meters.items) r meter refl has_meter c.index.ensures) in
     let left = c.steps_left-left.result in
-    let counted = left_is i s r resource_blocks.0 meter c.args.limit k.tick here left c.steps_left-left.ensures.some c.steps_left-left.ensures.none in
+    let counted = left_is i s r tree.0 meter c.args.limit k.tick here left c.steps_left-left.ensures.some c.steps_left-left.ensures.none in
     let t = c.in_ok-reason.ensures.taken s a cleared in
-    let lines = c.take_event.new.self.traffic.effects.lines.items in
+    let lines = c.take_event.new.self.traffic.outbox.lines.items in
     let lines_are : map (line_of sys) lines ≡ t.effect.lines = t.lines ∙ ap (λ (ls : List Line). map (line_of sys) ls ++ t.effect.lines) c.clear_lines.ensures.none in
     stopping_if i c.facts.ensures.numbered c.args.limit s k e t.effect t.takes lines lines_are c.args.self.now.copies.items represents.3
     c.in-Some.reason (t.stops ∙ c.in-Some.is) c.site_of-at.result left counted c.site_of-at.ensures
@@ -104,13 +104,13 @@ returns-clause-steps c s a at copies =
     let has_meter : r < length run.meters.items = omega (arith, meters_counted, named) in
     let has_tree : r < length run.trees.items = omega (arith, trees_counted, named) in
     let meter = c.index.result.now in
-    let resource_blocks = element_at run.trees.items r has_tree in
+    let tree = element_at run.trees.items r has_tree in
     let cleared = c.clear_lines.ensures.at i s (without k a) at in
-    let here = cleared.here r resource_blocks.0 meter resource_blocks.1 (slice_get_read run.meters.items (length run.meters.items) r meter refl has_meter c.index.ensures) in
+    let here = cleared.here r tree.0 meter tree.1 (slice_get_read run.meters.items (length run.meters.items) r meter refl has_meter c.index.ensures) in
     let left = c.steps_left-left.result in
-    let counted = left_is i s r resource_blocks.0 meter c.args.limit k.tick here left c.steps_left-left.ensures.some c.steps_left-left.ensures.none in
+    let counted = left_is i s r tree.0 meter c.args.limit k.tick here left c.steps_left-left.ensures.some c.steps_left-left.ensures.none in
     let t = c.in_ok-reason.ensures.taken s a cleared in
-    let lines = c.take_event.new.self.traffic.effects.lines.items in
+    let lines = c.take_event.new.self.traffic.outbox.lines.items in
     let lines_are : map (line_of sys) lines ≡ t.effect.lines = t.lines ∙ ap (λ (ls : List Line). map (line_of sys) ls ++ t.effect.lines) c.clear_lines.ensures.none in
     let stops = t.stops ∙ c.in-Some.is in
     record {

@@ -14,7 +14,7 @@ returns-in-Ok-receive g c =
     let i = c.args.system.now in
     let old = c.args.resource in
     let same : IsSame old c.receive.new.self =
-    c.in-Err.ensures.err (are_new old.resource_blocks.resource c.args.messages.items old.agenda c.requires.unheard) in
+    c.in-Err.ensures.err (are_new old.tree.resource c.args.messages.items old.agenda c.requires.unheard) in
     c.in-Ok-receive.ensures.received.of i (still_of i old c.receive.new.self same c.requires.of)
     (subst (λ ms. All (IsFor i c.receive.new.self) ms) (sym c.in-Err.ensures.back)
     (still_for i old c.receive.new.self c.args.messages.items same

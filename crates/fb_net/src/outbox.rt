@@ -22,16 +22,16 @@ pub enum Out {
 }
 
 /// The lines, the events that go out in their order, and what the reactions ask of the timer of their instance.
-pub struct Effects {
+pub struct Outbox {
     pub lines: Vec<Line>,
     pub outs: Vec<Out>,
     pub timer: TimerAsk,
 }
 
 // Drop is written by hand, so that callers need not prove it again (docs/DECISIONS.md, "Drop").
-impl Drop for Effects {
+impl Drop for Outbox {
     fn drop(self) {
-        let Effects {
+        let Outbox {
             lines: _,
             outs: _,
             timer: _,
@@ -39,7 +39,7 @@ impl Drop for Effects {
     }
 }
 
-impl Effects {
+impl Outbox {
     /// Asks this of the timer. Where it asks nothing, what was asked before stays.
     #[inline(always)]
     pub(crate) fn ask_timer(&mut self, ask: TimerAsk)

@@ -1,5 +1,5 @@
 use Rattle.fb_net.proofs.lemmas.Common.{subst, system_of, path_at, World, IsForest, Represents, Forest}
-use Rattle.fb_net.proofs.resource_blocks.ResourceBlocks.instance.Goals as goal
+use Rattle.fb_net.proofs.tree.Tree.instance.Goals as goal
 
 pub returns-clause-block : goal.returns-clause-block
 returns-clause-block c =

@@ -3,7 +3,7 @@ use Rattle.fb_net.specs.declared.block.Block.{Block}
 use Rattle.fb_net.specs.Opening.{AreGrown, AreRooted, CoversAll}
 use Rattle.fb_net.proofs.lemmas.blocks.Charts.{no_charts}
 use Rattle.fb_net.proofs.lemmas.opening.BlockWays.{forest_is, top_deep}
-use Rattle.fb_net.proofs.resource_blocks.ResourceBlocks.build.Goals as goal
+use Rattle.fb_net.proofs.tree.Tree.build.Goals as goal
 
 pub blocks_of-requires-clause-charts : goal.blocks_of-requires-clause-charts
 blocks_of-requires-clause-charts c = no_charts c.args.system.now c.new-charts.result c.new-charts.ensures.empty

@@ -1,6 +1,6 @@
-use Rattle.fb_net.proofs.lemmas.Common.{◌≡◌, arith, rules, subst, sym, Remembered, StillAreOuts, IsForest, Effects, Forest}
+use Rattle.fb_net.proofs.lemmas.Common.{◌≡◌, arith, rules, subst, sym, Remembered, StillAreOuts, IsForest, Outbox, Forest}
 use Rattle.fb_types.proofs.Common.{common_steps}
-use Rattle.fb_net.proofs.resource_blocks.ResourceBlocks.take.Goals as goal
+use Rattle.fb_net.proofs.tree.Tree.take.Goals as goal
 
 pub invariant_of-self : goal.invariant_of-self
 invariant_of-self c =
@@ -15,7 +15,7 @@ returns-clause-whole c =
 
 pub returns-clause-outs : goal.returns-clause-outs
 returns-clause-outs c =
-    let e : c.take_event.new.self.effects.now ≡ c.effects-1.given.0 = search rules in
-    subst (λ (x : Effects). Remembered c.take_event.result (StillAreOuts c.args.system.now c.args.self.now c.args.effects.now c.take_event.new.self.forest.now x)) e
-    (subst (λ (f : Forest). Remembered c.take_event.result (StillAreOuts c.args.system.now f c.args.effects.now c.take_event.new.self.forest.now c.take_event.new.self.effects.now))
+    let e : c.take_event.new.self.outbox.now ≡ c.outbox-1.given.0 = search rules in
+    subst (λ (x : Outbox). Remembered c.take_event.result (StillAreOuts c.args.system.now c.args.self.now c.args.outbox.now c.take_event.new.self.forest.now x)) e
+    (subst (λ (f : Forest). Remembered c.take_event.result (StillAreOuts c.args.system.now f c.args.outbox.now c.take_event.new.self.forest.now c.take_event.new.self.outbox.now))
     c.self.view_is c.take_event.ensures.taken.outs)

@@ -12,11 +12,11 @@ ghost use Rattle.fb_net.specs.Events.{HasTaken, IsEventIn, Remembered, event_in,
 
 use crate::arrival::Arrival;
 use crate::block::Block;
-use crate::effects::Effects;
 use crate::opening::copies::held_of;
 use crate::opening::roots::roots_of;
 use crate::opening::shell_indexes::index_shells;
 use crate::opening::trees::blocks_of;
+use crate::outbox::Outbox;
 use crate::resource::Forest;
 use crate::shell::Shell;
 use crate::taking::Taking;
@@ -31,23 +31,23 @@ use std::marker::Model;
 const DEPTH: usize = 17;
 
 /// The blocks and held copies of one resource of a system. Contracts see what the blocks represent in the model.
-pub struct ResourceBlocks {
+pub struct Tree {
     forest: Forest,
     /// Room for what a leaf emits in one taking. It is kept from taking to taking.
     emits: Emits,
 }
 
 // Drop is written by hand, so that callers need not prove it again (docs/DECISIONS.md, "Drop").
-impl Drop for ResourceBlocks {
+impl Drop for Tree {
     fn drop(self) {
-        let ResourceBlocks {
+        let Tree {
             forest: _,
             emits: _,
         } = self;
     }
 }
 
-impl Model for ResourceBlocks {
+impl Model for Tree {
     ghost use Rattle.fb_net.specs.declared.resource.Forest.{Forest};
     ghost use Rattle.fb_net.specs.contracts.resource.Forest.{the_row};
 
@@ -64,17 +64,13 @@ impl Model for ResourceBlocks {
     ghost invariant = { λ t. (t.forest.resource < 256) × ∥ IsTree t.forest ∥₁ };
 }
 
-impl ResourceBlocks {
+impl Tree {
     /// The blocks of a resource, as they are before the first event, each with what it begins with, and the held copies
     /// of the variables of other resources to which they are connected.
     ///
     /// # Errors
     /// When memory runs out.
-    pub fn build(
-        alloc: Global,
-        system: &System,
-        resource: u32,
-    ) -> Result<ResourceBlocks, AllocError>
+    pub fn build(alloc: Global, system: &System, resource: u32) -> Result<Tree, AllocError>
         requires { IsResource system.now resource }
         ensures opened { IfOk result (λ t. IsForest system.now t (world_of (opening_state system.now) resource)) }
         ensures resource { IfOk result (λ t. t.resource ≡ resource) }
@@ -101,7 +97,7 @@ impl ResourceBlocks {
             held,
         };
         index_shells(alloc, system, &mut forest)?;
-        Ok(ResourceBlocks {
+        Ok(Tree {
             forest,
             emits: Emits::new(alloc),
         })
@@ -129,7 +125,7 @@ impl ResourceBlocks {
     }
 
     /// Takes an event of the resource at a tick, which is at most 10^12 milliseconds. `meter` has the steps that are
-    /// left in the tick after that of the event itself. Lines and events that go out are put after those in the effects.
+    /// left in the tick after that of the event itself. Lines and events that go out are put after those in the outbox.
     /// What was asked of the timer before stays where the reaction asks nothing.
     ///
     /// # Errors
@@ -143,19 +139,18 @@ impl ResourceBlocks {
     /// ```
     /// let declaration = "APPLICATION A FBS S : E_RESTART; END_FBS END_APPLICATION";
     /// let system = accepted(&rt, rt.alloc(), declaration, "", "tick,event,values\n");
-    /// let mut resource_blocks = built(&rt, rt.alloc(), &system, 0);
-    /// let mut effects = Effects {
+    /// let mut tree = built(&rt, rt.alloc(), &system, 0);
+    /// let mut outbox = Outbox {
     ///     lines: Vec::new(rt.alloc()),
     ///     outs: Vec::new(rt.alloc()),
     ///     timer: TimerAsk::Keep,
     /// };
     /// let mut meter = Meter { left: 100 };
     /// assert!(rt; system.count() == 1 && system.resource(0) == 0);
-    /// resource_blocks
-    ///     .take(&system, Arrival::Timer(0), 0, &mut meter, &mut effects)
+    /// tree.take(&system, Arrival::Timer(0), 0, &mut meter, &mut outbox)
     ///     .expect(&rt, "taken");
-    /// assert!(rt; effects.lines.len() == 1 && effects.outs.is_empty());
-    /// forget((resource_blocks, effects));
+    /// assert!(rt; outbox.lines.len() == 1 && outbox.outs.is_empty());
+    /// forget((tree, outbox));
     /// drop(system);
     /// ```
     #[tactic(auto, using(crate::proofs::lemmas::taking::ArrivalKeys::keys))]
@@ -165,15 +160,15 @@ impl ResourceBlocks {
         arrival: Arrival<'_>,
         tick: u64,
         meter: &mut Meter,
-        effects: &mut Effects,
+        outbox: &mut Outbox,
     ) -> Result<(), Halt>
         requires event { IsEventIn system.now self.old.resource (event_in arrival) }
         requires named { IsResource system.now self.old.resource }
         requires early { tick ≤ 10 ^ 12 }
         requires belongs { (w : World) × IsForest system.now self.old w × AreTyped system.now w }
         requires typed { IsTypedEvent system.now (event_of system.now (event_in arrival)) }
-        ensures taken { HasTaken system.now (key_at tick self.old.resource arrival.entry) (event_in arrival.entry) self.old effects.old meter.old.left result self.new meter.new.left effects.new }
-        ensures outs { Remembered result (StillAreOuts system.now self.old effects.old self.new effects.new) }
+        ensures taken { HasTaken system.now (key_at tick self.old.resource arrival.entry) (event_in arrival.entry) self.old outbox.old meter.old.left result self.new meter.new.left outbox.new }
+        ensures outs { Remembered result (StillAreOuts system.now self.old outbox.old self.new outbox.new) }
         ensures fewer { meter.new.left ≤ meter.old.left }
         ensures resource { self.new.resource ≡ self.old.resource }
 
@@ -187,7 +182,7 @@ impl ResourceBlocks {
             system,
             key: &key,
             forest: &mut self.forest,
-            effects,
+            outbox,
         };
         taking.take_event(arrival, meter, &mut self.emits)
     }
@@ -203,7 +198,7 @@ impl ResourceBlocks {
         event: &Event,
         key: &Key,
         meter: &mut Meter,
-        effects: &mut Effects,
+        outbox: &mut Outbox,
     ) -> Result<(), Halt>
         requires here { key.now.resource ≡ self.old.resource }
         requires event { IsEventIn system.now self.old.resource event.now }
@@ -211,8 +206,8 @@ impl ResourceBlocks {
         requires early { key.now.tick ≤ 10 ^ 12 }
         requires belongs { (w : World) × IsForest system.now self.old w × AreTyped system.now w }
         requires typed { IsTypedEvent system.now (event_of system.now event.now) }
-        ensures taken { HasTaken system.now key.now event.now self.old effects.old meter.old.left result self.new meter.new.left effects.new }
-        ensures outs { Remembered result (StillAreOuts system.now self.old effects.old self.new effects.new) }
+        ensures taken { HasTaken system.now key.now event.now self.old outbox.old meter.old.left result self.new meter.new.left outbox.new }
+        ensures outs { Remembered result (StillAreOuts system.now self.old outbox.old self.new outbox.new) }
         ensures fewer { meter.new.left ≤ meter.old.left }
         ensures resource { self.new.resource ≡ self.old.resource }
 
@@ -225,7 +220,7 @@ impl ResourceBlocks {
             system,
             key,
             forest: &mut self.forest,
-            effects,
+            outbox,
         };
         taking.take_event(Arrival::of(event), meter, &mut self.emits)
     }
