@@ -1,95 +1,14 @@
 """Tests of the plugin: references, and folders with a file fbsim.toml, in runs of pytest."""
 
-import shutil
-
 import pytest
-from common import CYCLE, EXAMPLES, RING
-from junitparser import JUnitXml
-
-BENCH = """decl = "conveyor.iec"
-deploy = "deploy.toml"
-rules = "some.rules"
-horizon = 800
-
-[[scenario]]
-name = "two parcels"
-stim = "stimuli.csv"
-reference = "trace"
-
-[[scenario]]
-name = "no parcel"
-horizon = 50
-
-[[sequence]]
-type = "STOP_GATE"
-name = "the gate lifts for one parcel"
-steps = [["ARRIVE ARRIVED=2", "LIFT TAKEN=1"], ["PASSED", "DROP"], ["wait 250"], ["FREE", "RESUME", "LIFT TAKEN=2"]]
-
-[[sequence]]
-type = "E_CTU"
-parameters = { PV = 2 }
-steps = [["CU", "CUO Q=FALSE CV=1"], ["wait 500"], ["CU", "CUO Q=TRUE CV=2"]]
-"""
-# (README.md of the example: the belt stops 10 ms after the beam, which is below 20)
-RULES = """[[rule]]
-name = "the belt stops in time"
-after = "LINE < BEHIND.CAME"
-within = 20
-see = "LINE < BELT.EO Q=FALSE"
-
-[[rule]]
-name = "the gate is not lifted while the station works"
-never = "STATION < GATE.LIFT"
-from = "STATION < GATE.DROP"
-to = "STATION < WORK.EO"
-"""
-PASSED = [
-    "two parcels::run", "two parcels::the belt stops in time",
-    "two parcels::the gate is not lifted while the station works",
-    "no parcel::run", "no parcel::the belt stops in time", "no parcel::the gate is not lifted while the station works",
-    "the gate lifts for one parcel", "E_CTU",
-]
-
-
-class Room:
-    """A folder with the conveyor and a bench for it, and runs of pytest there."""
-
-    def __init__(self, pytester):
-        self.pytester, self.path = pytester, pytester.path
-        for name in ("conveyor.iec", "deploy.toml", "stimuli.csv", "trace"):
-            shutil.copy(EXAMPLES / "conveyor" / name, self.path)
-        self.write("some.rules", RULES)
-        self.write("fbsim.toml", BENCH)
-
-    def write(self, name, text):
-        (self.path / name).write_text(text)
-
-    def change(self, name, old, new):
-        text = (self.path / name).read_text()
-        assert text.count(old) == 1
-        self.write(name, text.replace(old, new))
-
-    def run(self, *words):
-        # (the processes of xdist get the folders of modules that the first one had when it began)
-        run = self.pytester.runpytest_subprocess if "-n" in words else self.pytester.runpytest
-        return run("-p", "fbsim.pytest_plugin", "-p", "no:cacheprovider", *words)
-
-
-@pytest.fixture
-def room(pytester, monkeypatch, top):
-    monkeypatch.setenv("PYTHONPATH", str(top / "python" / "src"))
-    return Room(pytester)
-
-
-def names(result, outcome):
-    """Returns the names of the tests with this outcome, without the file."""
-    found = [it.split(" ", 1)[1] if it.startswith(outcome) else it for it in result.outlines]
-    return [it.removeprefix("fbsim.toml::").split(f" {outcome}")[0] for it in found if f" {outcome}" in it]
+from common import CYCLE, RING
+from junitparser import Failure, JUnitXml
+from rooms import PASSED, names
 
 
 def test_a_folder_is_a_test_for_each_run_rule_and_sequence(room):
     result = room.run("-v")
-    result.assert_outcomes(passed=8)
+    result.assert_outcomes(passed=8, skipped=2)
     assert names(result, "PASSED") == PASSED
 
 
@@ -97,7 +16,7 @@ def test_a_broken_rule_is_a_failure_of_its_own(room):
     room.change("deploy.toml", "latency = 4", "latency = 15")
     room.change("fbsim.toml", 'reference = "trace"\n', "")
     result = room.run("-v")
-    result.assert_outcomes(passed=7, failed=1)
+    result.assert_outcomes(passed=7, failed=1, skipped=2)
     assert names(result, "FAILED") == ["two parcels::the belt stops in time"]
     # (the second beam comes at 180, and the belt stops at 201)
     result.stdout.fnmatch_lines([
@@ -109,7 +28,7 @@ def test_a_broken_rule_is_a_failure_of_its_own(room):
 def test_another_trace_than_the_reference_shows_where_they_differ(room):
     room.change("deploy.toml", "latency = 4", "latency = 5")
     result = room.run()
-    result.assert_outcomes(passed=7, failed=1)
+    result.assert_outcomes(passed=7, failed=1, skipped=2)
     result.stdout.fnmatch_lines([
         "the trace is not that of */trace", "line 6 differs in: tick",
         "*/trace, tick 104: 104 STATION > GATE.ARRIVE ARRIVED=1", "the run, tick 105: *", "*--fbsim-bless*",
@@ -120,34 +39,34 @@ def test_bless_makes_the_new_trace_the_reference_and_says_so(room):
     kept = (room.path / "trace").read_text()
     room.change("deploy.toml", "latency = 4", "latency = 5")
     result = room.run("--fbsim-bless")
-    result.assert_outcomes(passed=8)
+    result.assert_outcomes(passed=8, skipped=2)
     result.stdout.fnmatch_lines(["*references changed by --fbsim-bless*", "*/trace"])
     assert kept != (room.path / "trace").read_text() and "105 STATION" in (room.path / "trace").read_text()
     result = room.run("--fbsim-bless")
-    result.assert_outcomes(passed=8)
+    result.assert_outcomes(passed=8, skipped=2)
     result.stdout.no_fnmatch_line("*references changed*")
 
 
 def test_a_missing_reference_is_a_failure_and_bless_makes_it(room):
     room.change("fbsim.toml", 'reference = "trace"', 'reference = "references/two.trace"')
     result = room.run()
-    result.assert_outcomes(passed=7, failed=1)
+    result.assert_outcomes(passed=7, failed=1, skipped=2)
     result.stdout.fnmatch_lines(["there is no reference */references/two.trace: --fbsim-bless makes it"])
-    room.run("--fbsim-bless").assert_outcomes(passed=8)
+    room.run("--fbsim-bless").assert_outcomes(passed=8, skipped=2)
     assert (room.path / "references" / "two.trace").read_text() == (room.path / "trace").read_text()
 
 
 def test_a_scenario_whose_file_is_missing_is_a_failure(room):
     room.change("fbsim.toml", 'stim = "stimuli.csv"', 'stim = "stimulus.csv"')
     result = room.run()
-    result.assert_outcomes(passed=5, failed=3)
+    result.assert_outcomes(passed=3, failed=5, skipped=2)
     result.stdout.fnmatch_lines(["file fault: stimuli */stimulus.csv: no file of this name can be read"])
 
 
 def test_a_broken_sequence_is_a_failure_of_its_step(room):
     room.change("fbsim.toml", 'CUO Q=FALSE CV=1', 'CUO Q=FALSE CV=2')
     result = room.run()
-    result.assert_outcomes(passed=7, failed=1)
+    result.assert_outcomes(passed=7, failed=1, skipped=2)
     result.stdout.fnmatch_lines(["step 1, CU: expected CUO Q=FALSE CV=2, came CUO Q=FALSE CV=1"])
 
 
@@ -222,10 +141,10 @@ def test_a_sequence_needs_no_declaration(room):
 def test_several_processes_of_xdist_and_a_report_for_junit(room):
     room.change("deploy.toml", "latency = 4", "latency = 15")
     result = room.run("-n", "2", "--junitxml", "out.xml")
-    result.assert_outcomes(passed=6, failed=2)
+    result.assert_outcomes(passed=6, failed=2, skipped=2)
     suite = next(iter(JUnitXml.fromfile(str(room.path / "out.xml"))))
-    assert (suite.tests, suite.failures, suite.errors) == (8, 2, 0)
-    failed = {it.name: it.result[0].text for it in suite if it.result}
+    assert (suite.tests, suite.failures, suite.errors, suite.skipped) == (10, 2, 0, 2)
+    failed = {it.name: it.result[0].text for it in suite if any(isinstance(how, Failure) for how in it.result)}
     assert set(failed) == {"run", "the belt stops in time"}
     assert "180 LINE < BEHIND.CAME COUNT=1" in failed["the belt stops in time"]
     assert sorted(it.name for it in suite if not it.result)[:2] == ["E_CTU", "run"]
@@ -234,7 +153,7 @@ def test_several_processes_of_xdist_and_a_report_for_junit(room):
 def test_bless_with_several_processes(room):
     room.change("deploy.toml", "latency = 4", "latency = 5")
     result = room.run("-n", "2", "--fbsim-bless")
-    result.assert_outcomes(passed=8)
+    result.assert_outcomes(passed=8, skipped=2)
     result.stdout.fnmatch_lines(["*references changed by --fbsim-bless*", "*/trace"])
 
 

@@ -4,146 +4,27 @@ Such a file is a bench without a line of Python: it names scenarios, rules and s
 
 from __future__ import annotations
 
-import tempfile
-import tomllib
-from collections.abc import Callable, Iterator, Mapping
-from functools import cached_property, partial
+import json
+from collections.abc import Callable, Iterator
+from functools import partial
 from pathlib import Path
-from typing import Any, NamedTuple
+from typing import Any
 
 import pytest
 
-from fbsim.application import Application
-from fbsim.faults import Fault, InputFault, Refused, RulesBroken
+from fbsim.faults import Fault, Refused, RulesBroken
+from fbsim.findings import Findings, Once, judge
+from fbsim.project import Bench, Scenario, names_of_rules, read_bench
+from fbsim.references import Reference, bless
 from fbsim.sequence import check_sequence
-from fbsim.trace import Report, Trace, check_rules
+from fbsim.trace import Report, Trace, Verdict
 
-# The kinds of values, by their names in messages.
-KINDS: dict[str, Callable[[Any], bool]] = {
-    "a text": lambda it: isinstance(it, str),
-    "a number": lambda it: isinstance(it, int) and not isinstance(it, bool),
-    "a table": lambda it: isinstance(it, dict),
-    "a list of texts": lambda it: isinstance(it, list) and all(map(KINDS["a text"], it)),
-    "a list of tables": lambda it: isinstance(it, list) and all(map(KINDS["a table"], it)),
-    "a list of lists of texts": lambda it: isinstance(it, list) and all(map(KINDS["a list of texts"], it)),
-}
-RUN_KEYS = {"horizon": "a number", "steps": "a number"}
-KEYS = {
-    "decl": "a text", "types": "a list of texts", "deploy": "a text", "rules": "a text",
-    "scenario": "a list of tables", "sequence": "a list of tables", **RUN_KEYS
-}
-SCENARIO_KEYS = {"name": "a text", "stim": "a text", "reference": "a text", "status": "a number", **RUN_KEYS}
-SEQUENCE_KEYS = {"type": "a text", "name": "a text", "parameters": "a table", "steps": "a list of lists of texts"}
+# How many scenarios a failure names.
+MOST_NOTES = 10
 
 
-class Scenario(NamedTuple):
-    """A run, the status with which it must end, and the reference that its trace must have."""
-
-    name: str
-    stimuli: Path | None
-    reference: Path | None
-    status: int
-    horizon: int
-    steps: int | None
-
-
-class Bench(NamedTuple):
-    """What a file fbsim.toml says. Its file names are those from its folder. A sequence is its table."""
-
-    application: Application
-    rules: Path | None
-    scenarios: list[Scenario]
-    sequences: list[dict[str, Any]]
-
-
-def checked(table: Mapping[str, Any], keys: Mapping[str, str], needed: tuple[str, ...], what: str) -> dict[str, Any]:
-    """Returns a table that has only these keys, with values of their kinds, and those that are needed."""
-    for key, value in table.items():
-        if key not in keys:
-            raise InputFault(f"{what}: unknown key {key}; the keys are {', '.join(keys)}")
-        if not KINDS[keys[key]](value):
-            raise InputFault(f"{what}: {key} is not {keys[key]}")
-    for key in needed:
-        if key not in table:
-            raise InputFault(f"{what}: there is no {key}")
-    return dict(table)
-
-
-def read_bench(path: Path) -> Bench:
-    """Reads a file fbsim.toml."""
-    try:
-        table = tomllib.loads(path.read_text(encoding="utf-8"))
-    except (OSError, ValueError) as it:
-        raise InputFault(f"{path}: {it}") from it
-    top = checked(table, KEYS, ("decl",) if "scenario" in table else (), str(path))
-    here = path.parent
-    decl, deploy, rules = (here / top[key] if key in top else None for key in ("decl", "deploy", "rules"))
-    application = Application(decl or "", [here / it for it in top.get("types", [])], deploy)
-    scenarios = [scenario_of(it, top, here, f"{path}: scenario {k}") for k, it in enumerate(top.get("scenario", []), 1)]
-    sequences = [
-        {"name": it.get("type"), **checked(it, SEQUENCE_KEYS, ("type", "steps"), f"{path}: sequence {k}")}
-        for k, it in enumerate(top.get("sequence", []), 1)
-    ]
-    names = [it.name for it in scenarios] + [it["name"] for it in sequences]
-    for name in names:
-        if names.count(name) > 1:
-            raise InputFault(f"{path}: there are two with the name {name}")
-    if not names:
-        raise InputFault(f"{path}: there is neither a scenario nor a sequence")
-    return Bench(application, rules, scenarios, sequences)
-
-
-def scenario_of(given: Mapping[str, Any], top: Mapping[str, Any], here: Path, what: str) -> Scenario:
-    """Reads a scenario. Its horizon and its steps are those of the whole file, unless it has its own."""
-    table = {key: top[key] for key in RUN_KEYS if key in top} | checked(given, SCENARIO_KEYS, ("name",), what)
-    if "horizon" not in table:
-        raise InputFault(f"{what}: there is no horizon, neither here nor for all scenarios")
-    status = table.get("status", 0)
-    if status not in (0, 1, 2):
-        raise InputFault(f"{what}: status is not 0 (the run ends), 1 (it stops) or 2 (the inputs are refused)")
-    stimuli, reference = (here / table[key] if key in table else None for key in ("stim", "reference"))
-    return Scenario(table["name"], stimuli, reference, status, table["horizon"], table.get("steps"))
-
-
-def names_of_rules(bench: Bench, folder: Path) -> list[str]:
-    """Returns the names of the rules, as the program reads them: it reports on a trace without lines."""
-    if bench.rules is None:
-        return []
-    (folder / "empty.trace").write_text("end 1\n")
-    known = bench.application if bench.application.declaration else None
-    return [it.rule for it in check_rules(Trace(folder / "empty.trace", known), bench.rules).verdicts]
-
-
-class Reference:
-    """A trace in a file, as somebody last reviewed it. With --fbsim-bless it takes what it is compared with."""
-
-    def __init__(self, path: Path, node: pytest.Item) -> None:
-        self.path, self.node = path, node
-
-    def __repr__(self) -> str:
-        return f"<reference {self.path}>"
-
-    __hash__ = None  # type: ignore[assignment]
-
-    def __eq__(self, other: object) -> bool:
-        if not isinstance(other, Trace):
-            return NotImplemented
-        if self.path.is_file() and other == Trace(self.path):
-            return True
-        if not self.node.config.getoption("fbsim_bless"):
-            return False
-        self.path.parent.mkdir(parents=True, exist_ok=True)
-        other.save(self.path)
-        self.node.user_properties.append(("fbsim_blessed", str(self.path)))
-        return True
-
-    def difference(self, trace: Trace) -> list[str]:
-        """Returns what `fbsim diff` says of the reference and a trace."""
-        if not self.path.is_file():
-            return [f"there is no reference {self.path}: --fbsim-bless makes it"]
-        said = Trace(self.path).diff(trace).replace(str(trace.path), "the run")
-        hint = "if this is intended: --fbsim-bless makes the new trace the reference"
-        return [f"the trace is not that of {self.path}", *said.splitlines(), hint]
+class BenchWarning(UserWarning):
+    """What the program says of a run that it accepts, as rows of stimuli that the run does not take."""
 
 
 def pytest_addoption(parser: pytest.Parser) -> None:
@@ -187,37 +68,42 @@ class ByText:
     def repr_failure(self, excinfo: pytest.ExceptionInfo[BaseException]) -> Any:
         """Returns the text of a fault, or what pytest shows of other exceptions."""
         usual = super().repr_failure  # type: ignore[misc]
-        return str(excinfo.value) if isinstance(excinfo.value, Fault) else usual(excinfo)
+        return str(excinfo.value) if isinstance(excinfo.value, (Fault, BenchWarning)) else usual(excinfo)
 
 
 class BenchItem(ByText, pytest.Item):  # type: ignore[misc]
-    """A test of a file fbsim.toml, which is a call with the item itself."""
+    """A test of a file fbsim.toml, which is a call with the item itself. `line` is where the file names it, from 0."""
 
-    def __init__(self, test: Callable[[pytest.Item], object], **given: Any) -> None:
+    def __init__(self, test: Callable[[pytest.Item], object], line: int = 0, **given: Any) -> None:
         super().__init__(**given)
-        self.test = test
+        self.test, self.line = test, line
 
     def runtest(self) -> None:
         """Makes the call."""
         self.test(self)
 
-    def reportinfo(self) -> tuple[Path, None, str]:
+    def reportinfo(self) -> tuple[Path, int, str]:
         """Returns where the test is, and its name."""
-        return self.path, None, self.nodeid.partition("::")[2].replace("::", ": ")
+        return self.path, self.line, self.nodeid.partition("::")[2].replace("::", ": ")
 
 
 class BenchFile(ByText, pytest.File):  # type: ignore[misc]
     """A file fbsim.toml, as tests."""
 
     def collect(self) -> Iterator[pytest.Item | pytest.Collector]:
-        """Goes over its scenarios and its sequences."""
+        """Goes over its scenarios, its sequences, and whether its rules applied."""
         self.bench = read_bench(self.path)
-        with tempfile.TemporaryDirectory(prefix="fbsim-") as folder:
-            rules = names_of_rules(self.bench, Path(folder))
-        for scenario in self.bench.scenarios:
-            yield ScenarioTests.from_parent(self, name=scenario.name, bench=self.bench, scenario=scenario, rules=rules)
+        rules = names_of_rules(self.bench, self.path)
+        scenarios = [
+            ScenarioTests.from_parent(self, name=it.name, bench=self.bench, scenario=it, rules=rules)
+            for it in self.bench.scenarios
+        ]
+        yield from scenarios
         for it in self.bench.sequences:
             yield BenchItem.from_parent(self, name=it["name"], test=partial(self.test_sequence, it))
+        if rules and scenarios:
+            judged = [it for it in scenarios if it.has_rules]
+            yield AppliedTests.from_parent(self, name="applied", bench=self.bench, scenarios=judged, rules=rules)
 
     def test_sequence(self, given: dict[str, Any], item: pytest.Item) -> None:
         """Tests whether a block type answers as a service sequence says."""
@@ -227,47 +113,103 @@ class BenchFile(ByText, pytest.File):  # type: ignore[misc]
 
 
 class ScenarioTests(pytest.Collector):
-    """A scenario: a test of its run, and one for each rule. It is run once for all of them."""
+    """A scenario: a test of its run, and one for each rule. It is run and judged once for all of them."""
 
     def __init__(self, bench: Bench, scenario: Scenario, rules: list[str], **given: Any) -> None:
         super().__init__(**given)
         self.bench, self.scenario, self.rules = bench, scenario, rules
+        # (a blessing needs the trace of the run)
+        keep = bool(self.config.getoption("fbsim_bless"))
+        self.findings = Once(partial(judge, bench, scenario, keep))
+
+    @property
+    def has_rules(self) -> bool:
+        """Whether rules are checked over its trace: not if it is to be refused."""
+        return self.scenario.status < 2
 
     def collect(self) -> Iterator[pytest.Item]:
         """Goes over the run and the rules."""
-        yield BenchItem.from_parent(self, name="run", test=self.test_run)
-        for at, rule in enumerate(self.rules if self.scenario.status < 2 else []):
-            yield BenchItem.from_parent(self, name=rule, test=partial(self.test_rule, at))
+        line = self.scenario.line
+        yield BenchItem.from_parent(self, name="run", test=self.test_run, line=line)
+        for at, rule in enumerate(self.rules if self.has_rules else []):
+            yield BenchItem.from_parent(self, name=rule, test=partial(self.test_rule, at), line=line)
 
-    @cached_property
-    def trace(self) -> Trace:
-        """The trace of the scenario."""
-        it = self.scenario
-        return self.bench.application.run(it.stimuli, horizon=it.horizon, steps=it.steps, stop=True)
-
-    @cached_property
-    def report(self) -> Report:
-        """What the rules come to on its trace."""
-        return check_rules(Trace(self.trace.path), self.bench.rules or "")
+    def found(self, item: pytest.Item) -> Findings:
+        """Returns what the scenario comes to. The test that has it run shows what the program says of the run."""
+        was_made, found = self.findings.is_made, self.findings()
+        if found.warning and not was_made:
+            item.warn(BenchWarning(f"{self.scenario.name}: {found.warning}"))
+        return found
 
     def test_run(self, item: pytest.Item) -> None:
         """Tests whether the scenario ends with its status, and has the trace of its reference."""
         try:
-            trace, wanted = self.trace, self.scenario.status
+            found, wanted = self.found(item), self.scenario.status
         except Refused:
             if self.scenario.status != 2:
                 raise
             return
-        if wanted != bool(trace.stop):
-            ended = trace.stop or trace.last.rstrip()
-            raise Fault(f"the run has status {int(bool(trace.stop))}, and not {wanted}: {ended}")
-        if self.scenario.reference is not None:
-            kept = Reference(self.scenario.reference, item)
-            if trace != kept:
-                raise Fault("\n".join(kept.difference(trace)))
+        if wanted != bool(found.stop):
+            raise Fault(f"the run has status {int(bool(found.stop))}, and not {wanted}: {found.stop or found.last}")
+        if found.difference:
+            if self.scenario.reference is None or found.trace is None:
+                raise Fault("\n".join(found.difference))
+            bless(self.scenario.reference, found.trace, item)
 
     def test_rule(self, at: int, item: pytest.Item) -> None:
-        """Tests whether a rule holds."""
-        verdict = self.report.verdicts[at]
+        """Tests whether a rule holds. It is skipped if the trace does not decide it, unless the scenario is strict."""
+        verdict = self.found(item).report().verdicts[at]
+        may_wait = verdict.verdict == "never applied" and verdict.rule in self.bench.unapplied
         if verdict.verdict == "broken":
             raise RulesBroken(Report((verdict,)))
+        if verdict.verdict != "kept" and self.scenario.strict and not may_wait:
+            raise RulesBroken(Report((verdict._replace(verdict="broken", message=reason_of(verdict)),)))
+        if verdict.verdict != "kept":
+            raise pytest.skip.Exception(reason_of(verdict), _use_item_location=True)
+
+
+def reason_of(verdict: Verdict) -> str:
+    """Returns why a rule is not decided, in one line: the verdict, and which patterns no line of the trace meets."""
+    return "; ".join([verdict.verdict, *verdict.notes])
+
+
+def has_applied(verdict: Verdict) -> bool:
+    """Whether a trace decides a rule at least once. Of an undecided one, only the last time is sure to be undecided."""
+    return verdict.verdict == "broken" or verdict.decided > (verdict.verdict == "undecided")
+
+
+class AppliedTests(pytest.Collector):
+    """A test for each rule of whether it was decided in at least one scenario: else it checked nothing."""
+
+    def __init__(self, bench: Bench, scenarios: list[ScenarioTests], rules: list[str], **given: Any) -> None:
+        super().__init__(**given)
+        self.bench, self.scenarios, self.rules = bench, scenarios, rules
+
+    def collect(self) -> Iterator[pytest.Item]:
+        """Goes over the rules that must apply."""
+        for at, rule in enumerate(self.rules):
+            if rule not in self.bench.unapplied:
+                yield BenchItem.from_parent(self, name=rule, test=partial(self.test_applied, at))
+
+    def test_applied(self, at: int, item: pytest.Item) -> None:
+        """Tests whether a rule was decided in a scenario. Those that have run are looked at first."""
+        notes = []
+        for it in sorted(self.scenarios, key=lambda it: not it.findings.is_made):
+            verdict = verdict_in(it, at, item)
+            if verdict is not None and has_applied(verdict):
+                return
+            notes.append(f"{it.name}: {reason_of(verdict) if verdict else 'its run failed'}")
+        rest = [f"and {len(notes) - MOST_NOTES} more"] * (len(notes) > MOST_NOTES)
+        hint = f"if it need not apply: unapplied = [{json.dumps(self.rules[at])}] in {self.path.name}"
+        said = [f"{self.rules[at]}: applied in none of {len(notes)} scenarios", *notes[:MOST_NOTES], *rest, hint]
+        raise Fault("\n".join(said))
+
+
+def verdict_in(scenario: ScenarioTests, at: int, item: pytest.Item) -> Verdict | None:
+    """Returns what a rule comes to in a scenario, or None if that failed, which its own tests report."""
+    if scenario.findings.fault is not None:
+        return None
+    try:
+        return scenario.found(item).report().verdicts[at]
+    except Fault:
+        return None
