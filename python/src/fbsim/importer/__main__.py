@@ -18,11 +18,11 @@ from fbsim.faults import ProgramMissing
 from fbsim.program import find_program
 
 from .blocks import Library
-from .common import Faults, FileFault, Refused
+from .common import MARK, Faults, FileFault, Refused
 from .document import read_document
 from .network import System, system_of
 from .report import ACCEPTED, add_options, finish
-from .writing import MARK, place_in, texts_of
+from .writing import place_in, texts_of
 
 FILES, COMMAND_LINE = 3, 5
 FINDING = re.compile(r"(application\.iec|types\.iec|deploy\.toml):(\d+):(\d+): (.*)")

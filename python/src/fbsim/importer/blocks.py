@@ -10,7 +10,7 @@ from dataclasses import dataclass, field, replace
 from pathlib import Path
 
 from .bodies import is_usual
-from .common import IS_NAME, TYPES, Faults, Folded, Names, Place, shown
+from .common import IS_NAME, TABLES, TYPES, Faults, Folded, Names, Place, shown
 from .document import Code, Node
 from .files import TypeFile, TypeFiles, is_standard, package_of
 from .made import Made
@@ -168,7 +168,7 @@ def read_interface(block: Block, library: Library) -> None:
             if it.tag == "AdapterDeclaration":
                 ports += adapter_ports(it, part.tag == "Plugs", library)
             elif it.tag == "VarDeclaration":
-                ports.append(variable(it, is_output, library.faults))
+                ports.append(variable(it, is_output, library))
             else:
                 if it.get("Type") not in ("", "Event", "EInit"):
                     library.faults.refuse(it.at("Type"), f"{shown(it.get('Type'))} is no type of an event here: write Event")
@@ -192,13 +192,15 @@ def read_interface(block: Block, library: Library) -> None:
                 port.withs.append((other.name, place))
 
 
-def variable(node: Node, is_output: bool, faults: Faults) -> Port:
+def variable(node: Node, is_output: bool, library: Library) -> Port:
     """Read the declaration of a variable."""
-    kind = node.get("Type").upper()
+    kind, name = node.get("Type").upper(), shown(node.get("Name"))
     if node.get("ArraySize"):
-        faults.refuse(node.at("ArraySize"), f"{shown(node.get('Name'))} is an array, and the profile has none")
+        library.faults.refuse(node.at("ArraySize"), f"{name} is an array, and the profile has none: use a variable for each element")
     elif kind not in TYPES:
-        faults.refuse(node.at("Type"), f"{shown(node.get('Type')) or 'nothing'} is no type of the profile")
+        other = library.files.other(kind.rpartition("::")[2])
+        advice = TABLES["advice"]["types"].get(kind.partition("[")[0], "of a structure, use a variable for each element")
+        library.faults.refuse(node.at("Type"), f"{shown(node.get('Type')) or 'nothing'} is {other or f'no type of the profile: {advice}'}")
         kind = ""
     initial = node.code("InitialValue") if node.get("InitialValue") else None
     return Port(node.get("Name"), "data", is_output, node.at("Name"), kind, initial)

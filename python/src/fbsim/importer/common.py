@@ -12,6 +12,8 @@ TABLES = tomllib.loads(Path(__file__).with_name("tables.toml").read_text("utf-8"
 KEYWORDS = frozenset(TABLES["profile"]["keywords"].split())
 TYPES = TABLES["profile"]["types"].split()
 IS_NAME = re.compile(r"[A-Za-z_][A-Za-z0-9_]{0,199}", re.ASCII)
+# A place in a text that is written (Place.mark).
+MARK = re.compile("\x02(.*?):([0-9]+):([0-9]+)\x03")
 T = TypeVar("T")
 MOST_SHOWN, MOST_KEPT = 200, 2000
 

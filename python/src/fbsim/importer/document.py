@@ -25,6 +25,10 @@ from .common import IS_NAME, TABLES, FileFault, Faults, Place, Refused, shown
 MOST_BYTES, MOST_ELEMENTS, MOST_ATTRIBUTES, MOST_DEPTH = 4 * 2**20, 100_000, 64, 64
 USED = {tag: (set(attributes.split()), set(children.split())) for tag, (attributes, children) in TABLES["used"].items()}
 IGNORED = {kind: frozenset(names.split()) for kind, names in TABLES["ignored"].items()}
+# For each element, what it may have once: its children, and with each of them those beside which it can't be.
+ONCE = {tag: {it: set(group.split("|")) for group in groups.split() for it in group.split("|")} for tag, groups in TABLES["once"].items()}
+ADVICE: dict[str, str] = {tag: f": {text}" for tag, text in TABLES["advice"]["elements"].items()}
+MOST_NAMES = 200
 DECLARED = re.compile(rb"""<\?xml\s[^>]{0,200}?encoding\s*=\s*["']([\w.:-]{1,40})["']""")
 NAME = r"""[^\s<>/="'&!?]++"""
 VALUE = r"""(?:"[^"<]*+"|'[^'<]*+')"""
@@ -34,6 +38,7 @@ PIECE = re.compile(
     |</{NAME}\s*+(?P<end>>)|<(?P<start>{NAME})(?P<attributes>(?:\s++{NAME}\s*+=\s*+{VALUE}){{0,{MOST_ATTRIBUTES}}}+)
     \s*+(?P<empty>/?)>""",
     re.DOTALL | re.VERBOSE)
+MANY = re.compile(rf"<{NAME}(?:\s++{NAME}\s*+=\s*+{VALUE}){{{MOST_ATTRIBUTES + 1}}}")
 WRITTEN = re.compile(r"&(?:(?:lt|gt|amp|apos|quot|#[xX0-9A-Fa-f]{1,8});|([^;&\s]{0,60});?)|\r\n?|[\t\n]")
 
 
@@ -135,6 +140,8 @@ def read_source(path: str, faults: Faults) -> Source:
             data = file.read(MOST_BYTES)
     except (OSError, ValueError) as fault:
         raise FileFault(f"{shown(path)}: {getattr(fault, 'strerror', None) or fault}") from None
+    if data[:2] in (b"<\0", b"\0<"):
+        raise faults.refuse(Place(path, 1, 1), "this is UTF-16 without a byte order mark: save the file as UTF-8")
     declared = DECLARED.match(data)
     named = declared[1].decode().upper() if declared else "UTF-8"
     encoding = "utf-16" if data.startswith((codecs.BOM_UTF16_LE, codecs.BOM_UTF16_BE)) else TABLES["encodings"].get(named)
@@ -152,11 +159,16 @@ def read_tag(found: re.Match[str], parent: Node, faults: Faults, ignored: Counte
     node = Node(found["start"], parent.source, found.start())
     node.is_used = parent.is_used and node.tag in USED[parent.tag][1]
     if node.is_used:
+        first = next(parent.all(*ONCE.get(parent.tag, {}).get(node.tag, ())), None)
+        if first:
+            faults.refuse(node.place, f"{parent.tag} has a second part {node.tag}, beside {first.tag} at {first.place}: keep one of the two")
         parent.children.append(node)
     elif parent.is_used and not IGNORED["elements"].isdisjoint((node.tag, f"{parent.tag}.{node.tag}", f"{parent.tag}.*")):
         ignored[f"element {node.tag}"] += 1
+        if node.tag == "Attribute":
+            count_name(found, ignored)
     elif parent.is_used:
-        faults.refuse(node.place, f"the element {shown(node.tag)} in {parent.tag} is not known")
+        faults.refuse(node.place, f"the element {shown(node.tag)} in {parent.tag} is not known{ADVICE.get(node.tag, '')}")
     for one in ATTRIBUTE.finditer(node.source.text, *found.span("attributes")) if node.is_used else ():
         name, code = one[1], Code(node.source, one.start(2) + 1)
         code.add("attributes", (one.start(2) + 1, one.end(2) - 1), faults)
@@ -172,6 +184,13 @@ def read_tag(found: re.Match[str], parent: Node, faults: Faults, ignored: Counte
     return node
 
 
+def count_name(found: re.Match[str], ignored: Counter[str]) -> None:
+    """Count an element Attribute under its Name, which says what a tool keeps there."""
+    name = next((one[2][1:-1] for one in ATTRIBUTE.finditer(found.string, *found.span("attributes")) if one[1] == "Name"), "")
+    if sum(it.startswith("element Attribute ") for it in ignored) < MOST_NAMES:
+        ignored[f"element Attribute {shown(html.unescape(name))}"] += 1
+
+
 def scan(source: Source, faults: Faults, ignored: Counter[str]) -> tuple[list[Node], list[str]]:
     """Return the root of a text, if it is one of those that are known, and the tags of all elements."""
     at, stack, tags = 0, [Node("a file", source, 0)], []
@@ -179,9 +198,11 @@ def scan(source: Source, faults: Faults, ignored: Counter[str]) -> tuple[list[No
     while at < len(source.text):
         found = PIECE.match(source.text, at)
         if found is None:
-            reason = f"this is no well-formed XML, or an element has more than {MOST_ATTRIBUTES} attributes"
+            reason = "this is no well-formed XML"
             if source.text.startswith("<!DOCTYPE", at):
                 reason = "a DOCTYPE with declarations of its own is not accepted"
+            elif MANY.match(source.text, at):
+                reason = f"an element has more than {MOST_ATTRIBUTES} attributes"
             raise faults.refuse(source.place(at), reason)
         kind, node = found.lastgroup, stack[-1]
         if kind == "empty":
@@ -193,6 +214,8 @@ def scan(source: Source, faults: Faults, ignored: Counter[str]) -> tuple[list[No
         if (kind == "end" or found["empty"]) and len(stack) > 1:
             stack.pop()
         elif kind in ("text", "cdata") and node.tag in ("ST", "Other"):
+            if node.get("Text") and found[kind].strip():
+                faults.refuse(source.place(found.start(kind)), f"{node.tag} has a text beside its attribute Text: keep one of the two")
             node.text.add(kind, found.span(kind), faults)
         elif kind in ("text", "cdata") and found[kind].strip() and node.is_used and node is not top:
             faults.refuse(source.place(found.start(kind)), f"{node.tag} has a text, which is not known")

@@ -10,10 +10,11 @@ from collections.abc import Iterator, Mapping, Sequence
 from dataclasses import dataclass, field
 
 from .blocks import Block, Library, Port, read_interface
-from .common import Faults, Folded, Names, Place, shown
+from .common import MARK, Faults, Folded, Names, Place, T, shown
 from .document import Code, Node, Source
 from .files import package_of
 from .relays import Relays, communication
+from .structured_text import constant
 from .wires import Key, Wire
 
 MOST_INSTANCES, MOST_CONNECTIONS = 4096, 100_000
@@ -104,7 +105,14 @@ class Network:
                 if port is None or port.kind != "data" or port.is_output:
                     self.faults.refuse(place, f"type {block.name} has no data input {shown(name)}")
                 elif code.text.strip():
-                    self.parameters[path, port.name] = code
+                    self.keep_value(self.parameters, (path, port.name), code, port.type)
+
+    def keep_value(self, values: dict[T, Code], key: T, code: Code, kind: str) -> None:
+        """Keep the value of an input. Another value for it is refused, as the order in which tools write the two is not known."""
+        other = values.setdefault(key, code)
+        if value_of(other, kind) != value_of(code, kind):
+            self.faults.refuse(code.place(0), f"this input has the value {shown(code.text)} here and {shown(other.text)} at {other.place(0)}:"
+                               " keep one of the two")
 
     def connect(self, node: Node, kind: str, path: str) -> None:
         """Add a connection, or those that an adapter connection stands for."""
@@ -206,12 +214,20 @@ class Network:
         for key, code in self.parameters.items():
             for path, name in self.targets(key):
                 if path in self.instances and name in self.instances[path].block.ports:
-                    self.instances[path].parameters[name] = code
+                    one = self.instances[path]
+                    self.keep_value(one.parameters, name, code, one.block.ports[name].type)
         self.set_constants()
         names = Names("instance", [(it.path.lstrip("."), it.place) for it in self.instances.values()], self.faults)
         for one in self.instances.values():
             one.out = names[one.path.lstrip(".")]
         self.notes += names.renamed
+
+
+def value_of(code: Code, kind: str) -> str:
+    """Return a constant as the profile writes it, to compare it with another one."""
+    faults = Faults()
+    text = constant(code, kind, faults) if kind else ""
+    return code.text.strip() if faults or not kind else MARK.sub("", text).upper()
 
 
 @dataclass(slots=True)

@@ -5,19 +5,17 @@ texts.jinja has their form."""
 from __future__ import annotations
 
 import functools
-import re
 from pathlib import Path
 from typing import Any
 
 from jinja2 import StrictUndefined, Template
 
 from .blocks import Block, Library, Port, variable
-from .common import Folded, Names, Place, shown
+from .common import MARK, Faults, Folded, Names, Place, shown
 from .document import Code, Node
 from .network import Network, System
 from .structured_text import Algorithm, Find, condition, constant
 
-MARK = re.compile("\x02(.*?):([0-9]+):([0-9]+)\x03")
 TEXTS: Any = Template(Path(__file__).with_name("texts.jinja").read_text("utf-8"), undefined=StrictUndefined, trim_blocks=True,
                       lstrip_blocks=True, keep_trailing_newline=True).module
 
@@ -41,7 +39,7 @@ class Chart:
         nodes = list(inside.all("Algorithm"))
         self.bodies = Names("algorithm", [(it.get("Name"), it.at("Name")) for it in nodes], self.faults)
         codes = {name: Algorithm(self.code_of(it), self.finder(name), self.faults) for it in nodes if (name := it.get("Name"))}
-        self.variables = [variable(it, False, self.faults)
+        self.variables = [variable(it, False, library)
                           for part in inside.all("InternalVars", "InternalConstVars") for it in part.children]
         self.variables += [Port(f"{name}.{it}", "data", False, code.place(it), kind)
                            for name, code in codes.items() for it, kind in code.temporaries]
@@ -122,6 +120,13 @@ def inside_of(block: Block, library: Library) -> Node:
     return inside.made("BasicFB", ecc, *inside.children)
 
 
+def value(code: Code, kind: str, faults: Faults) -> str:
+    """Return the constant of a parameter or of a declaration. A time is more than a number, unless it is 0."""
+    if kind == "TIME" and code.text.strip(" +-").isdecimal() and int(code.text):
+        faults.refuse(code.place(0), f"{shown(code.text)} is no time: write its unit, such as T#{shown(code.text.strip())}ms")
+    return constant(code, kind, faults)
+
+
 class Types:
     """Writes the types that are reached, each after those that it uses."""
 
@@ -129,7 +134,7 @@ class Types:
         self.library, self.faults = library, library.faults
         self.texts = ["(* Imported by fbsim-import: see import.txt. *)\n\n"]
         self.written: dict[Block, None] = {}
-        self.depth, self.constant = 0, functools.partial(constant, faults=library.faults)
+        self.depth, self.constant = 0, functools.partial(value, faults=library.faults)
 
     def need(self, block: Block, place: Place) -> None:
         """Write a type, if it is not written yet."""
