@@ -40,6 +40,10 @@ class Imported(NamedTuple):
         assert done.returncode == status, done.stderr
         return done.stdout
 
+    def stop(self, horizon, stimuli):
+        """Returns the trace of the imported application, which ends with a stop."""
+        return self.run(horizon, stimuli, 1)
+
 
 def import_all(folder, files, *words, out="out"):
     """Writes files, imports those at the top with those below `lib` as the library, and returns what came of it."""

@@ -37,6 +37,8 @@ def arguments(words: Sequence[str] | None) -> argparse.Namespace:
     parser.add_argument("--lib", action="append", default=[], metavar="DIR", help="a folder with types, at any depth")
     parser.add_argument("--latency", type=int, default=1, metavar="N", help="the latency of each link, in ms (1)")
     parser.add_argument("--stub", action="store_true", help="replace service interface types by stubs")
+    parser.add_argument("--overflow", choices=("stop", "wrap"), default="stop",
+                        help="what a number that does not fit does: stop the run, or lose its upper bits (stop)")
     add_options(parser)
     try:
         given = parser.parse_args(words)
@@ -50,6 +52,7 @@ def arguments(words: Sequence[str] | None) -> argparse.Namespace:
 def convert(given: argparse.Namespace, faults: Faults) -> dict[str, str]:
     """Read all files, and return the texts of their system or of their types, with marks of places."""
     library, roots = Library(given.lib, given.stub, faults), []
+    library.overflow = given.overflow
     for path in given.files:
         with contextlib.suppress(Refused):
             roots.append(read_document(path, faults, library.ignored))

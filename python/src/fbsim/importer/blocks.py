@@ -86,6 +86,8 @@ class Library:
         self.faults, self.with_stubs = faults, with_stubs
         self.ignored: Counter[str] = Counter()
         self.notes: list[str] = []
+        # What a number does that does not fit: the run stops, or it loses its upper bits (wrap).
+        self.overflow = "stop"
         self.built_in, self.annex = packaged("event_blocks.iec"), packaged("annex_a.iec")
         self.files = TypeFiles(folders)
         self.blocks: dict[tuple[str, ...], Block | None] = {}

@@ -1,7 +1,7 @@
-"""Converts Structured Text and conditions of IEC 61499-2 to those of the profile, token by token.
+"""Reads Structured Text and conditions of IEC 61499-2, and writes those of the profile.
 
-structured_text.lark has the grammar. Each token of the result keeps its place in the XML. What the profile lacks is refused
-there, and reading goes on, in a body after the next semicolon."""
+structured_text.lark has the grammar. What is read is a list of segments, whose expressions are typed trees (expressions.py).
+What the profile lacks is refused at its place, and reading goes on, in a body after the next semicolon."""
 
 from __future__ import annotations
 
@@ -13,26 +13,26 @@ from typing import Any, NamedTuple
 from lark import Lark, Token, Transformer_NonRecursive, UnexpectedToken
 from lark.exceptions import VisitError
 
-from .common import KEYWORDS, TABLES, TYPES, Faults, Place, shown
+from .common import TABLES, TYPES, Faults, Place, shown
 from .document import Code
+from .conversions import conversion_of
+from .expressions import MOST_NESTED, NUMBER, RANGES, Call, Expression, Group, Literal, Range, Unary, Variable, laid_out, pieces
+from .kinds import TRUTHS, binary, common_type, truth
+from .lowering import Lowering
+from .statements import Segment
 
-GRAMMAR = Lark.open("structured_text.lark", rel_to=__file__, parser="lalr", lexer="basic", g_regex_flags=re.ASCII,
+GRAMMAR = Lark.open("structured_text.lark", rel_to=__file__, parser="lalr", lexer="basic", g_regex_flags=re.ASCII, keep_all_tokens=True,
                     start=["segment", "guard", "conjunction", "expression", "constant", "rest"])
+# What the grammar declares. The other keywords of the profile are names here.
+WORDS = frozenset("""IF THEN ELSIF ELSE END_IF CASE OF END_CASE FOR TO BY DO END_FOR WHILE END_WHILE REPEAT UNTIL END_REPEAT EXIT RETURN
+AND OR XOR NOT MOD TRUE FALSE""".split())
 # (an M that begins MS is none of its own)
 TIME = re.compile(r"T(?:IME)?#(-?)(?=\d)" + "".join(rf"(?:(\d[\d_]*+(?:\.\d++)?){it}(?!S)_?)?" for it in TABLES["units"]), re.ASCII)
-BITS = {"0": "FALSE", "FALSE": "FALSE", "1": "TRUE", "TRUE": "TRUE"}
-FUNCTIONS = TABLES["profile"]["functions"].split()
 REASONS = TABLES["refused"]
+FUNCTIONS = TABLES["profile"]["functions"].split()
 ENDS = ("END_IF", "END_CASE", "END_FOR", "END_WHILE", "END_REPEAT")
-MOST_CHARACTERS = 200_000
+MOST_CHARACTERS, MOST_IN_A_GUARD = 200_000, 4_000
 Find = Callable[[str], "tuple[str, str] | None"]
-
-
-class Value(NamedTuple):
-    """What an expression is: its type, as far as it matters, and the literals 0 and 1 in it that may be truth values."""
-
-    type: str
-    bits: tuple[Token, ...] = ()
 
 
 def time_literal(text: str) -> str:
@@ -43,26 +43,40 @@ def time_literal(text: str) -> str:
     return f"T#{found[1]}{ticks}ms" if found and ticks.denominator == 1 else ""
 
 
+def whole(text: str) -> int | None:
+    """Return the value of a whole number, as 5, -1_000 or 16#FF, or nothing if it is none."""
+    base, _, digits = text.replace("_", "").rpartition("#")
+    try:
+        return int(digits, int(base.lstrip("+-") or 10)) * (-1 if base.startswith("-") else 1)
+    except ValueError:
+        return None
+
+
+class Named(NamedTuple):
+    """An argument that is given by a name."""
+
+    name: Token
+    value: Expression
+
+
 class Reader(Transformer_NonRecursive):
     """Reads an algorithm, a condition or a constant.
 
-    The value of a token is what it becomes. The methods with the names of rules return what is read by these."""
+    The methods with the names of rules return what is read by these."""
 
     def __init__(self, code: Code, find: Find, faults: Faults) -> None:
         super().__init__(visit_tokens=False)
         self.code, self.find, self.faults = code, find, faults
         self.tokens: list[Token] = []
-        self.conversions: list[Token] = []
         if len(code.text) > MOST_CHARACTERS:
             raise faults.refuse(code.place(0), f"an algorithm has at most {MOST_CHARACTERS:,} characters")
         lexer: Any = GRAMMAR.parse_interactive(code.text, "rest")
         for token in lexer.lexer_thread.lex(lexer.parser_state):
-            literal = token.upper().partition("#")[2].lstrip("+")
             if token.type == "NAME":
                 token.value = token.upper()
-            elif token.type in ("TIME", "TRUTH", "NUMBER"):
-                token.value = {"TIME": time_literal(token.upper()), "TRUTH": BITS.get(literal, ""), "NUMBER": literal}[token.type]
-            if token.type in REASONS and not (token.type == "TIME" and token.value):
+            elif token.type == "DURATION":
+                token.value = time_literal(token.upper())
+            if token.type in REASONS and not (token.type == "DURATION" and token.value):
                 self.refuse(token, REASONS[token.type])
             if token.type not in ("OPEN", "OTHER"):
                 self.tokens.append(token)
@@ -79,18 +93,25 @@ class Reader(Transformer_NonRecursive):
         """Refuse a token."""
         self.faults.refuse(self.place(token), f"{shown(token)} {reason}")
 
-    def read(self, begin: int, end: int, start: str, hint: str = "") -> Value | None:
-        """Read these tokens by a rule, or refuse the first that does not fit, with a hint."""
+    def is_word(self, token: Token, after: Token, choices: dict[str, object]) -> bool:
+        """Return whether a token is a word of the grammar. Where it can't be one, or after := it is the name of a variable."""
+        word = token.upper()
+        if word not in WORDS or after == ":=":
+            return False
+        is_value = "WHOLE" in choices and word in ("TRUE", "FALSE", "NOT", "AND", "OR", "XOR", "MOD")
+        is_not = word == "NOT" and (after == "(" or after.type in ("NAME", "WHOLE", "NUMBER", "TRUTH"))
+        return not self.find(token) or (word in choices and not (is_value and not is_not))
+
+    def read(self, begin: int, end: int, start: str, hint: str = "") -> Any:
+        """Read these tokens by a rule, or refuse the first that does not fit, with a hint, and return nothing."""
         parser: Any = GRAMMAR.parse_interactive(start=start)
         index = begin
         try:
             for index, token in enumerate(self.tokens[begin:end], begin):
-                word, after = token.upper(), self.tokens[index + 1]
-                is_keyword = word in KEYWORDS and after != ":=" and (word in parser.choices() or not self.find(token))
-                parser.feed_token(Token(word, token, token.start_pos) if is_keyword else token)
+                is_word = self.is_word(token, self.tokens[index + 1], parser.choices())
+                parser.feed_token(Token.new_borrow_pos(token.upper(), token.value, token) if is_word else token)
             index = end
-            found: Value = self.transform(parser.feed_eof())
-            return found
+            return self.transform(parser.feed_eof())
         except VisitError as fault:
             raise fault.orig_exc from None
         except UnexpectedToken:
@@ -99,72 +120,115 @@ class Reader(Transformer_NonRecursive):
             self.faults.refuse(self.place(token), f"found {shown(token)}, expected {expected}{hint}")
             return None
 
-    def text(self) -> str:
-        """Return the converted tokens with their places, on the lines that they had."""
-        parts, before = [], 0
-        for it in self.tokens[:-1]:
-            start = it.start_pos or 0
-            blank = "\n    " if start < before or "\n" in self.code.text[before:start] else " " if start > before else ""
-            parts += [f"{blank}{self.place(it).mark}{it.value}"] if it.value else []
-            before = it.end_pos or 0
-        return "".join(parts)
+    def kept(self, it: Expression) -> Expression:
+        """Return an expression, unless it nests too deep: then refuse it, and return a literal."""
+        it.depth = 1 + max((one.depth for one in it.parts()), default=0)
+        if it.depth <= MOST_NESTED:
+            return it
+        self.faults.refuse(self.code.place(it.start), f"an expression nests at most {MOST_NESTED} deep: assign a part of it to a variable")
+        return Literal(it.start, it.type, "0", 0)
 
-    def truth(self, *values: Value | None) -> None:
-        """Make the literals 0 and 1 of these values truth values."""
-        for token in (it for value in values if value for it in value.bits):
-            token.value = BITS[token]
-
-    def __default__(self, rule: str, row: list[Any], meta: object) -> Value:
-        """Read by a rule without a method, and make 0 and 1 truth values where such values belong."""
-        values = [it for it in row if isinstance(it, Value)]
-        types = [it.type for it in values]
-        if rule in ("logical", "condition") or rule == "equal" and "BOOL" in types:
-            self.truth(*values)
-        elif rule == "assignment" and types[0] == "BOOL":
-            self.truth(values[1])
-        elif rule == "plus":
-            row[0].value = ""
-        elif rule in REASONS:
-            self.refuse(row[0], REASONS[rule])
-        return Value("BOOL" if rule in ("logical", "equal", "compared") else "NUMBER")
-
-    def literal(self, row: list[Token]) -> Value:
+    def literal(self, row: list[Token]) -> Expression:
         """Read a literal."""
-        is_truth = row[0].type in ("TRUTH", "TRUE", "FALSE")
-        return Value("BOOL") if is_truth else Value("NUMBER", tuple(it for it in row if it in BITS))
+        token, start = row[0], row[0].start_pos or 0
+        kind, _, text = token.upper().rpartition("#") if token.type == "TRUTH" else token.upper().partition("#")
+        if token.type in ("TRUE", "FALSE", "TRUTH"):
+            return Literal(start, "BOOL", TRUTHS[text or kind])
+        if token.type == "DURATION":
+            return Literal(start, "TIME", token.value)
+        if token.type == "WHOLE":
+            return Literal(start, NUMBER, token.value, whole(token))
+        value = whole(text) if token.type == "NUMBER" else 0
+        if value is None or token.type == "NUMBER" and not RANGES[kind].has(Range(value, value)):
+            self.refuse(token, f"is no {kind}")
+        return Literal(start, kind, text.lstrip("+"), value) if token.type == "NUMBER" else Literal(start, "", "0")
 
-    def variable(self, row: list[Token]) -> Value:
+    def variable(self, row: list[Any]) -> Expression:
         """Read the name of a variable, which has a full stop where it is that of an adapter."""
         name, dot, part, *rest = row
-        whole = f"{name}.{part}" if dot else str(name)
-        found = self.find(whole)
+        whole_name = f"{name}.{part}" if dot else str(name)
+        found = self.find(whole_name)
         if found is None:
             about = " (structures and parts are not in the profile)" if dot else ""
-            self.faults.refuse(self.place(name), f"there is no variable {shown(whole)}{about}")
-        name.value = found[0] if found else "X"
-        if dot:
-            dot.value = part.value = ""
+            self.faults.refuse(self.place(name), f"there is no variable {shown(whole_name)}{about}")
         for it in rest:
             if it == "[":
-                self.faults.refuse(self.place(it), f"{shown(whole)} is used as an array, and the profile has none")
-        return Value(found[1] if found else "")
+                self.faults.refuse(self.place(it), f"{shown(whole_name)} is used as an array, and the profile has none")
+        return Variable(name.start_pos or 0, found[1] if found else "", found[0] if found else "X")
 
-    def call(self, row: list[Any]) -> Value:
-        """Read a call. Conversions between whole numbers go away, since the numbers of expressions are exact."""
-        name, values = row[0], [it for it in row if isinstance(it, Value)]
-        source, _, target = name.upper().partition("_TO_")
-        if target in TYPES[1:-1] and source == "BOOL":
-            self.truth(*values)
-            name.value, row[-1].value = "SEL", ", 0, 1)"
-        elif target in TYPES[1:-1] and source in TYPES[1:-1]:
-            name.value = ""
-            self.conversions.append(name)
-        elif name.upper() not in FUNCTIONS:
+    def group(self, row: list[Any]) -> Expression:
+        """Read an expression in parentheses."""
+        return self.kept(Group(row[0].start_pos or 0, row[1].type, row[1]))
+
+    def unary(self, row: list[Any]) -> Expression:
+        """Read a sign or NOT. The sign + goes away."""
+        token, operand = row[0], truth(row[1]) if row[0] == "NOT" else row[1]
+        if token == "+":
+            return self.kept(operand)
+        return self.kept(Unary(token.start_pos or 0, operand.type, token.value, operand))
+
+    def binary(self, row: list[Any]) -> Expression:
+        """Read an operator between two operands."""
+        left, token, right = row
+        if token == "**":
+            return self.kept(left)
+        return self.kept(binary(left, token.value, right, token.start_pos or 0))
+
+    def named(self, row: list[Any]) -> Named:
+        """Read an argument that is given by a name."""
+        return Named(row[0], row[2])
+
+    def call(self, row: list[Any]) -> Expression:
+        """Read a call."""
+        name, arguments = row[0], []
+        for it in row[2:-1]:
+            if isinstance(it, Named):
+                self.refuse(it.name, REASONS["named"])
+            arguments += [it.value] if isinstance(it, Named) else [it] if isinstance(it, Expression) else []
+        conversion = conversion_of(name.upper())
+        if name.upper() not in FUNCTIONS and conversion is None:
             self.refuse(name, f"is no function of the profile (it has {', '.join(FUNCTIONS)})")
-        elif name.upper() == "SEL" and len(values) == 3:
-            self.truth(*(values if "BOOL" in (values[1].type, values[2].type) else values[:1]))
-            return Value(values[1].type or values[2].type, values[1].bits + values[2].bits)
-        return Value("NUMBER")
+            return Literal(name.start_pos or 0, "", "0")
+        if conversion and len(arguments) != 1:
+            self.refuse(name, "has one argument")
+            return Literal(name.start_pos or 0, "", "0")
+        if name == "SEL" and len(arguments) == 3 or conversion and conversion[0] == "BOOL":
+            arguments[0] = truth(arguments[0])
+        values = arguments[1:] if name == "SEL" else arguments
+        if name == "SEL" and "BOOL" in [it.type for it in values]:
+            arguments[1:] = values = [truth(it) for it in values]
+        kind = conversion[1] if conversion else common_type(values)
+        return self.kept(Call(name.start_pos or 0, kind, name.upper(), arguments))
+
+    def opening(self, row: list[Any]) -> Segment:
+        """Read what begins or ends a statement that holds others."""
+        flat = [one for it in row for one in (it if isinstance(it, list) else [it]) if one is not None]
+        kind = flat[0].type if isinstance(flat[0], Token) else "LABEL"
+        if kind in ("IF", "ELSIF", "WHILE", "UNTIL"):
+            flat[1] = truth(flat[1])
+        return Segment(kind, flat)
+
+    def label(self, row: list[Any]) -> list[Any]:
+        """Read a label of CASE."""
+        return row
+
+    def assignment(self, row: list[Any]) -> Segment:
+        """Read an assignment."""
+        target, _, value = row
+        return Segment(":=", [*row[:2], truth(value) if target.type == "BOOL" else value])
+
+    def statement_call(self, row: list[Any]) -> None:
+        """Refuse a call as a statement."""
+        self.refuse(row[0], REASONS["statement_call"])
+
+    def segment(self, row: list[Any]) -> list[Segment]:
+        """Read what is up to a semicolon."""
+        return [it for it in row if it is not None]
+
+    def guard(self, row: list[Any]) -> Expression:
+        """Read a guard in brackets."""
+        found: Expression = row[1]
+        return found
 
 
 class Algorithm(Reader):
@@ -198,25 +262,27 @@ class Algorithm(Reader):
             row = [*row[:colon + 2], row[-1]]
         names = [it for it in row[:colon] if it.type == "NAME"]
         self.temporaries += [(it, kind.upper()) for it in names]
-        default, start = ("TRUTH", "FALSE") if kind.upper() == "BOOL" else ("WHOLE", "0"), kind.start_pos or 1
+        default, start = ("TRUTH", "BOOL#FALSE") if kind.upper() == "BOOL" else ("WHOLE", "0"), kind.start_pos or 1
         initial = row[colon + 3:-1] or [Token(*default, start, end_pos=kind.end_pos)]
         return [part for it in names for part in (it, Token("ASSIGN", ":=", start, end_pos=start - 1), *initial, row[-1])]
 
-    def body(self) -> str:
+    def body(self, lowering: Lowering) -> str:
         """Return the converted statements."""
+        segments: list[Segment] = []
         begin = 0
         for end, token in enumerate(self.tokens):
             if token == ";" or token.type == "$END":
-                self.read(begin, end, "segment")
+                segments += self.read(begin, end, "segment") or []
+                segments += [Segment(";", [token])] if token == ";" else []
                 begin = end + 1
-        return self.text()
+        return laid_out((piece for it in lowering.statements(segments) for piece in it.pieces()), self.code)
 
 
-def condition(code: Code, find: Find, find_event: Callable[[str], str | None], faults: Faults) -> str:
+def condition(code: Code, find: Find, find_event: Callable[[str], str | None], lowering: Lowering) -> str:
     """Convert the condition of a transition: 1, EVENT, EVENT[GUARD], EVENT & GUARD, [GUARD] or GUARD."""
-    reader = Reader(code, find, faults)
+    reader = Reader(code, find, lowering.faults)
     tokens, mark = reader.tokens, reader.place(reader.tokens[0]).mark
-    if len(tokens) == 2 and BITS.get(tokens[0].value) == "TRUE":
+    if len(tokens) == 2 and TRUTHS.get(tokens[0].value) == "TRUE":
         return f"{mark}1"
     length = 3 if len(tokens) > 3 and tokens[1] == "." else 1
     event = find_event("".join(tokens[:length])) if tokens[0].type == "NAME" else None
@@ -225,22 +291,27 @@ def condition(code: Code, find: Find, find_event: Callable[[str], str | None], f
         if len(tokens) == 1:
             return mark + event
         if tokens[0] != "[" and tokens[0].upper() not in ("&", "AND"):
-            faults.refuse(reader.place(tokens[0]), f"found {shown(tokens[0])}, expected & or AND or [")
+            reader.faults.refuse(reader.place(tokens[0]), f"found {shown(tokens[0])}, expected & or AND or [")
             return mark
     is_guard = tokens[0] == "["
     if event and not is_guard:
         del tokens[0]
+    first = reader.place(tokens[0])
     rule, hint = "guard" if is_guard else "conjunction" if event else "expression", ": write the condition as EVENT[GUARD]"
-    reader.truth(reader.read(0, len(tokens) - 1, rule, hint))
-    guard = reader.text().lstrip()
-    return f"{mark}{event or ''}{guard if is_guard else f'[{guard}{mark}]'}"
+    guard = reader.read(0, len(tokens) - 1, rule, hint)
+    row = list(pieces(lowering.expression(truth(guard)))) if guard else []
+    if sum(len(it.text) + 1 for it in row) > MOST_IN_A_GUARD:
+        reader.faults.refuse(first, f"a guard has at most {MOST_IN_A_GUARD:,} characters when it is expanded: compute it in an algorithm")
+    return f"{mark}{event or ''}{first.mark if is_guard else ''}[{laid_out(row, code).lstrip()}]"
 
 
 def constant(code: Code, kind: str, faults: Faults) -> str:
     """Convert a constant of a type of the profile: TRUE, FALSE, a whole number or a time."""
     reader = Reader(code, lambda _: None, faults)
     value = reader.read(0, len(reader.tokens) - 1, "constant")
-    if kind == "BOOL" and value and value.type != "BOOL" and not value.bits:
+    if value is None:
+        return ""
+    value = truth(value) if kind == "BOOL" else value
+    if kind == "BOOL" and value.type != "BOOL" and value.type:
         faults.refuse(code.place(0), f"{shown(code.text)} is no constant of type BOOL")
-    reader.truth(value if kind == "BOOL" else None)
-    return reader.text().lstrip()
+    return laid_out(pieces(value), code).lstrip()

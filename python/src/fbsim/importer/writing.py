@@ -13,6 +13,7 @@ from jinja2 import StrictUndefined, Template
 from .blocks import Block, Library, Port, variable
 from .common import MARK, Faults, Folded, Names, Place, shown
 from .document import Code, Node
+from .lowering import Lowering
 from .network import Network, System
 from .structured_text import Algorithm, Find, condition, constant
 
@@ -35,7 +36,7 @@ class Chart:
     """What a basic type has after its interface, as it is written."""
 
     def __init__(self, block: Block, library: Library) -> None:
-        self.block, self.faults, inside = block, library.faults, inside_of(block, library)
+        self.block, self.library, self.faults, inside = block, library, library.faults, inside_of(block, library)
         nodes = list(inside.all("Algorithm"))
         self.bodies = Names("algorithm", [(it.get("Name"), it.at("Name")) for it in nodes], self.faults)
         codes = {name: Algorithm(self.code_of(it), self.finder(name), self.faults) for it in nodes if (name := it.get("Name"))}
@@ -59,9 +60,9 @@ class Chart:
         self.algorithms = []
         for name, code in codes.items():
             mark, end = code.code.place(0).mark, code.place(code.tokens[-1]).mark
-            self.algorithms.append(f"{mark}ALGORITHM {self.bodies[name]} IN ST:{code.body()}{end}\nEND_ALGORITHM\n")
-            library.notes += [f"{code.place(it)}: {it} goes away: a value that does not fit stops the run"
-                              for it in code.conversions]
+            body = code.body(lowering := self.lowering(code.code))
+            self.algorithms.append(f"{mark}ALGORITHM {self.bodies[name]} IN ST:{body}{end}\nEND_ALGORITHM\n")
+            library.notes += lowering.notes
         library.notes += [f"type {block.out}: {it}" for one in (names, self.bodies, self.state_names) for it in one.renamed]
 
     def code_of(self, node: Node) -> Code:
@@ -71,6 +72,10 @@ class Chart:
             self.faults.refuse((inside or node).place, f"algorithm {shown(node.get('Name'))} is not in Structured Text")
             return Code(node.source, node.offset)
         return inside.code("Text") if inside.get("Text") else inside.text
+
+    def lowering(self, code: Code) -> Lowering:
+        """Return what replaces in a text what the profile lacks."""
+        return Lowering(code, self.faults, self.library.overflow)
 
     def finder(self, algorithm: str) -> Find:
         """Return the look-up of variables in an algorithm."""
@@ -96,7 +101,9 @@ class Chart:
         for end, found in zip(("Source", "Destination"), ends):
             if found is None:
                 self.faults.refuse(node.at(end), f"there is no state {shown(node.get(end))}")
-        text = condition(node.code("Condition"), self.found.find, self.inputs.find, self.faults)
+        lowering = self.lowering(node.code("Condition"))
+        text = condition(lowering.code, self.found.find, self.inputs.find, lowering)
+        self.library.notes += lowering.notes
         return f"{node.at('Source').mark}{ends[0]} TO {ends[1]} := {text}"
 
 
