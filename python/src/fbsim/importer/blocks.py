@@ -151,6 +151,11 @@ class Library:
         return block
 
 
+def full_type(node: Node) -> str:
+    """Return the type that an instance or an adapter names, with the package or the namespace that the element gives it."""
+    return f"{node.get('Namespace')}::{node.get('Type')}" if node.get("Namespace") and "::" not in node.get("Type") else node.get("Type")
+
+
 def block_of(root: Node, library: Library) -> Block:
     """Return the type of a file with its interface."""
     kinds = (KINDS[it.tag] for it in (root, *root.children) if it.tag in KINDS)
@@ -210,7 +215,7 @@ def variable(node: Node, is_output: bool, library: Library) -> Port:
 
 def adapter_ports(node: Node, is_plug: bool, library: Library) -> list[Port]:
     """Expand an adapter to ports: those of a plug are as in its type, those of a socket have the other direction."""
-    name, place, adapter = node.get("Name"), node.at("Name"), library.get(node.get("Type"), node.at("Type"), node.tag)
+    name, place, adapter = node.get("Name"), node.at("Name"), library.get(full_type(node), node.at("Type"), node.tag)
     if adapter and adapter.kind != "adapter":
         library.faults.refuse(node.at("Type"), f"{adapter.name} is no adapter type")
     if adapter is None or adapter.kind != "adapter":

@@ -9,7 +9,7 @@ from array import array
 from collections.abc import Iterator, Mapping, Sequence
 from dataclasses import dataclass, field
 
-from .blocks import Block, Library, Port, read_interface
+from .blocks import Block, Library, Port, full_type, read_interface
 from .common import MARK, Faults, Folded, Names, Place, T, shown
 from .document import Code, Node, Source
 from .files import package_of
@@ -68,7 +68,7 @@ class Network:
         """Add an instance, or the inside of a subapplication, whose ports only hand on what comes to them."""
         block, place = communication(node.get("Type"), node.at("Name")), node.at("Name")
         if block is None and (node.get("Type") or node.tag == "FB"):
-            block = self.library.get(node.get("Type"), node.at("Type"), node.tag)
+            block = self.library.get(full_type(node), node.at("Type"), node.tag)
         elif block is None:
             block = Block(node.get("Name"), "subapplication", place, node)
             read_interface(block, self.library)
@@ -134,8 +134,9 @@ class Network:
 
     def find(self, node: Node, end: str, kind: str, inside: str) -> tuple[Key, Port] | None:
         """Return the port at an end of a connection, of the owner or of an instance, or refuse its name."""
-        text, place, owner = node.get(end), node.at(end), self.blocks.get(inside)
-        instance, _, name = text.rpartition(".")
+        # (EcoStruxure writes the ports of the network itself as $PORT)
+        text, place, owner = node.get(end).removeprefix("$"), node.at(end), self.blocks.get(inside)
+        instance, _, name = text.rpartition(".") if not node.get(end).startswith("$") else ("", "", text)
         path, is_output = self.scopes[inside].find(instance), end == "Source"
         if owner and owner.ports.find(text):
             path, name, is_output = inside, text, not is_output

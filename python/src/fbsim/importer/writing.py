@@ -113,18 +113,29 @@ def inside_of(block: Block, library: Library) -> Node:
     inside = next(block.node.all("BasicFB", "SimpleFB"))
     if inside.tag == "BasicFB":
         return inside
-    ecc, outputs = inside.made("ECC", inside.made("ECState", Name="START")), block.side("event", True)
-    states = {it.get("Name"): list(it.children) for it in inside.all("SimpleECState")}
+    ecc, outputs, states = inside.made("ECC", inside.made("ECState", Name="START")), block.side("event", True), simple_states(block, inside, library)
     algorithms = Folded({it.get("Name"): it.get("Name") for it in inside.all("Algorithm")})
     for port in block.side("event", False):
-        own = algorithms.find(port.name) or (next(iter(algorithms)) if len(algorithms) == 1 else "")
-        if port.name not in states and not (own and len(outputs) == 1):
-            library.faults.refuse(port.place, f"there is no algorithm for {port.name}, or not one event output to go with it")
-        actions = [inside.made("ECAction", Algorithm=own, Output=outputs[0].name if outputs else "")]
-        ecc.children += [inside.made("ECState", *states.get(port.name, actions), Name=f"ON.{port.name}"),
+        actions, own = states.find(port.name), algorithms.find(port.name) or (next(iter(algorithms)) if len(algorithms) == 1 else "")
+        if actions is None:
+            if not own or len(outputs) != 1:
+                library.faults.refuse(port.place, f"there is no algorithm for {port.name}, or not one event output to go with it")
+            actions = [inside.made("ECAction", Algorithm=own, Output=outputs[0].name if outputs else "")]
+        ecc.children += [inside.made("ECState", *actions, Name=f"ON.{port.name}"),
                          inside.made("ECTransition", Source="START", Destination=f"ON.{port.name}", Condition=port.name),
                          inside.made("ECTransition", Source=f"ON.{port.name}", Destination="START", Condition="1")]
     return inside.made("BasicFB", ecc, *inside.children)
+
+
+def simple_states(block: Block, inside: Node, library: Library) -> Folded[list[Node]]:
+    """Return the actions of the states of a simple type: each state has the name of the event that enters it."""
+    nodes = list(inside.all("SimpleECState", "ECState"))
+    Names("state", [(it.get("Name"), it.at("Name")) for it in nodes], library.faults)
+    events = Folded({it.name: it for it in block.side("event", False)})
+    for it in nodes:
+        if events.find(it.get("Name")) is None:
+            library.faults.refuse(it.at("Name"), f"type {block.name} has no event input {shown(it.get('Name'))}, so no event enters this state")
+    return Folded({it.get("Name"): it.children for it in nodes})
 
 
 def value(code: Code, kind: str, faults: Faults) -> str:
