@@ -2,6 +2,7 @@
 
 from __future__ import annotations
 
+import resource
 import sys
 import time
 from pathlib import Path
@@ -66,6 +67,12 @@ def program(folder, text):
     (folder / "program").write_text(f"#!/bin/sh\n{text}\n")
     (folder / "program").chmod(0o755)
     return str(folder / "program")
+
+
+def processor_time():
+    """Returns the seconds that this process and those that it waited for used of processors."""
+    used = [resource.getrusage(it) for it in (resource.RUSAGE_SELF, resource.RUSAGE_CHILDREN)]
+    return sum(it.ru_utime + it.ru_stime for it in used)
 
 
 def has_ended(process):

@@ -3,10 +3,13 @@
 import gc
 import os
 import pickle
+import signal
 import time
 
+import numpy
+import pandas
 import pytest
-from common import ALL, CYCLE, EXAMPLES, RING, application, example_in, interpreter, program, second_trace
+from common import ALL, CYCLE, EXAMPLES, RING, application, example_in, has_ended, interpreter, program, second_trace
 
 import fbsim
 
@@ -288,3 +291,73 @@ def test_a_run_takes_little_longer_than_the_program(tmp_path, monkeypatch):
         assert plant.run(STIMULI, horizon=8).end == 8
         taken.append(time.perf_counter() - start)
     assert min(taken) < 0.030
+
+
+def test_a_run_that_takes_too_long_is_ended_with_all_that_it_started(tmp_path, monkeypatch):
+    monkeypatch.setenv("FBSIM", program(tmp_path, f"sh -c 'echo $$ > {tmp_path}/pid; sleep 1000; true'; true"))
+    start = time.monotonic()
+    with pytest.raises(fbsim.TimedOut, match="^fbsim run took over 0.5 seconds, and was ended$") as caught:
+        fbsim.Application("plant.iec").run(horizon=5, timeout=0.5)
+    assert time.monotonic() - start < 30 and isinstance(caught.value, TimeoutError)
+    assert has_ended(int((tmp_path / "pid").read_text()))
+
+
+def test_an_exception_in_a_run_ends_all_that_it_started(tmp_path, monkeypatch):
+    """As the interrupt of a terminal, which only Python gets, or a time limit of pytest."""
+    monkeypatch.setenv("FBSIM", program(tmp_path, f"sh -c 'echo $$ > {tmp_path}/pid; sleep 1000; true'; true"))
+
+    def interrupt(*given):
+        raise KeyboardInterrupt
+
+    before = signal.signal(signal.SIGALRM, interrupt)
+    try:
+        signal.setitimer(signal.ITIMER_REAL, 0.5)
+        with pytest.raises(KeyboardInterrupt):
+            fbsim.Application("plant.iec").run(horizon=5)
+    finally:
+        signal.setitimer(signal.ITIMER_REAL, 0)
+        signal.signal(signal.SIGALRM, before)
+    assert has_ended(int((tmp_path / "pid").read_text()))
+
+
+def test_a_run_says_which_rows_it_did_not_take(tmp_path):
+    plant = application(tmp_path, RING)
+    trace = plant.run([(3, "M.EI1"), (8, "M.EI2"), (9, "M.EI1")], horizon=8, steps=3, stop=True)
+    said = "stimuli: rows at or beyond the horizon 8: 2 of 3; the run does not take them"
+    assert trace.warnings == (said,) and trace.stop.where.startswith("stop: M, before its event: steps\n")
+    assert application(tmp_path, CYCLE).run(horizon=8).warnings == ()
+
+
+@pytest.mark.parametrize("option", ["horizon", "steps", "workers"])
+@pytest.mark.parametrize("value", ["5", 5.0, True, numpy.bool_(True)])
+def test_numbers_of_a_run_are_whole(tmp_path, option, value):
+    plant = application(tmp_path, CYCLE)
+    for call in (plant.run, plant.stream):
+        with pytest.raises(fbsim.InputFault, match=f"^{option} is .*, and not a whole number$"):
+            call(**{"horizon": 5, option: value})
+    assert plant.run(horizon=numpy.int64(5)).end == 5
+
+
+@pytest.mark.parametrize("row", [
+    ("1", "C.STOP"), (1.5, "C.STOP"), (True, "C.STOP"), (1,), (1, "C.STOP", {}, 4), (1, 2), (1, "C.STOP", [3]),
+    "C.STOP", 7,
+])
+def test_what_is_no_row_is_a_fault(tmp_path, row):
+    with pytest.raises(fbsim.InputFault, match="no row of stimuli|the tick of a row is"):
+        application(tmp_path, CYCLE).run([row], horizon=5)
+
+
+@pytest.mark.parametrize("stimuli", [7, pandas.DataFrame({"tick": [1], "event": ["C.STOP"]})])
+def test_what_are_no_stimuli_is_a_fault(tmp_path, stimuli):
+    with pytest.raises(fbsim.InputFault, match="^stimuli are a file or rows, and not of the type "):
+        application(tmp_path, CYCLE).run(stimuli, horizon=5)
+
+
+def test_values_of_numpy_are_values_and_a_time_is_in_ticks(tmp_path):
+    text = CYCLE.replace("E_CYCLE(DT := T#3ms)", "E_SWITCH; D : E_DELAY").replace("S.COLD TO C.START;", "")
+    plant = application(tmp_path, text)
+    rows = [(numpy.int64(1), "C.EI", {"G": numpy.bool_(True)}), (2, "D.START", {"DT": numpy.uint8(7)})]
+    lines = "0 MAIN < S.COLD\n1 MAIN > C.EI G=TRUE\n1 MAIN < C.EO1\n2 MAIN > D.START DT=7\nend 5\n"
+    assert plant.run(rows, horizon=5).text() == lines
+    with pytest.raises(fbsim.InputFault, match="^'T#250ms' is no value of a row: .*, and a time is in ticks$"):
+        plant.run([(2, "D.START", {"DT": "T#250ms"})], horizon=5)

@@ -52,7 +52,7 @@ def test_errors_change_nothing(tmp_path):
         with pytest.raises(fbsim.Refused) as refused:
             s.give(6, "X.START")
         assert (refused.value.number, refused.value.text) == ("E29", "row 0: there is no instance X")
-        with pytest.raises(fbsim.InputFault, match="is no constant"):
+        with pytest.raises(fbsim.InputFault, match="is no value of a row"):
             s.give(6, "D.START", {"DT": "x y"})
         assert s.ask("end 9") == [] and s.rows == []
 

@@ -1,9 +1,7 @@
 """Tests of the strategies of Hypothesis."""
 
-import time
-
 import pytest
-from common import EXAMPLES
+from common import EXAMPLES, processor_time
 from hypothesis import HealthCheck, find, given, settings
 from hypothesis.errors import NoSuchExample
 from hypothesis.strategies import booleans, integers
@@ -59,9 +57,9 @@ def test_a_planted_fault_is_found_in_under_a_minute_and_shrinks_to_two_stimuli(t
     wrong = fbsim.Application(tmp_path / "wrong.iec", deploy=BOTTLING / "deploy.toml")
     assert not breaks(wrong)([(0, "LINE.EMERGENCY", {}), (39, "FILL.ARRIVE", {})])
     some = stimuli(EVENTS, integers(0, 300), max_size=6)
-    start = time.monotonic()
+    start = processor_time()
     found = find(some, breaks(wrong), settings=settings(QUIET, max_examples=300))
-    taken = time.monotonic() - start
+    taken = processor_time() - start
     assert found == [(0, "LINE.EMERGENCY", {}), (40, "FILL.ARRIVE", {})]
     assert taken < 60
 

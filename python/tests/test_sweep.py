@@ -9,7 +9,7 @@ import time
 from concurrent.futures import Executor, Future, ProcessPoolExecutor, ThreadPoolExecutor
 
 import pytest
-from common import CYCLE, EXAMPLES, application, example_in, interpreter, second_trace
+from common import CYCLE, EXAMPLES, application, example_in, interpreter, processor_time, second_trace
 
 import fbsim
 
@@ -37,12 +37,12 @@ def sweep(parameters, **options):
 
 def test_a_thousand_variants_whose_answer_is_known():
     """The belt stops when a message has gone there and back: within 20 ms if the latencies add up to at most 20."""
-    start = time.monotonic()
+    start = processor_time()
     found = CONVEYOR.application.sweep(
         {THERE: range(1, 41), BACK: range(1, 26)}, CONVEYOR.stimuli, horizon=800, rules=RULES,
         latencies={"stopping": STOPPING},
     )
-    taken = time.monotonic() - start
+    taken = processor_time() - start
     assert len(found.rows) == 1000 and [it.number for it in found.rows] == list(range(1000))
     for it in found.rows:
         there, back = it.parameters[THERE], it.parameters[BACK]
@@ -52,8 +52,8 @@ def test_a_thousand_variants_whose_answer_is_known():
     assert (found.first_broken.parameters[THERE], found.first_broken.parameters[BACK]) == (1, 20)
     assert len(found.broken(STOPS)) == len(found.broken()) == 1000 - 190
     assert found.broken("the gate is not lifted while the station works") == []
-    # (15 s on four processors)
-    assert taken * min(4, len(os.sched_getaffinity(0))) <= 60
+    # (it is 20 to 40 s; on a busy machine the time of a clock says nothing)
+    assert taken <= 120
 
 
 def test_the_product_has_the_last_parameter_fastest():

@@ -7,6 +7,7 @@ import subprocess
 import tempfile
 from collections.abc import Generator, Iterable, Iterator, Mapping, Sequence
 from dataclasses import dataclass
+from itertools import takewhile
 from pathlib import Path
 from typing import IO, TYPE_CHECKING, Any
 
@@ -14,6 +15,7 @@ from fbsim.faults import InputFault, Stop, Stopped, fault_of
 from fbsim.program import call, started
 from fbsim.session import Session
 from fbsim.stimuli import FileName, Stimuli, stimuli_text
+from fbsim.texts import whole
 from fbsim.trace import Line, Lines, Trace, ending, lines_of, temporary
 
 if TYPE_CHECKING:
@@ -54,7 +56,7 @@ class Application:
         elif stimuli is not None:
             words, given = [*words, "--stim", "-"], stimuli_text(stimuli)
         for option, number in options.items():
-            words += [] if number is None else [f"--{option}", str(number)]
+            words += [] if number is None else [f"--{option}", str(whole(number, option))]
         return words, given
 
     def check(self, stimuli: Stimuli = None) -> None:
@@ -63,19 +65,21 @@ class Application:
 
     def run(
         self, stimuli: Stimuli = None, *, horizon: int, steps: int | None = None, workers: int | None = None,
-        stop: bool = False, keys: bool = False
+        stop: bool = False, keys: bool = False, timeout: float | None = None
     ) -> Trace:
         """Runs the application to its end, and returns the trace, whose lines wait in a temporary file.
 
         `stimuli` is a file, or rows (tick, INSTANCE.EVENT, {VARIABLE: value}). A run that stops before the horizon
-        raises `Stopped`, unless `stop` is true. With `keys` the trace has form 2.
+        raises `Stopped`, unless `stop` is true. With `keys` the trace has form 2. A run that takes longer than
+        `timeout` seconds is ended, and `TimedOut` raised.
         """
         options = {"horizon": horizon, "steps": steps, "workers": workers, "trace": 2 if keys else None}
         words, given = self.call_words("run", stimuli, options)
         trace, file = temporary(self)
         with file as to:
-            made = call(words, given, to, statuses=(0, 1))
-        trace.where_stopped = made.stderr.rstrip()
+            said = call(words, given, to, statuses=(0, 1), timeout=timeout).stderr.splitlines()
+        count = sum(1 for _ in takewhile(lambda it: it.startswith("stimuli: "), said))
+        trace.warnings, trace.where_stopped = tuple(said[:count]), "\n".join(said[count:])
         if trace.stop and not stop:
             raise Stopped(trace.stop, trace)
         return trace

@@ -8,7 +8,7 @@ import os
 from collections.abc import Iterable, Mapping
 
 from fbsim.faults import InputFault
-from fbsim.texts import constant, whole
+from fbsim.texts import value_text, whole
 
 Value = int | bool
 FileName = str | os.PathLike[str]
@@ -30,7 +30,7 @@ def row_of(given: object) -> tuple[int, str, Mapping[str, Value]]:
 
 def words_of(values: Mapping[str, Value]) -> str:
     """Returns values as words of stimuli: `COVERED=TRUE COUNT=2`."""
-    return " ".join(f"{name}={constant(it)}" for name, it in values.items())
+    return " ".join(f"{name}={value_text(it)}" for name, it in values.items())
 
 
 def stimuli_text(rows: Iterable[Row], is_limited: bool = True) -> str:

@@ -57,20 +57,32 @@ def of_application(declaration: str) -> list[re.Match[str]]:
     return found[words.index("APPLICATION"):words.index("END_APPLICATION") + 1]
 
 
-def constant(value: object) -> str:
-    """Returns a value as a constant of a declaration. A text is one itself, as T#250ms."""
-    if isinstance(value, bool):
-        return ("FALSE", "TRUE")[value]
+def is_truth(value: object) -> bool:
+    """Whether it is a truth value, which may be of numpy."""
+    return type(value).__name__ in ("bool", "bool_")
+
+
+def value_text(value: object) -> str:
+    """Returns a value as stimuli have it: a whole number or a truth value, which may be of numpy."""
+    if is_truth(value):
+        return "TRUE" if value else "FALSE"
     if hasattr(value, "__index__"):
         return str(index(value))
+    raise InputFault(f"{value!r} is no value of a row: it is a whole number or a truth value, and a time is in ticks")
+
+
+def constant(value: object) -> str:
+    """Returns a value as a constant of a declaration. A text is one itself, as T#250ms."""
     if isinstance(value, str) and CONSTANT.fullmatch(value):
         return value
+    if is_truth(value) or hasattr(value, "__index__"):
+        return value_text(value)
     raise InputFault(f"{value!r} is no constant: it is a whole number, a truth value, or a text as T#250ms")
 
 
 def whole(value: object, what: str) -> int:
     """Returns a whole number, which may be of numpy. A truth value and a text are none."""
-    if isinstance(value, bool) or type(value).__name__ in ("bool_", "bool") or not hasattr(value, "__index__"):
+    if is_truth(value) or not hasattr(value, "__index__"):
         raise InputFault(f"{what} is {value!r}, and not a whole number")
     return index(value)
 
@@ -130,7 +142,7 @@ def with_stimulus(stimuli: str, number: str, key: str, value: object) -> str:
         tick = str(value)
     else:
         words = dict(it.partition("=")[::2] for it in values.upper().split(" ") if it)
-        words[key.upper()] = constant(value)
+        words[key.upper()] = value_text(value)
         values = " ".join(f"{name}={it}" for name, it in words.items())
     table[row + 1] = [tick, event, values]
     text = io.StringIO()

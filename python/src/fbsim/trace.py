@@ -183,6 +183,8 @@ class Trace(Lines):
 
     def __init__(self, path: str | os.PathLike[str], application: Application | None = None) -> None:
         self.path, self.application, self.where_stopped = Path(path), application, ""
+        #: What the program warned of in the run: rows of stimuli at or beyond the horizon.
+        self.warnings: tuple[str, ...] = ()
 
     def __repr__(self) -> str:
         return f"<trace {self.path}>"
