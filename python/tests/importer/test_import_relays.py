@@ -317,7 +317,12 @@ def test_a_communication_block_without_a_partner_is_refused(block, other, says, 
 @pytest.mark.parametrize(
     "rows, part, says",
     [
-        ("S.STATUS L.PV", "S.STATUS", "STATUS of SUBSCRIBE_0 is not simulated: it is a STRING"),
+        (
+            "S.STATUS L.PV",
+            "S.STATUS",
+            "S.STATUS (STRING) and L.PV (UINT): STRING is no type of the profile, "
+            "so such a port can be connected only to another one",
+        ),
         ("S.QO L.PV", "S.QO", "QO is a BOOL, and L.PV is none"),
         ("N.Q X.PERMIT S.QO X.PERMIT", "S.QO", "X.PERMIT has more than one source"),
     ],

@@ -238,44 +238,6 @@ def test_a_simple_type_without_an_algorithm_for_an_event_is_refused(tmp_path):
     assert done.lines[0].startswith(f"Simple.fbt:{place_of(text, 'CLEAR')}: there is no algorithm for CLEAR")
 
 
-# ---- Service interface types and stubs
-
-PANEL = system(
-    '<FB Name="P" Type="Panel"/><FB Name="A" Type="Adder"/>'
-    + connections("Event", "P.PRESSED A.REQ", "A.CNF P.SHOW")
-    + connections("Data", "P.KEY A.A", "A.SUM P.N")
-)
-
-
-def test_a_service_interface_type_is_refused_by_name(tmp_path):
-    text = service()
-    done = import_all(tmp_path, {"lib/Panel.fbt": text, "lib/Adder.fbt": basic(), "A.sys": PANEL})
-    assert done.status == 2
-    place = place_of(text, "Panel")
-    assert done.lines == [
-        f"lib/Panel.fbt:{place}: Panel is a service interface type: the simulator has none (see --stub)"
-    ]
-
-
-def test_a_stub_emits_what_stimuli_give(tmp_path):
-    done = import_all(
-        tmp_path, {"lib/Panel.fbt": service(), "lib/Adder.fbt": basic("SUM := A + 1;"), "A.sys": PANEL}, "--stub"
-    )
-    assert done.status == 0, done.lines
-    assert "P.PRESSED: the stimulus P.GIVE_PRESSED GIVE_KEY=.." in done.text("import.txt")
-    assert (
-        done.run(9, "tick,event,values\n5,P.GIVE_PRESSED,GIVE_KEY=41\n")
-        == """\
-5 MAIN > P.GIVE_PRESSED GIVE_KEY=41
-5 MAIN < P.PRESSED KEY=41
-5 MAIN > A.REQ A=41 QI=FALSE
-5 MAIN < A.CNF SUM=42
-5 MAIN > P.SHOW N=42
-end 9
-"""
-    )
-
-
 # ---- Annex A
 
 BUILT_IN = """<FBType Name="E_SR">

@@ -22,6 +22,7 @@ from .common import MARK, Faults, FileFault, Refused
 from .document import read_document
 from .network import System, system_of
 from .report import ACCEPTED, add_options, finish
+from .stubs import Stubs, stub_names
 from .writing import place_in, texts_of
 
 FILES, COMMAND_LINE = 3, 5
@@ -36,9 +37,10 @@ def arguments(words: Sequence[str] | None) -> argparse.Namespace:
     parser.add_argument("--out", required=True, metavar="DIR", help="the folder to write, new or empty")
     parser.add_argument("--lib", action="append", default=[], metavar="DIR", help="a folder with types, at any depth")
     parser.add_argument("--latency", type=int, default=1, metavar="N", help="the latency of each link, in ms (1)")
-    parser.add_argument("--stub", action="store_true", help="replace service interface types by stubs")
     parser.add_argument("--overflow", choices=("stop", "wrap"), default="stop",
                         help="what a number that does not fit does: stop the run, or lose its upper bits (stop)")
+    parser.add_argument("--stub", action="extend", nargs="?", const="", default=[], type=stub_names, metavar="NAMES",
+                        help="replace these service interface types by stubs: names with commas, or all")
     add_options(parser)
     try:
         given = parser.parse_args(words)
@@ -51,7 +53,7 @@ def arguments(words: Sequence[str] | None) -> argparse.Namespace:
 
 def convert(given: argparse.Namespace, faults: Faults) -> dict[str, str]:
     """Read all files, and return the texts of their system or of their types, with marks of places."""
-    library, roots = Library(given.lib, given.stub, faults), []
+    library, roots = Library(given.lib, Stubs(frozenset(given.stub)), faults), []
     library.overflow = given.overflow
     for path in given.files:
         with contextlib.suppress(Refused):

@@ -14,9 +14,12 @@ from .common import IS_NAME, TABLES, TYPES, Faults, Folded, Names, Place, shown
 from .document import Code, Node
 from .files import TypeFile, TypeFiles, is_standard, package_of
 from .made import Made
+from .stubs import Stubs, give_ports, make_stub
 
 KINDS = {"SubAppType": "subapplication", "AdapterType": "adapter", "System": "system", "BasicFB": "basic",
          "SimpleFB": "simple", "FBNetwork": "composite"}
+# Kinds of types whose ports may have a type that the profile lacks, if nothing but such ports is connected to them.
+LEAVING = ("service", "composite", "subapplication")
 DECLARED = re.compile(r"(?:\(\*(?:(?!\*\)).)*\*\)\s*)?FUNCTION_BLOCK\s+(\w+)(.*?)END_FUNCTION_BLOCK", re.DOTALL)
 SECTION = re.compile(r"\b(EVENT|VAR)_(INPUT|OUTPUT)\b(.*?)\bEND_(?:EVENT|VAR)\b", re.DOTALL)
 ROW = re.compile(r"(\w+(?:, \w+)*)(?: WITH (\w+(?:, \w+)*)| : (\w+))?;")
@@ -24,7 +27,9 @@ ROW = re.compile(r"(\w+(?:, \w+)*)(?: WITH (\w+(?:, \w+)*)| : (\w+))?;")
 
 @dataclass(slots=True)
 class Port:
-    """An event, a variable (data) or an adapter. The ports of an adapter have names ADAPTER.NAME."""
+    """An event, a variable (data) or an adapter. The ports of an adapter have names ADAPTER.NAME.
+
+    A port whose type the profile lacks is left out; `lacking` says which type that is."""
 
     name: str
     kind: str
@@ -35,6 +40,7 @@ class Port:
     withs: list[tuple[str, Place]] = field(default_factory=list)
     out: str = ""
     adapter: Block | None = None
+    lacking: str = ""
 
 
 @dataclass(slots=True, eq=False)
@@ -56,8 +62,8 @@ class Block:
         return port
 
     def side(self, kind: str, is_output: bool) -> list[Port]:
-        """Return the ports of one kind and one side, in their order."""
-        return [it for it in self.ports.values() if it.kind == kind and it.is_output == is_output]
+        """Return the ports of one kind and one side, in their order, without those that are left out."""
+        return [it for it in self.ports.values() if it.kind == kind and it.is_output == is_output and not it.lacking]
 
     def shape(self, with_lists: bool) -> set[tuple[object, ...]]:
         """Return what two types with one interface have alike, with or without the WITH lists of their events."""
@@ -82,8 +88,8 @@ def packaged(name: str) -> dict[str, Block]:
 class Library:
     """All types of an import: those of the files and folders, of Annex A, and the built-in ones."""
 
-    def __init__(self, folders: Iterable[str], with_stubs: bool, faults: Faults) -> None:
-        self.faults, self.with_stubs = faults, with_stubs
+    def __init__(self, folders: Iterable[str], stubs: Stubs, faults: Faults) -> None:
+        self.faults, self.stubs = faults, stubs
         self.ignored: Counter[str] = Counter()
         self.notes: list[str] = []
         # What a number does that does not fit: the run stops, or it loses its upper bits (wrap).
@@ -141,8 +147,11 @@ class Library:
         """Give a type, which was asked for by a name, that of the profile."""
         if block.name.upper() != name.upper():
             self.faults.refuse(block.place, f"the type {shown(block.name)} is in a file with the name {name}")
-        if block.kind == "service" and not self.with_stubs:
-            self.faults.refuse(block.place, f"{block.name} is a service interface type: the simulator has none (see --stub)")
+        if block.kind == "service":
+            reason = self.stubs.refusal(block, package)
+            if reason:
+                self.faults.refuse(block.place, reason)
+            make_stub(block, self)
         if block.kind not in ("subapplication", "adapter"):
             block.out = Names("type", [(block.name, block.place)], self.faults, self.taken)[block.name]
             if block.out != block.name.upper():
@@ -175,15 +184,16 @@ def read_interface(block: Block, library: Library) -> None:
             if it.tag == "AdapterDeclaration":
                 ports += adapter_ports(it, part.tag == "Plugs", library)
             elif it.tag == "VarDeclaration":
-                ports.append(variable(it, is_output, library))
+                ports.append(variable(it, is_output, library, block.kind in LEAVING))
             else:
                 if it.get("Type") not in ("", "Event", "EInit"):
                     library.faults.refuse(it.at("Type"), f"{shown(it.get('Type'))} is no type of an event here: write Event")
                 withs = [(one.get("Var"), one.at("Var")) for one in it.children]
                 ports.append(Port(it.get("Name"), "event", is_output, it.at("Name"), withs=withs))
-    if block.kind == "service":
-        ports += [replace(it, name=f"GIVE_{it.name}", is_output=False, withs=[(f"GIVE_{one}", at) for one, at in it.withs])
-                  for it in ports if it.is_output and it.kind != "adapter"]
+    library.notes += [f"{it.place}: {it.name} of {block.name} is left out: {it.lacking} is no type of the profile"
+                      for it in ports if it.lacking]
+    if block.kind == "service" and block.node:
+        ports += give_ports(ports, block.node)
     ports.sort(key=lambda it: "." in it.name)
     names = Names("port", [(it.name, it.place) for it in ports], library.faults)
     for one in ports:
@@ -195,22 +205,23 @@ def read_interface(block: Block, library: Library) -> None:
             if other is None or other.kind != "data" or other.is_output != port.is_output:
                 side = "output" if port.is_output else "input"
                 library.faults.refuse(place, f"type {block.name} has no data {side} {shown(name)}")
-            else:
+            elif not other.lacking:
                 port.withs.append((other.name, place))
 
 
-def variable(node: Node, is_output: bool, library: Library) -> Port:
-    """Read the declaration of a variable."""
-    kind, name = node.get("Type").upper(), shown(node.get("Name"))
+def variable(node: Node, is_output: bool, library: Library, is_left: bool = False) -> Port:
+    """Read the declaration of a variable. One of a type that the profile lacks is refused, or it is a port that may be left out."""
+    kind, name, lacking, reason = node.get("Type").upper(), shown(node.get("Name")), "", ""
     if node.get("ArraySize"):
-        library.faults.refuse(node.at("ArraySize"), f"{name} is an array, and the profile has none: use a variable for each element")
+        lacking, reason = f"an array of {kind}", f"{name} is an array, and the profile has none: use a variable for each element"
     elif kind not in TYPES:
-        other = library.files.other(kind.rpartition("::")[2])
+        other, lacking = library.files.other(kind.rpartition("::")[2]), shown(node.get("Type")) or "nothing"
         advice = TABLES["advice"]["types"].get(kind.partition("[")[0], "of a structure, use a variable for each element")
-        library.faults.refuse(node.at("Type"), f"{shown(node.get('Type')) or 'nothing'} is {other or f'no type of the profile: {advice}'}")
-        kind = ""
+        reason = f"{lacking} is {other or f'no type of the profile: {advice}'}"
+    if lacking and not is_left:
+        library.faults.refuse(node.at("ArraySize" if node.get("ArraySize") else "Type"), reason)
     initial = node.code("InitialValue") if node.get("InitialValue") else None
-    return Port(node.get("Name"), "data", is_output, node.at("Name"), kind, initial)
+    return Port(node.get("Name"), "data", is_output, node.at("Name"), "" if lacking else kind, initial, lacking=lacking)
 
 
 def adapter_ports(node: Node, is_plug: bool, library: Library) -> list[Port]:

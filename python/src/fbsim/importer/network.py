@@ -104,6 +104,8 @@ class Network:
                 port = block.ports.find(name)
                 if port is None or port.kind != "data" or port.is_output:
                     self.faults.refuse(place, f"type {block.name} has no data input {shown(name)}")
+                elif port.lacking:
+                    self.notes.append(f"{place}: the parameter {name} is left out: {port.lacking} is no type of the profile")
                 elif code.text.strip():
                     self.keep_value(self.parameters, (path, port.name), code, port.type)
 
@@ -120,7 +122,9 @@ class Network:
         if begin is None or end is None:
             return
         (source, plug), (target, socket), rows = begin, end, []
-        if plug.adapter is None:
+        if plug.lacking or socket.lacking:
+            self.leave_out(node, plug, socket)
+        elif plug.adapter is None:
             rows.append((source, target, kind))
         elif plug.adapter is not socket.adapter:
             self.faults.refuse(node.at("Source"), f"a plug of type {plug.type} does not fit a socket of type {socket.type}")
@@ -131,6 +135,16 @@ class Network:
             # (a network of a resource has a path that begins with a full stop, and may repeat the application)
             wire = Wire(source, target, node.at("Source"), part == "event", path.startswith("."))
             self.outgoing.setdefault(source, []).append(wire)
+
+    def leave_out(self, node: Node, source: Port, target: Port) -> None:
+        """Leave out a connection between two ports whose types the profile lacks, or refuse one that has only one such end."""
+        lacking, place = source.lacking or target.lacking, node.at("Source")
+        rows = zip(("Source", "Destination"), (source, target))
+        ends = " and ".join(f"{shown(node.get(end))} ({it.lacking or it.type or 'any type'})" for end, it in rows)
+        if source.lacking and target.lacking:
+            self.notes.append(f"{place}: the connection of {ends} is left out: {lacking} is no type of the profile")
+        else:
+            self.faults.refuse(place, f"{ends}: {lacking} is no type of the profile, so such a port can be connected only to another one")
 
     def find(self, node: Node, end: str, kind: str, inside: str) -> tuple[Key, Port] | None:
         """Return the port at an end of a connection, of the owner or of an instance, or refuse its name."""

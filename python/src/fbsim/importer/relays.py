@@ -40,7 +40,7 @@ def communication(name: str, place: Place) -> Block | None:
     events = (["INIT", sends], "event", False), (["INITO", confirms], "event", True)
     for names, part, is_output in (*events, (["QI", "ID", *data], "data", False), (["QO", "STATUS", *outputs], "data", True)):
         for it in names:
-            block.add_port(it, part, is_output)
+            block.add_port(it, part, is_output).lacking = "STRING" if it == "STATUS" else ""
     return block
 
 
@@ -130,11 +130,9 @@ class Relays:
             self.notes.append(f"{one.title} ({one.block.name}, ID {name}) exchanges messages with {others}")
 
     def without_status(self, wire: Wire) -> Iterator[Wire]:
-        """Return a connection if it is none of QI, ID, QO and STATUS. What QO leads to gets TRUE as its parameter."""
+        """Return a connection if it is none of QI, ID and QO. What QO leads to gets TRUE as its parameter."""
         source, target = (self.services.get(it[0]) for it in (wire.source, wire.target))
-        if source and wire.source[1] == "STATUS":
-            self.faults.refuse(wire.place, f"STATUS of {source.block.name} is not simulated: it is a STRING")
-        elif source and wire.source[1] == "QO":
+        if source and wire.source[1] == "QO":
             if not (target and wire.target[1] == "QI"):
                 self.network.constants[wire.target] = wire.place
                 self.notes.append(f"{wire.place}: QO of {source.title} is TRUE, since links don't fail")

@@ -170,7 +170,7 @@ class Types:
         elif block.kind == "composite":
             self.texts.append(TEXTS.block(block, None, self.network(block), self.constant))
         else:
-            chart = None if block.kind == "service" else block.made or Chart(block, self.library)
+            chart = block.made or Chart(block, self.library)
             self.texts.append(TEXTS.block(block, chart, None, self.constant))
         self.depth -= 1
 
