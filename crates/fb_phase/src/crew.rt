@@ -3,7 +3,8 @@
 //! Shifts wait under a lock, and a thread that finds none sleeps at its condition. What was served comes back through the
 //! channel of its phase.
 
-ghost use Rattle.std.specs.Prelude.{◌≤◌, vec_len};
+ghost use Rattle.std.specs.Prelude.{◌≡◌, ◌≢◌, ◌≤◌, ◌↔◌, ◌++◌, [], IsTrue, IsFalse, vec_len};
+ghost use Rattle.fb_phase.specs.declared.crew.Turn.TheVariants.{Leave, Sleep};
 
 use crate::gate::Gate;
 use crate::shift::Shift;
@@ -25,11 +26,48 @@ struct Desk<W: Work> {
     is_dismissed: bool,
 }
 
+/// What a thread of a crew does next.
+#[derive(Clone, Copy)]
+enum Turn {
+    /// It leaves.
+    Leave,
+    /// It sleeps.
+    Sleep,
+    /// It takes a shift.
+    Serve,
+}
+
+/// Decides what a thread does next, by whether the crew is dismissed, and how many shifts wait. It leaves once the crew is
+/// dismissed, and then alone.
+fn turn_of(is_dismissed: bool, waiting: usize) -> Turn
+    ensures leave { (result ≡ Leave) ↔ IsTrue is_dismissed }
+    ensures sleep { (result ≡ Sleep) ↔ IsFalse is_dismissed × (waiting ≡ 0) }
+{
+    if is_dismissed {
+        Turn::Leave
+    } else if waiting == 0 {
+        Turn::Sleep
+    } else {
+        Turn::Serve
+    }
+}
+
 impl<W: Work> Desk<W> {
-    /// Puts the shifts of a phase among those that wait. It gives back those that it does not put there: while shifts of
-    /// another phase wait, and if there is no memory for them.
+    /// What a thread does next.
+    fn next_turn(&self) -> Turn
+        ensures leave { (result ≡ Leave) ↔ IsTrue self.now.is_dismissed }
+        ensures sleep { (result ≡ Sleep) ↔ IsFalse self.now.is_dismissed × (vec_len self.now.waiting ≡ 0) }
+    {
+        turn_of(self.is_dismissed, self.waiting.len())
+    }
+
+    /// Puts the shifts of a phase among those that wait. It gives back those that it does not put there: all of them while
+    /// shifts of another phase wait, and if there is no memory for them.
     fn put(&mut self, phase: u64, mut shifts: Vec<Shift<W>>) -> Vec<Shift<W>>
-        ensures { vec_len result ≤ vec_len shifts }
+        ensures fewer { vec_len result ≤ vec_len shifts }
+        ensures dismissed { self.new.is_dismissed ≡ self.old.is_dismissed }
+        ensures none { self.old.waiting.items ≡ [] → (self.new.phase ≡ phase) × (self.new.waiting.items ≡ shifts.items) × (result.items ≡ []) }
+        ensures others { self.old.waiting.items ≢ [] → self.old.phase ≢ phase → (self.new.phase ≡ self.old.phase) × (self.new.waiting.items ≡ self.old.waiting.items) × (result.items ≡ shifts.items) }
     {
         if self.waiting.is_empty() {
             self.phase = phase;
@@ -39,6 +77,18 @@ impl<W: Work> Desk<W> {
             let _ = self.waiting.append(&mut shifts);
         }
         shifts
+    }
+
+    /// Takes all shifts of this phase that wait.
+    fn take_all(&mut self, alloc: Global, phase: u64) -> Vec<Shift<W>>
+        ensures dismissed { self.new.is_dismissed ≡ self.old.is_dismissed }
+        ensures own { self.old.phase ≡ phase → (result.items ≡ self.old.waiting.items) × (self.new.waiting.items ≡ []) }
+        ensures others { self.old.phase ≢ phase → (result.items ≡ []) × (self.new.waiting.items ≡ self.old.waiting.items) }
+    {
+        if self.phase != phase {
+            return Vec::new(alloc);
+        }
+        mem::replace(&mut self.waiting, Vec::new(alloc))
     }
 }
 
@@ -99,13 +149,17 @@ impl<W: Work> Crew<W> {
 
     /// Sleeps until a shift waits, and takes it. There is none once the crew is dismissed.
     fn next<R: Wait>(&self, rt: &R) -> Option<Shift<W>> {
-        let mut desk = self.called.wait_while(rt, self.desk.lock(rt), |desk| {
-            !desk.is_dismissed && desk.waiting.is_empty()
-        });
-        if desk.is_dismissed {
-            return None;
+        for _ in rt.forever() {
+            let mut desk = self.called.wait_while(rt, self.desk.lock(rt), |desk| {
+                matches!(desk.next_turn(), Turn::Sleep)
+            });
+            match desk.next_turn() {
+                Turn::Leave => return None,
+                Turn::Sleep => {}
+                Turn::Serve => return desk.waiting.pop(),
+            }
         }
-        desk.waiting.pop()
+        unreachable!()
     }
 
     /// The number of the next phase, from 1.
@@ -131,11 +185,7 @@ impl<W: Work> Crew<W> {
 
     /// Takes back the shifts of a phase that nobody has taken.
     pub(crate) fn take_back<R: Wait>(&self, rt: &R, alloc: Global, phase: u64) -> Vec<Shift<W>> {
-        let mut desk = self.desk.lock(rt);
-        if desk.phase != phase {
-            return Vec::new(alloc);
-        }
-        mem::replace(&mut desk.waiting, Vec::new(alloc))
+        self.desk.lock(rt).take_all(alloc, phase)
     }
 
     /// Lets each thread end once it has done what it took.

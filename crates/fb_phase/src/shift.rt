@@ -1,5 +1,5 @@
 //! The share of a phase that a thread takes: a shift while it is to be served, and its return when it was.
-ghost use Rattle.std.specs.Prelude.{◌≡◌, ◌≤◌, ◌+◌, [], All, IfOk, vec_len, vec_capacity};
+ghost use Rattle.std.specs.Prelude.{◌≡◌, ◌≤◌, ◌+◌, [], All, IfOk, min, vec_len, vec_capacity};
 ghost use Rattle.std.specs.Arc.{arc_value};
 ghost use Rattle.fb_board.specs.Models.{IsIdleSeatOf, IsDrySeatOf};
 
@@ -124,6 +124,7 @@ pub(crate) fn gather<R: Wait, W: Work>(
     requires none { home.items ≡ [] }
     requires room { handed ≤ vec_capacity home }
     ensures none_out { handed ≤ vec_len result + vec_len left.now }
+    ensures out { vec_len result + min handed (vec_len left.now) ≡ handed }
 {
     let out = handed.saturating_sub(left.len());
     for _ in 0..out {

@@ -10,7 +10,7 @@ use crate::options::Options;
 use crate::outcome::RunError;
 use crate::progress::Round;
 use crate::rounds::all_rounds::{Finish, run_on, with_written, write_unwritten};
-use crate::rounds::pace::{Pace, RoundTrial};
+use crate::rounds::pace::{FIRST_TEXT, Pace, RoundTrial};
 use crate::rounds::round_with_counts;
 use crate::rounds::tally::{RoundPlan, Written, first_window};
 use crate::rounds::unwritten_lines::{RoundState, UnwrittenLines};
@@ -35,10 +35,8 @@ pub enum FirstRounds {
     Over(Finish),
 }
 
-/// The text of the first rounds mostly has no more bytes. Memory that is reserved and not written costs next to nothing.
-const FIRST_TEXT: usize = 8_388_608;
-
-/// Reserves the memory of the text of the first rounds, if there is any: a text that grows would be copied.
+/// Reserves the memory of the text of the first rounds, if there is any: a text that grows would be copied. Memory that is
+/// reserved and not written costs next to nothing.
 pub(crate) fn reserve_text(text: &mut Vec<u8>)
     ensures { text.new.items ≡ text.old.items }
 {
@@ -128,7 +126,8 @@ pub(crate) fn run_first<R: Threads + Wait + Sync, P: Gate, C: Clock>(
                 workers = tally.workers(options.workers);
                 turns = tally.turns();
                 ticks = tally.ticks(ticks);
-                let is_over = trial.count(clock, tally.final_lines.max(tally.lines as u128));
+                let lines = tally.final_lines.max(tally.lines as u128);
+                let is_over = trial.count(clock, lines, text.len());
                 match round {
                     Round::Going(core) => {
                         if is_over {

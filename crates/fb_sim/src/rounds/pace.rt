@@ -1,7 +1,8 @@
 //! What the machine's clocks say of a run with workers. What is written does not depend on them, so nothing is promised
-//! of what they say.
+//! of what they say. But each trial ends after a number of bytes or lines, whatever they say.
 
-ghost use Rattle.std.specs.Prelude.{◌≤◌};
+ghost use Rattle.std.specs.Prelude.{◌≡◌, ◌≤◌, ◌<◌, ◌+◌, IsTrue, IsFalse};
+ghost use Rattle.fb_sim.specs.declared.rounds.pace.Verdict.TheVariants.{Open};
 
 use std::io;
 use std::thread::{Threads, available_parallelism};
@@ -127,8 +128,11 @@ const LONG: u128 = 2_000_000;
 /// ones.
 const UNTIMED_ROUNDS: u64 = 3;
 
-/// This many rounds are made at least.
+/// This many rounds are made at least, to be judged.
 const ROUNDS: u64 = 5;
+
+/// The text of the first rounds mostly has no more bytes. Once it has as many, it is written.
+pub(crate) const FIRST_TEXT: usize = 8_388_608;
 
 /// The first rounds of a run.
 #[derive(Clone, Copy)]
@@ -157,9 +161,19 @@ impl RoundTrial {
         self.watch = Stopwatch::start(clock);
     }
 
-    /// Counts the round that has ended, which gave this many lines. It answers whether the rounds have taken long enough
-    /// to be judged, or can't be judged.
-    pub(crate) fn count<C: Clock>(&mut self, clock: &C, lines: u128) -> bool {
+    /// Counts the round that has ended, which gave this many lines. The text of all rounds has so many bytes then. It
+    /// answers whether the trial is over: the rounds have taken long enough to be judged, or can't be judged, or the text
+    /// is long.
+    pub(crate) fn count<C: Clock>(&mut self, clock: &C, lines: u128, bytes: usize) -> bool
+        ensures long { FIRST_TEXT ≤ bytes → IsTrue result }
+    {
+        let is_judged = self.measure(clock, lines);
+        bytes >= FIRST_TEXT || is_judged
+    }
+
+    /// Counts the round that has ended, and answers whether the rounds have taken long enough to be judged, or can't be
+    /// judged.
+    fn measure<C: Clock>(&mut self, clock: &C, lines: u128) -> bool {
         let Some(nanoseconds) = self.watch.passed(clock) else {
             self.watch = Stopwatch { began: None };
             return true;
@@ -176,10 +190,13 @@ impl RoundTrial {
         self.rounds >= ROUNDS && self.all.nanoseconds >= LONG
     }
 
-    /// What the timed rounds have taken, if the clock can be read. The slowest is left out, since other programs may
-    /// have disturbed it.
+    /// What the timed rounds have taken, if the clock can be read and they are enough. The slowest is left out, since
+    /// other programs may have disturbed it.
     pub(crate) fn pace(&self) -> Option<Pace> {
         self.watch.began?;
+        if self.rounds < ROUNDS {
+            return None;
+        }
         Some(self.all.without(self.slowest))
     }
 }
@@ -218,12 +235,20 @@ impl AgendaTrial {
         }
     }
 
-    /// Counts some lines, and judges them. It is slower if the clock can't be read.
-    pub(crate) fn count<C: CpuClock>(&mut self, clock: &C, lines: usize) -> Verdict {
+    /// Counts some lines, and judges them. It is slower if the clock can't be read. It stays open for less than
+    /// [`UNTIMED_LINES`] that are not timed, and then for fewer than the rounds gave.
+    pub(crate) fn count<C: CpuClock>(&mut self, clock: &C, lines: usize) -> Verdict
+        ensures rounds { self.new.rounds ≡ self.old.rounds }
+        ensures untimed { result ≡ Open → IsFalse self.new.is_timed → IsFalse self.old.is_timed × (self.new.lines ≡ self.old.lines + lines) × (self.new.lines < UNTIMED_LINES) }
+        ensures timed { result ≡ Open → IsTrue self.old.is_timed → IsTrue self.new.is_timed × (self.new.lines ≡ self.old.lines + lines) × (self.new.lines < self.old.rounds.lines) }
+    {
         let Some(nanoseconds) = self.watch.worked(clock) else {
             return Verdict::Slower;
         };
-        self.lines = self.lines.saturating_add(lines as u128);
+        let Some(counted) = self.lines.checked_add(lines as u128) else {
+            return Verdict::Slower;
+        };
+        self.lines = counted;
         if self.is_timed {
             return self.judge(nanoseconds);
         }
@@ -249,7 +274,9 @@ impl AgendaTrial {
 
     /// What one agenda is that took these nanoseconds. Rounds get quicker as they go on, so one agenda has to be
     /// quicker by a fifth. The trial ends early where one of the two takes half as long again as the other.
-    fn judge(&self, nanoseconds: u128) -> Verdict {
+    fn judge(&self, nanoseconds: u128) -> Verdict
+        ensures { result ≡ Open → self.now.lines < self.now.rounds.lines }
+    {
         let agenda = self.pace(nanoseconds);
         let is_whole = nanoseconds >= self.rounds.nanoseconds || self.lines >= self.rounds.lines;
         let is_part = nanoseconds >= self.rounds.nanoseconds / 8;
