@@ -4,7 +4,7 @@
 In each copy one thing is wrong: a reference is missing or cut off, a scenario is half deleted, a file can't be read, a run or a command
 of the program fails, and so on. The status must be the one in the table, the name of the file must be reported, and the report must have
 no plan or a point `not ok`. The make file of docs/BENCH.md must fail on each too, from scratch and after it has passed. Copies with
-nothing wrong must be green, with the same points each time. `suite bless` must list what it adds, changes and drops, and keep the
+nothing wrong must be green, with the same points each time. So it is with single scenarios and a report on them. `suite bless` must list what it adds, changes and drops, and keep the
 reference of a run that fails. shellcheck must find nothing in the suite.
 
 ./gate runs this each time it has run the program. Without ./gate it uses the program that ./simulate built."""
@@ -86,13 +86,12 @@ class Bench:
 
 
 class Break(NamedTuple):
-    """A way to break a bench: what is reported of it, and the status of the suite. `by_time` says that make sees it by the time of a file."""
+    """A way to break a bench: what is reported of it, and the status of the suite."""
 
     what: str
     change: Callable
     named: str
     status: int = 1
-    by_time: bool = True
 
 
 def delete_all(bench):
@@ -114,13 +113,32 @@ def link_to_nothing(bench):
     os.symlink("/nowhere", f"{bench.folder}/shift/trace")
 
 
+def copy_of_declaration(bench):
+    bench.write("shift/bottling.iec", content(f"{EXAMPLE}/bottling.iec"))
+    bench.edit("shift/args", "../bottling.iec", "bottling.iec")
+
+
+def other_application(bench):
+    bench.write("shift/other.iec", content(f"{TOP}/examples/crossing/crossing.iec"))
+    bench.write("shift/args", "run\nother.iec\n--horizon\n48000\n")
+
+
+def link_to_result(bench):
+    bench.remove("shift/trace")
+    os.symlink("../out/shift.trace", f"{bench.folder}/shift/trace")
+
+
+def program_that_does_nothing(bench):
+    bench.program = "/bin/true"
+
+
 BREAKS = [
     Break("a reference is missing", lambda it: it.remove("shift/trace"), "shift/trace: there is no such reference"),
     Break("a reference is empty", lambda it: it.write("shift/trace", ""), "shift/trace"),
     Break("a reference is cut off", lambda it: it.cut("shift/trace", 0.5), "shift/trace"),
     Break("a reference has no last line", lambda it: it.edit("shift/trace", "end 48000\n", ""), "shift/trace"),
     Break("a reference differs in one digit", lambda it: it.edit("rejects/trace", "LEVEL=450", "LEVEL=451"), "rejects/trace"),
-    Break("a reference can't be read", lambda it: it.lock("shift/trace"), "shift/trace", by_time=False),
+    Break("a reference can't be read", lambda it: it.lock("shift/trace"), "shift/trace"),
     Break("a reference is a folder", folder_as_trace, "shift/trace: there is no such reference"),
     Break("a reference is a link to nothing", link_to_nothing, "shift/trace: there is no such reference"),
     Break("a new scenario was never blessed", lambda it: it.copy("rejects", "night", "trace"), "night/trace: there is no such reference"),
@@ -128,8 +146,15 @@ BREAKS = [
     Break("a scenario has no args", lambda it: it.copy("rejects", "night", "args", "trace"), "night/args"),
     Break("the folder of a scenario is empty", lambda it: os.mkdir(f"{it.folder}/night"), "night/args"),
     Break("there is no scenario", delete_all, "there is no scenario", 3),
-    Break("args can't be read", lambda it: it.lock("shift/args"), "shift/args", by_time=False),
-    Break("args are empty", lambda it: it.write("shift/args", ""), "shift: the status of its run is 5, expected 0"),
+    Break("args can't be read", lambda it: it.lock("shift/args"), "shift/args"),
+    Break("args are empty", lambda it: it.write("shift/args", ""), "shift/args: no word names the declaration"),
+    Break("args name a copy of the declaration", copy_of_declaration, "shift/args: no word names the declaration"),
+    Break("args run another application", other_application, "shift/args: no word names the declaration"),
+    Break("args have no deployment", lambda it: it.edit("shift/args", "--deploy\n../deploy.toml\n", ""), "shift/args: there is no --deploy"),
+    Break("a reference is a link to the trace of the run", link_to_result, "shift/trace: this is a link to the trace of the run"),
+    Break("a scenario has the name of the folder for results", lambda it: it.copy("shift", "out"), "out: this folder is for results", 3),
+    Break("the program does nothing", program_that_does_nothing, "there are 0 points for 3 traces and 12 rules"),
+    Break("a report lacks a point", lambda it: it.wrap("expect", '"$program" "$@" | sed "/^ok 7 /d"; exit 0'), "there are 35 points for 3 traces and 12 rules"),
     Break("args are cut off", lambda it: it.edit("shift/args", "--horizon\n48000\n", "--horizon\n"), "shift: the status of its run is 5, expected 0"),
     Break("args name no file", lambda it: it.edit("shift/args", "stimuli.csv", "nothing.csv"), "shift: the status of its run is 3, expected 0"),
     Break("stimuli are missing", lambda it: it.remove("shift/stimuli.csv"), "shift: the status of its run is 3, expected 0"),
@@ -183,7 +208,7 @@ def fault_of(room, passed, at):
     fresh, later = Bench(room, f"make{at}"), Bench(room, f"again{at}", passed.folder)
     it.change(fresh)
     it.change(later)
-    for how, tried in [("from scratch", fresh), *[("again", later)] * it.by_time]:
+    for how, tried in [("from scratch", fresh), ("again", later)]:
         status, out, err = tried.call("make", "-s")
         if status == 0:
             return f"{it.what}: make {how} passes: {out}{err}"
@@ -205,6 +230,8 @@ def faults_of_green(room):
     bench.write("out/old.trace", "end 5\n")
     if bench.call("./suite") != first or bench.call("./suite", out="../elsewhere") != first or bench.call("./suite", out=f"{room.folder}/there") != first:
         yield "the report of a second run, or with OUT, is another one"
+    if not first[1].endswith(f"\n# 3 scenarios, {len(rules)} rules\n1..{len(expected)}\n"):
+        yield f"the number of scenarios: {first[1][-99:]}"
     # Without FBSIM the program is ./simulate of the repository, and before that the one on the PATH.
     os.mkdir(f"{room.folder}/bin")
     for link in ("simulate", "bin/fbsim"):
@@ -213,6 +240,68 @@ def faults_of_green(room):
         if (ran.returncode, ran.stdout.decode(), ran.stderr.decode()) != first:
             yield f"without FBSIM, with {link}: {ran}"
         os.remove(f"{room.folder}/{link}")
+
+
+def results(bench):
+    """Returns what is in the folder for results, by the ends of names."""
+    return sorted(os.listdir(f"{bench.folder}/out"))
+
+
+def faults_of_one(room):
+    """Yields what is wrong with single scenarios, in a copy without results and in one where older ones are left, and with reports on them."""
+    expected = Bench(room, "all").call("./suite")
+    bench = Bench(room, "one")
+    if (said := bench.call("./suite", "--one", "shift")) != (0, "", "") or results(bench) != ["shift.passed", "shift.trace", "shift.wrong"]:
+        yield f"a scenario alone: {said}, {results(bench)}"
+    status, out, err = bench.call("./suite", "--report")
+    if status != 1 or "not ok 1 - emergency\n# it was not run\n" not in out or "ok 3 - shift\n" not in out:
+        yield f"a report on one of three scenarios: {status}, {out}{err}"
+    for name in SCENARIOS[:2]:
+        bench.call("./suite", "--one", name)
+    # (the trace of a scenario that is no longer there is not judged)
+    bench.write("out/night.trace", "end 5\n")
+    if (said := bench.call("./suite", "--report")) != expected:
+        yield f"a report on all scenarios: {said}"
+    bench.edit("rejects/trace", "LEVEL=450", "LEVEL=451")
+    status, out, err = bench.call("./suite", "--report")
+    if status != 1 or "not ok 2 - rejects\n" not in out:
+        yield f"a report after a reference has changed: {status}, {out}{err}"
+    bench.edit("shift/stimuli.csv", "LINE.START", "LINE.STRAT")
+    status, out, err = bench.call("./suite", "--one", "shift")
+    if status != 1 or "expected 0" not in err or {"shift.passed", "shift.trace"} & set(results(bench)):
+        yield f"a scenario alone that fails: {status}, {out}{err}, {results(bench)}"
+    if (said := bench.call("./suite", "--report"))[0] != 1:
+        yield f"a report on a scenario that failed: {said}"
+
+
+def faults_of_places(room):
+    """Yields what is wrong where a scenario is hidden, or results are to go into the folder of one."""
+    bench = Bench(room, "hidden")
+    os.rename(f"{bench.folder}/shift", f"{bench.folder}/.shift")
+    os.mkdir(f"{bench.folder}/.cache")
+    status, out, err = bench.call("./suite")
+    if status or not out.endswith("\n# skipped: .shift, since its name begins with a dot\n# 2 scenarios, 12 rules\n1..27\n") or ".cache" in out:
+        yield f"a hidden scenario: {status}, {out}{err}"
+    bench = Bench(room, "into")
+    status, out, err = bench.call("./suite", out="shift")
+    if status != 3 or "shift: this folder is for results" not in err or content(f"{bench.folder}/shift/trace") != content(f"{EXAMPLE}/shift/trace"):
+        yield f"results in the folder of a scenario: {status}, {out}{err}"
+
+
+def faults_of_times(room, passed):
+    """Yields what is wrong with make where a file changes and has an older time, and where only times change."""
+    changes = [("bottling.iec", "E_RESTART", "E_RESTRAT"), ("shift/stimuli.csv", "LINE.START", "LINE.STRAT"), ("bottling.rules", "2000", "1999")]
+    for name, old, new in changes:
+        bench = Bench(room, f"old_{os.path.basename(name)}", passed.folder)
+        if (said := bench.call("make"))[0] or "--one" in said[1]:
+            yield f"make runs a scenario where nothing changed: {said}"
+        os.utime(f"{bench.folder}/{name}")
+        if (said := bench.call("make"))[0] or "--one" in said[1]:
+            yield f"make runs a scenario where the time of {name} changed: {said}"
+        bench.edit(name, old, new)
+        os.utime(f"{bench.folder}/{name}", (1577836800, 1577836800))
+        if (said := bench.call("make"))[0] == 0:
+            yield f"make does not see that {name} changed: {said}"
 
 
 def faults_of_stops(room):
@@ -230,7 +319,7 @@ def faults_of_stops(room):
     if "stop 0 PACKING steps" not in (text := content(f"{bench.folder}/five steps/trace")) and not re.search(r"^stop \d+ \w+ steps$", text, re.M):
         yield f"the trace of a run that stops: {text}"
     status, out, err = bench.call("./suite")
-    if status not in (0, 1) or "five steps" not in points_of(out) or "not ok 1 " in out:
+    if status not in (0, 1) or "five steps" not in points_of(out) or "not ok 1 " in out or "\n# the run ends with: stop " not in out:
         yield f"a run that is expected to stop: {status}, {out}{err}"
 
 
@@ -272,7 +361,8 @@ def try_all(program):
         said = passed.call("make", "-s", "-j")
         faults = faults_of_shell() + [f"make does not pass: {said}"] * (said[0] != 0)
         faults += [it for it in side_by_side(lambda at: fault_of(room, passed, at), range(len(BREAKS))) if it]
-        for call in (faults_of_green, faults_of_stops, faults_of_bless):
+        faults += faults_of_times(room, passed)
+        for call in (faults_of_green, faults_of_one, faults_of_places, faults_of_stops, faults_of_bless):
             faults += call(room)
     for it in faults:
         print(f"examples/bottling/suite: {it}", file=sys.stderr)
