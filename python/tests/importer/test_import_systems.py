@@ -128,6 +128,23 @@ def test_a_subapplication_in_itself_and_a_circle_are_refused(tmp_path):
     assert done.status == 2 and "lead in a circle" in done.lines[0], done.lines
 
 
+# Three subapplications without a type and with the name that Eclipse 4diac gives them, inside each other.
+def test_untyped_subapplications_of_one_name_nest(tmp_path):
+    interface = (
+        '<SubAppInterfaceList><SubAppEventInputs><SubAppEvent Name="GO"/></SubAppEventInputs>'
+        '<SubAppEventOutputs><SubAppEvent Name="DONE"/></SubAppEventOutputs></SubAppInterfaceList>'
+    )
+    text, through = '<FB Name="M" Type="E_MERGE"/>' + connections("Event", "GO M.EI1", "M.EO DONE"), ""
+    for _ in range(3):
+        text = f'<SubApp Name="SubApp">{interface}<SubAppNetwork>{text}{through}</SubAppNetwork></SubApp>'
+        through = connections("Event", "GO SubApp.GO", "SubApp.DONE DONE")
+    text += '<FB Name="L" Type="E_MERGE"/>' + connections("Event", "L.EO SubApp.GO")
+    done = import_all(tmp_path, {"A.sys": system(text)})
+    assert done.status == 0, done.lines
+    lines = done.run(1, "tick,event,values\n0,L.EI1,\n").splitlines()
+    assert lines[2:4] == ["0 MAIN > SUBAPP__SUBAPP__SUBAPP__M.EI1", "0 MAIN < SUBAPP__SUBAPP__SUBAPP__M.EO"]
+
+
 # ---- Mapping and links
 
 
@@ -187,6 +204,45 @@ def test_a_crossing_without_an_event_that_carries_it_is_reported_and_not_repaire
         "no output event of A WITH Q goes to resource R2"
     ]
     assert not done.out.exists()
+
+
+# The connection that crosses is in the application; those at its ends are inside the subapplications.
+def test_a_crossing_of_subapplications_is_reported_where_it_crosses(tmp_path):
+    sender = """<SubAppType Name="Sender"><SubAppInterfaceList>
+      <OutputVars><VarDeclaration Name="ON" Type="BOOL"/></OutputVars></SubAppInterfaceList>
+      <SubAppNetwork><FB Name="F" Type="E_SR"/>{}</SubAppNetwork></SubAppType>""".format(connections("Data", "F.Q ON"))
+    receiver = """<SubAppType Name="Receiver"><SubAppInterfaceList>
+      <InputVars><VarDeclaration Name="ON" Type="BOOL"/></InputVars></SubAppInterfaceList>
+      <SubAppNetwork><FB Name="G" Type="E_D_FF"/>{}</SubAppNetwork></SubAppType>""".format(connections("Data", "ON G.D"))
+    text = system(
+        '<SubApp Name="S" Type="Sender"/><SubApp Name="R" Type="Receiver"/>' + connections("Data", "S.ON R.ON"),
+        resource("D1", "R1") + resource("D2", "R2"),
+        mappings("App", S="D1.R1", R="D2.R2"),
+    )
+    done = import_all(tmp_path, {"lib/Sender.sub": sender, "lib/Receiver.sub": receiver, "A.sys": text})
+    assert done.lines == [
+        f"A.sys:{place_of(text, 'S.ON')}: E28: application APP: data connection S__F.Q TO R__G.D: "
+        "no output event of S__F WITH Q goes to resource R2"
+    ]
+
+
+# A.EO to B.S stays in R1; the others lead to R2. What a PUBLISH carries is no such connection.
+def test_a_connection_between_resources_that_nothing_carries_is_a_warning(tmp_path):
+    blocks = THREE + connections("Event", "A.EO B.S", "A.EO C.CLK") + connections("Data", "A.Q C.D")
+    block = '<FB Name="{}" Type="{}"><Parameter Name="ID" Value="&quot;1&quot;"/></FB>'
+    sender = block.format("P", "PUBLISH_0") + connections("Event", "B.EO P.REQ", "A.EO P.INIT")
+    receiver = block.format("S", "SUBSCRIBE_0") + connections("Event", "S.IND C.CLK")
+    resources = resource("D1", "R1", sender) + resource("D2", "R2", receiver)
+    text = system(blocks, resources, mappings("App", A="D1.R1", B="D1.R1", C="D2.R2"))
+    done = import_all(tmp_path, {"A.sys": text}, "--latency", "2")
+    assert done.status == 0
+    says = "this connection leads from resource R1 to R2 without a communication block: a controller has none there"
+    assert done.lines == [
+        f"A.sys:{place_of(text, 'A.EO', 2)}: I02: {says}",
+        f"A.sys:{place_of(text, 'A.Q')}: I02: {says}",
+        "accepted",
+    ]
+    assert import_all(tmp_path / "strict", {"A.sys": text}, "--strict").status == 1
 
 
 @pytest.mark.parametrize(

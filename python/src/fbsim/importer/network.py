@@ -13,6 +13,7 @@ from .blocks import Block, Library, Port, full_type, read_interface
 from .common import MARK, Faults, Folded, Names, Place, T, shown
 from .document import Code, Node, Source
 from .files import package_of
+from .inference import infer, literal_type
 from .relays import Relays, communication
 from .structured_text import constant
 from .wires import Key, Wire
@@ -81,12 +82,12 @@ class Network:
             self.instances[path] = Instance(path, block, place)
             if len(self.instances) > MOST_INSTANCES:
                 raise self.faults.refuse(place, f"there are more than {MOST_INSTANCES:,} instances")
-        elif block and (block.name in types or len(types) > 15):
+        elif block and (node.get("Type") and block.name in types or len(types) > 15):
             self.faults.refuse(place, f"subapplication {block.name} contains itself, or they nest more than 16 deep")
         elif block and block.node:
             self.hubs.update({(path, it): [(path, it)] for it in block.ports})
             for inside in block.node.all("FBNetwork", "SubAppNetwork"):
-                self.add(inside, path, types=(*types, block.name))
+                self.add(inside, path, types=(*types, block.name if node.get("Type") else ""))
 
     def set_parameters(self, node: Node, path: str) -> None:
         """Keep the parameters of an instance. A list of values goes to the inputs NAME0, NAME1 and so on."""
@@ -133,7 +134,7 @@ class Network:
             rows.append((one, other, it.kind) if it.is_output else (other, one, it.kind))
         for source, target, part in rows:
             # (a network of a resource has a path that begins with a full stop, and may repeat the application)
-            wire = Wire(source, target, node.at("Source"), part == "event", path.startswith("."))
+            wire = Wire(source, target, node.at("Source"), part == "event", path.startswith("."), level=len(path.split(".")) if path else 0)
             self.outgoing.setdefault(source, []).append(wire)
 
     def leave_out(self, node: Node, source: Port, target: Port) -> None:
@@ -177,28 +178,30 @@ class Network:
         block = self.blocks.get(key[0])
         return block.ports[key[1]].type if block and key[1] in block.ports else ""
 
-    def targets(self, key: Key, depth: int = 0) -> Iterator[Key]:
-        """Return the ports to which a connection leads in the end."""
+    def targets(self, key: Key, outer: Wire | None = None, depth: int = 0) -> Iterator[tuple[Key, Wire | None]]:
+        """Return the ports to which a connection leads in the end, each with the outermost connection on the way.
+
+        That is where the way leads from one subapplication to another, or from one resource to another."""
         if key not in self.hubs:
-            yield key
+            yield key, outer
             return
         for wire in (it for hub in self.hubs[key] for it in self.outgoing.get(hub, ())):
             self.visits += 1
             if depth > 64 or self.visits > 10 * MOST_CONNECTIONS:
                 raise self.faults.refuse(wire.place, "connections of subapplications lead in a circle")
-            yield from self.targets(wire.target, depth + 1)
+            yield from self.targets(wire.target, wire if outer is None or wire.level < outer.level else outer, depth + 1)
 
     def flat(self) -> list[Wire]:
         """Return the connections without subapplications. What a resource repeats of the application is left out."""
         found: dict[tuple[Key, Key], bool] = {}
         wires: list[Wire] = []
         for wire in [it for key, row in self.outgoing.items() if not key[0] or key[0] in self.instances for it in row]:
-            for target in self.targets(wire.target):
+            for target, outer in self.targets(wire.target, wire):
                 if wire.may_repeat and found.setdefault((wire.source, target), wire.may_repeat) is False:
                     self.notes.append(f"{wire.place}: this connection of the application is given again in a resource")
                 else:
                     found[wire.source, target] = wire.may_repeat
-                    wires.append(wire._replace(target=target))
+                    wires.append(wire._replace(target=target, place=outer.place if outer else wire.place))
         return wires
 
     def set_constants(self) -> None:
@@ -218,16 +221,17 @@ class Network:
         """Name the instances, connect them directly and give them their parameters.
 
         Parameters of a subapplication, and its initial values, go to the inputs inside."""
-        wires = self.flat()
-        relays = Relays(self, wires)
-        self.wires = relays.expanded()
+        relays = Relays(self, self.flat())
+        edges = [(it.source, it.target) for it in relays.wires if not it.is_event] + relays.edges()
+        given = {key: literal_type(code.text) for key, code in self.parameters.items()} | dict.fromkeys(self.constants, "BOOL")
+        self.wires = relays.expanded(infer(edges, self.type_of, given))
         set_already = {it.target for row in self.outgoing.values() for it in row}
         for path, block in self.blocks.items():
             for port in block.side("data", False) if block and block.kind == "subapplication" else ():
                 if port.initial and (path, port.name) not in set_already:
                     self.parameters.setdefault((path, port.name), port.initial)
         for key, code in self.parameters.items():
-            for path, name in self.targets(key):
+            for (path, name), _ in self.targets(key):
                 if path in self.instances and name in self.instances[path].block.ports:
                     one = self.instances[path]
                     self.keep_value(one.parameters, name, code, one.block.ports[name].type)
@@ -285,6 +289,7 @@ class System(Network):
             self.add_resource(resource)
         self.resolve()
         self.place_instances(Resource("DEV", "MAIN", self.place, root))
+        self.warn_of_crossings()
 
     def name_resources(self) -> None:
         """Name all resources. Names that are given in several devices get the device in front."""
@@ -343,6 +348,15 @@ class System(Network):
                 rows = ", ".join(it.out for it in rest.instances)
                 self.notes.append(f"mapped nowhere, and so in resource {rest.out} together: {rows}")
             self.resources.append(rest)
+
+    def warn_of_crossings(self) -> None:
+        """Warn of each connection that leads to another resource, and that no communication block carries."""
+        at = {one.path: it.out for it in self.resources for one in it.instances}
+        for wire in self.wires:
+            source, target = at[wire.source[0]], at[wire.target[0]]
+            if source != target and not wire.is_carried:
+                text = f"this connection leads from resource {source} to {target} without a communication block: a controller has none there"
+                self.faults.warn(wire.place, "I02", text)
 
     def crossings(self) -> list[tuple[Resource, Resource]]:
         """Return the pairs of resources between which connections lead, in the order of the resources."""

@@ -13,7 +13,6 @@ from typing import TYPE_CHECKING
 
 from .blocks import Block
 from .common import TABLES, Place, shown
-from .inference import infer, literal_type
 from .made import Maker, expansion
 from .wires import Key, Wire
 
@@ -101,11 +100,12 @@ class Relays:
         self.wires = [it for wire in wires for it in self.without_status(wire)]
         if self.services:
             self.notes.append(UNMODELLED)
-        edges = [(it.source, it.target) for it in self.wires if not it.is_event]
-        edges += [((other.path, it.replace("RD", "SD")), (one.path, it)) for one in self.services.values()
-                  for other in one.partners for it in one.numbered("RD_") if it.replace("RD", "SD") in other.block.ports]
-        given = {key: literal_type(code.text) for key, code in network.parameters.items()} | dict.fromkeys(network.constants, "BOOL")
-        self.types = infer(edges, network.type_of, given)
+        self.types: dict[Key, str] = {}
+
+    def edges(self) -> list[tuple[Key, Key]]:
+        """Return which SD each RD has its values of, to find their types."""
+        return [((other.path, it.replace("RD", "SD")), (one.path, it)) for one in self.services.values()
+                for other in one.partners for it in one.numbered("RD_") if it.replace("RD", "SD") in other.block.ports]
 
     def find_partners(self) -> None:
         """Find who receives what, by the IDs."""
@@ -153,8 +153,9 @@ class Relays:
         used |= pairs
         return True
 
-    def expanded(self) -> list[Wire]:
+    def expanded(self, types: dict[Key, str]) -> list[Wire]:
         """Give each block its relay, if it has one, and return the connections of the network."""
+        self.types = types
         used: set[tuple[Key, Key]] = set()
         for one in self.services.values():
             one.is_passing = bool(one.receives) and not self.is_direct(one, used)

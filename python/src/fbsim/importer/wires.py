@@ -11,7 +11,9 @@ Key = tuple[str, str]
 
 
 class Wire(NamedTuple):
-    """A connection. A network of a resource may repeat those of the application; a communication block carries some."""
+    """A connection. A network of a resource may repeat those of the application; a communication block carries some.
+
+    The level says in how many subapplications it is."""
 
     source: Key
     target: Key
@@ -19,3 +21,4 @@ class Wire(NamedTuple):
     is_event: bool
     may_repeat: bool = False
     is_carried: bool = False
+    level: int = 0
