@@ -109,7 +109,7 @@ REFUSED = [
     ("SUM := 1.5;", "1.5", "1.5 is a REAL"),
     ("SUM := 2E3;", "2E3", "2E3 is a REAL"),
     ("SUM := REAL#2;", "REAL#2", "is no literal of the profile"),
-    ("SUM := BYTE#16#FF;", "BYTE#16#FF", "is no literal of the profile"),
+    ("SUM := WORD#x;", "WORD#x", "is no literal of the profile"),
     ("SUM := INT#x;", "INT#x", "is no literal of the profile"),
     ("SUM := 'a;b';", "'a;b'", "is a text"),
     ("SUM := \"ab\";", '"ab"', "is a text"),
@@ -121,10 +121,8 @@ REFUSED = [
     ("SUM := CONCAT(A, B);", "CONCAT", "CONCAT is no function of the profile"),
     ("SUM := REAL_TO_INT(A);", "REAL_TO_INT", "REAL_TO_INT is no function of the profile"),
     ("SUM := TIME_TO_DINT(T);", "TIME_TO_DINT", "TIME_TO_DINT is no function of the profile"),
-    ("SUM := LIMIT(MN := 1, IN := A, MX := 3);", "MN", "arguments by name"),
     ("SUM := A ** 2;", "**", "** is not in the profile"),
     ("TIMER(IN := QI);", "TIMER", "calls as statements"),
-    ("FOR B := 1 TO 2 DO CONTINUE; END_FOR;", "CONTINUE", "CONTINUE"),
     ("SUM := %IW0;", "%", "% is not in the profile"),
     ("SUM := NOWHERE;", "NOWHERE", "there is no variable NOWHERE"),
     ("SUM := REQ;", "REQ;", "there is no variable REQ"),
@@ -135,7 +133,7 @@ REFUSED = [
     ("{pragma} SUM := 1;", "{", "{ is not in the profile"),
     ("VAR_TEMP X : INT := 1", "", "found the end, expected END_VAR"),
     ("FOR B := 1 DO END_FOR;", "DO", "found DO, expected TO"),
-    ("CASE A OF RED: SUM := 1; END_CASE;", ":", "found :, expected :="),
+    ("CASE A OF RED: SUM := 1; END_CASE;", "RED", "RED is no constant"),
     ("SUM := (A + 1;", ";", "found ;, expected )"),
 ]
 
@@ -181,11 +179,11 @@ def test_all_refusals_come_in_one_go(tmp_path):
         "SUM := 1.5;\nT := DT#2020-01-01-00:00:00;\nSUM := FOO(2.5) + B[1];\nSUM := ;\nSUM := 'x';", "REQ[3.5 > A]"
     )
     text = text.replace('Name="B" Type="INT"', 'Name="B" Type="LREAL"').replace(
-        '<VarDeclaration Name="SUM" Type="INT"/>', '<VarDeclaration Name="SUM" Type="WORD"/>'
+        '<VarDeclaration Name="SUM" Type="INT"/>', '<VarDeclaration Name="SUM" Type="STRING"/>'
     )
     done = import_all(tmp_path, {"Adder.fbt": text})
     assert done.status == 2
-    parts = ["LREAL", "WORD", "1.5", "DT#2020", "FOO", "2.5", "[1]", " ;", "'x'", "3.5"]
+    parts = ["LREAL", "STRING", "1.5", "DT#2020", "FOO", "2.5", "[1]", " ;", "'x'", "3.5"]
     for part in parts:
         line, column = place_of(text, part).split(":")
         place = f"Adder.fbt:{line}:{int(column) + (part == ' ;')}: "
@@ -254,7 +252,7 @@ def test_an_initial_value_that_the_profile_lacks_is_refused(kind, value, tmp_pat
 
 
 @pytest.mark.parametrize(
-    "kind", ["REAL", "LREAL", "STRING", "WSTRING", "BYTE", "WORD", "DWORD", "LWORD", "DATE", "ANY", "COLOR", ""]
+    "kind", ["REAL", "LREAL", "STRING", "WSTRING", "DATE", "ANY", "COLOR", ""]
 )
 def test_a_type_that_the_profile_lacks_is_refused(kind, tmp_path):
     text = basic("").replace('Name="B" Type="INT"', f'Name="B" Type="{kind}"')

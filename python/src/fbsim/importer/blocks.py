@@ -12,6 +12,7 @@ from pathlib import Path
 from .bodies import is_usual
 from .common import IS_NAME, TABLES, TYPES, Faults, Folded, Names, Place, shown
 from .document import Code, Node
+from .expressions import UNSIGNED
 from .files import TypeFile, TypeFiles, is_standard, package_of
 from .made import Made
 from .stubs import Stubs, give_ports, make_stub
@@ -41,6 +42,8 @@ class Port:
     out: str = ""
     adapter: Block | None = None
     lacking: str = ""
+    # The type as it is declared: a string of bits is an unsigned number here.
+    declared: str = ""
 
 
 @dataclass(slots=True, eq=False)
@@ -214,14 +217,15 @@ def variable(node: Node, is_output: bool, library: Library, is_left: bool = Fals
     kind, name, lacking, reason = node.get("Type").upper(), shown(node.get("Name")), "", ""
     if node.get("ArraySize"):
         lacking, reason = f"an array of {kind}", f"{name} is an array, and the profile has none: use a variable for each element"
-    elif kind not in TYPES:
+    elif kind not in (*TYPES, *UNSIGNED):
         other, lacking = library.files.other(kind.rpartition("::")[2]), shown(node.get("Type")) or "nothing"
         advice = TABLES["advice"]["types"].get(kind.partition("[")[0], "of a structure, use a variable for each element")
         reason = f"{lacking} is {other or f'no type of the profile: {advice}'}"
     if lacking and not is_left:
         library.faults.refuse(node.at("ArraySize" if node.get("ArraySize") else "Type"), reason)
     initial = node.code("InitialValue") if node.get("InitialValue") else None
-    return Port(node.get("Name"), "data", is_output, node.at("Name"), "" if lacking else kind, initial, lacking=lacking)
+    kind = "" if lacking else kind
+    return Port(node.get("Name"), "data", is_output, node.at("Name"), UNSIGNED.get(kind, kind), initial, lacking=lacking, declared=kind)
 
 
 def adapter_ports(node: Node, is_plug: bool, library: Library) -> list[Port]:

@@ -70,9 +70,10 @@ class Literal(Expression):
 
 @dataclass(slots=True)
 class Variable(Expression):
-    """A variable by its name in the profile."""
+    """A variable by its name in the profile, with its value if it is a constant."""
 
     name: str
+    value: int | None = None
 
 
 @dataclass(slots=True)
@@ -120,6 +121,18 @@ class Call(Expression):
         return self.arguments
 
 
+@dataclass(slots=True)
+class Part(Expression):
+    """Some bits of a variable, such as .%X3 or .%B1: where they begin, and how many they are."""
+
+    base: Variable
+    begin: int
+    count: int
+
+    def parts(self) -> list[Expression]:
+        return [self.base]
+
+
 def number(value: int, start: int) -> Literal:
     """Return a whole number as a literal."""
     return Literal(start, NUMBER, str(value), value)
@@ -138,12 +151,12 @@ def bare(expression: Expression) -> Expression:
 
 
 def value_of(expression: Expression) -> int | None:
-    """Return the value of a whole number with or without a sign."""
+    """Return the value of a whole number with or without a sign, or of a constant."""
     it = bare(expression)
     if isinstance(it, Unary) and it.operator == "-":
         value = value_of(it.operand)
         return None if value is None else -value
-    return it.value if isinstance(it, Literal) else None
+    return it.value if isinstance(it, (Literal, Variable)) else None
 
 
 def strength(expression: Expression) -> int:

@@ -5,10 +5,11 @@ from __future__ import annotations
 from collections.abc import Sequence
 
 from .conversions import conversion_of, converted
-from .expressions import BITS, NUMBER, RANGES, Binary, Call, Expression, Group, Literal, Range, Unary, Variable, bare, value_of
+from .expressions import BITS, NUMBER, RANGES, Binary, Call, Expression, Group, Literal, Part, Range, Unary, Variable, bare, value_of
 
 TRUTHS = {"0": "FALSE", "FALSE": "FALSE", "1": "TRUE", "TRUE": "TRUE"}
 ALL = Range(-2**127, 2**127 - 1)
+LOGICAL = ("AND", "&", "OR", "XOR", "NOT")
 
 
 def truth(it: Expression) -> Expression:
@@ -18,7 +19,7 @@ def truth(it: Expression) -> Expression:
         it.type = it.inside.type
     elif isinstance(it, Literal) and it.type == NUMBER and it.text in TRUTHS:
         return Literal(it.start, "BOOL", TRUTHS[it.text])
-    elif isinstance(it, Call) and it.name == "SEL" and it.type == NUMBER:
+    elif isinstance(it, Call) and it.name in ("SEL", "MUX") and it.type == NUMBER:
         it.arguments[1:] = map(truth, it.arguments[1:])
         it.type = it.arguments[1].type
     return it
@@ -41,11 +42,11 @@ def binary(left: Expression, operator: str, right: Expression, at: int) -> Binar
     """Return an operator between two operands, with the type that it has."""
     types = {left.type, right.type}
     kind = common_type([left, right])
-    if operator in ("AND", "&", "OR", "XOR"):
+    if operator in LOGICAL:
         kind = kind if kind in BITS else "BOOL"
     elif operator in ("=", "<>", "<", ">", "<=", ">="):
         kind = "BOOL"
-    if "BOOL" in types and operator in ("=", "<>") or operator in ("AND", "&", "OR", "XOR") and kind == "BOOL":
+    if "BOOL" in types and operator in ("=", "<>") or operator in LOGICAL and kind == "BOOL":
         left, right = truth(left), truth(right)
     return Binary(left.start, kind, operator, left, right, at)
 
@@ -59,11 +60,21 @@ def numbers(expression: Expression) -> Range:
     if isinstance(it, Variable):
         return RANGES.get(it.type, ALL)
     parts = [numbers(one) for one in it.parts()]
+    if isinstance(it, Part):
+        return Range(0, 2**it.count - 1)
+    if isinstance(it, (Unary, Binary)) and it.type in BITS and it.operator in LOGICAL:
+        return of_bits(it.operator, RANGES[it.type], parts)
     if isinstance(it, Unary) and it.operator == "-":
         return Range(-parts[0].most, -parts[0].least).overlap(ALL)
     if isinstance(it, Binary):
         return of_operator(it.operator, *parts).overlap(ALL)
     return of_call(it, parts) if isinstance(it, Call) else ALL
+
+
+def of_bits(operator: str, whole: Range, parts: list[Range]) -> Range:
+    """Return the numbers that an operator on strings of bits can give."""
+    is_and = operator in ("AND", "&") and all(it.least >= 0 for it in parts)
+    return Range(0, min(it.most for it in parts)) if is_and else whole
 
 
 def of_operator(operator: str, left: Range, right: Range) -> Range:
@@ -99,5 +110,7 @@ def of_call(it: Call, parts: list[Range]) -> Range:
     if it.name in ("MIN", "MAX"):
         choose = min if it.name == "MIN" else max
         return Range(choose(one.least for one in parts), choose(one.most for one in parts))
-    values = parts[1:] if it.name == "SEL" else parts
+    if it.name in ("SHL", "SHR", "ROL", "ROR"):
+        return RANGES.get(it.type, ALL)
+    values = parts[1:] if it.name in ("SEL", "MUX") else parts
     return Range(min(one.least for one in values), max(one.most for one in values)) if values else ALL

@@ -15,9 +15,10 @@ from lark.exceptions import VisitError
 
 from .common import TABLES, TYPES, Faults, Place, shown
 from .document import Code
-from .conversions import conversion_of
-from .expressions import MOST_NESTED, NUMBER, RANGES, Call, Expression, Group, Literal, Range, Unary, Variable, laid_out, pieces
-from .kinds import TRUTHS, binary, common_type, truth
+from .bits import SIZES
+from .expressions import BITS, MOST_NESTED, NUMBER, RANGES, UNSIGNED, Expression, Group, Literal, Part, Range, Unary, Variable, laid_out, number, pieces
+from .functions import ARGUMENTS, SHIFTS, Named, call_of, in_order, is_function
+from .kinds import TRUTHS, binary, truth
 from .lowering import Lowering
 from .statements import Segment
 
@@ -29,10 +30,8 @@ AND OR XOR NOT MOD TRUE FALSE""".split())
 # (an M that begins MS is none of its own)
 TIME = re.compile(r"T(?:IME)?#(-?)(?=\d)" + "".join(rf"(?:(\d[\d_]*+(?:\.\d++)?){it}(?!S)_?)?" for it in TABLES["units"]), re.ASCII)
 REASONS = TABLES["refused"]
-FUNCTIONS = TABLES["profile"]["functions"].split()
 ENDS = ("END_IF", "END_CASE", "END_FOR", "END_WHILE", "END_REPEAT")
 MOST_CHARACTERS, MOST_IN_A_GUARD = 200_000, 4_000
-Find = Callable[[str], "tuple[str, str] | None"]
 
 
 def time_literal(text: str) -> str:
@@ -44,19 +43,24 @@ def time_literal(text: str) -> str:
 
 
 def whole(text: str) -> int | None:
-    """Return the value of a whole number, as 5, -1_000 or 16#FF, or nothing if it is none."""
-    base, _, digits = text.replace("_", "").rpartition("#")
+    """Return the value of a whole number, as 5, -1_000, INT#5 or 16#FF, or nothing if it is none."""
+    kind, _, rest = text.strip().replace("_", "").partition("#")
+    base, _, digits = (rest if kind.isalpha() else text.strip().replace("_", "")).rpartition("#")
     try:
         return int(digits, int(base.lstrip("+-") or 10)) * (-1 if base.startswith("-") else 1)
     except ValueError:
         return None
 
 
-class Named(NamedTuple):
-    """An argument that is given by a name."""
+class Found(NamedTuple):
+    """A variable: its name in the profile, its type, and its value if it is a constant."""
 
-    name: Token
-    value: Expression
+    out: str
+    type: str
+    value: int | None = None
+
+
+Find = Callable[[str], Found | None]
 
 
 class Reader(Transformer_NonRecursive):
@@ -145,7 +149,9 @@ class Reader(Transformer_NonRecursive):
 
     def variable(self, row: list[Any]) -> Expression:
         """Read the name of a variable, which has a full stop where it is that of an adapter."""
-        name, dot, part, *rest = row
+        name, dot, part, _, bits, *rest = row
+        if part and part.type == "WHOLE" and (found := self.find(str(name))) and found.type in BITS:
+            dot, bits = None, Token.new_borrow_pos("BIT", f"%X{part}", part)
         whole_name = f"{name}.{part}" if dot else str(name)
         found = self.find(whole_name)
         if found is None:
@@ -154,7 +160,18 @@ class Reader(Transformer_NonRecursive):
         for it in rest:
             if it == "[":
                 self.faults.refuse(self.place(it), f"{shown(whole_name)} is used as an array, and the profile has none")
-        return Variable(name.start_pos or 0, found[1] if found else "", found[0] if found else "X")
+        variable = Variable(name.start_pos or 0, *(found[1::-1] if found else ("", "X")), found.value if found else None)
+        return self.part(variable, bits) if bits else variable
+
+    def part(self, base: Variable, bits: Token) -> Expression:
+        """Read some bits of a variable."""
+        count, size = SIZES[bits.upper()[1]], BITS.get(base.type, 0)
+        begin = int(bits[2:]) * count
+        if count + begin > size or count == size:
+            self.refuse(bits, f"is no part of {base.name}, which has {size} bits" if size else f"needs a variable of a type {' '.join(BITS)}")
+            return Literal(base.start, "", "0")
+        kind = next((it for it, other in BITS.items() if other == count), "BOOL")
+        return self.kept(Part(base.start, kind, base, begin, count))
 
     def group(self, row: list[Any]) -> Expression:
         """Read an expression in parentheses."""
@@ -176,29 +193,21 @@ class Reader(Transformer_NonRecursive):
 
     def named(self, row: list[Any]) -> Named:
         """Read an argument that is given by a name."""
-        return Named(row[0], row[2])
+        return Named(*row)
 
     def call(self, row: list[Any]) -> Expression:
         """Read a call."""
-        name, arguments = row[0], []
-        for it in row[2:-1]:
-            if isinstance(it, Named):
-                self.refuse(it.name, REASONS["named"])
-            arguments += [it.value] if isinstance(it, Named) else [it] if isinstance(it, Expression) else []
-        conversion = conversion_of(name.upper())
-        if name.upper() not in FUNCTIONS and conversion is None:
-            self.refuse(name, f"is no function of the profile (it has {', '.join(FUNCTIONS)})")
-            return Literal(name.start_pos or 0, "", "0")
-        if conversion and len(arguments) != 1:
-            self.refuse(name, "has one argument")
-            return Literal(name.start_pos or 0, "", "0")
-        if name == "SEL" and len(arguments) == 3 or conversion and conversion[0] == "BOOL":
-            arguments[0] = truth(arguments[0])
-        values = arguments[1:] if name == "SEL" else arguments
-        if name == "SEL" and "BOOL" in [it.type for it in values]:
-            arguments[1:] = values = [truth(it) for it in values]
-        kind = conversion[1] if conversion else common_type(values)
-        return self.kept(Call(name.start_pos or 0, kind, name.upper(), arguments))
+        name, given = row[0].upper(), [it for it in row[2:-1] if isinstance(it, (Named, Expression))]
+        start, values = row[0].start_pos or 0, in_order(name, given)
+        if not is_function(name):
+            self.refuse(row[0], f"is no function of the profile (it has {', '.join(ARGUMENTS)} and conversions of whole types)")
+        elif isinstance(values, str):
+            self.refuse(row[0], values)
+        elif name in SHIFTS and values[0].type not in BITS:
+            self.refuse(row[0], f"takes a string of bits: a variable or a literal of a type {' '.join(BITS)}")
+        else:
+            return self.kept(call_of(name, start, values))
+        return Literal(start, "", "0")
 
     def opening(self, row: list[Any]) -> Segment:
         """Read what begins or ends a statement that holds others."""
@@ -212,14 +221,27 @@ class Reader(Transformer_NonRecursive):
         """Read a label of CASE."""
         return row
 
+    def named_constant(self, row: list[Token]) -> Expression:
+        """Read a label that is the name of a constant."""
+        found = self.find(row[0])
+        if found is None or found.value is None:
+            self.refuse(row[0], "is no constant: a label of CASE is a number, or the name of a constant with a number")
+        return number(found.value or 0 if found else 0, row[0].start_pos or 0)
+
     def assignment(self, row: list[Any]) -> Segment:
         """Read an assignment."""
         target, _, value = row
+        # (what a declaration assigns ends before it begins)
+        if isinstance(target, Variable) and target.value is not None and row[1].end_pos > row[1].start_pos:
+            self.refuse(row[1], f"assigns the constant {target.name}")
         return Segment(":=", [*row[:2], truth(value) if target.type == "BOOL" else value])
 
-    def statement_call(self, row: list[Any]) -> None:
-        """Refuse a call as a statement."""
+    def statement_call(self, row: list[Any]) -> Segment | None:
+        """Read CONTINUE, or refuse a call as a statement."""
+        if row == ["CONTINUE"]:
+            return Segment("CONTINUE", row)
         self.refuse(row[0], REASONS["statement_call"])
+        return None
 
     def segment(self, row: list[Any]) -> list[Segment]:
         """Read what is up to a semicolon."""
@@ -237,32 +259,36 @@ class Algorithm(Reader):
     def __init__(self, code: Code, find: Find, faults: Faults) -> None:
         super().__init__(code, find, faults)
         self.temporaries: list[tuple[Token, str]] = []
-        tokens, self.tokens, is_inside = self.tokens, [], False
+        self.constants: dict[str, int] = {}
+        tokens, self.tokens, is_inside, is_constant = self.tokens, [], False, False
         row: list[Token] = []
         if tokens[0].upper() == "ALGORITHM":
             tokens = [*tokens[2:-2 if tokens[-2].upper() == "END_ALGORITHM" else -1], tokens[-1]]
-        for token in tokens:
-            if not row and token.upper() in (("CONSTANT", "END_VAR") if is_inside else ("VAR", "VAR_TEMP")):
+        for token, after in zip(tokens, [*tokens[1:], tokens[-1]]):
+            if not row and after != ":=" and token.upper() in (("CONSTANT", "END_VAR") if is_inside else ("VAR", "VAR_TEMP")):
                 is_inside = token.upper() != "END_VAR"
+                is_constant = token.upper() == "CONSTANT"
                 continue
             row.append(token)
             if token == ";" or token.type == "$END":
-                self.tokens += self.assigned(row) if is_inside else row
+                self.tokens += self.assigned(row, is_constant) if is_inside else row
                 row = []
 
-    def assigned(self, row: list[Token]) -> list[Token]:
+    def assigned(self, row: list[Token], is_constant: bool) -> list[Token]:
         """Read a declaration of temporary variables, and return what assigns their initial values."""
         if row[-1].type == "$END":
             self.faults.refuse(self.place(row[-1]), "found the end, expected END_VAR")
             return row[-1:]
         colon = next((n for n, it in enumerate(row) if it == ":"), len(row) - 1)
         kind, after = (*row[colon + 1:], row[-1], row[-1])[:2]
-        if kind.upper() not in TYPES or after not in (":=", ";"):
+        if kind.upper() not in (*TYPES, *UNSIGNED) or after not in (":=", ";"):
             self.refuse(kind, "is no type of the profile")
             row = [*row[:colon + 2], row[-1]]
         names = [it for it in row[:colon] if it.type == "NAME"]
         self.temporaries += [(it, kind.upper()) for it in names]
         default, start = ("TRUTH", "BOOL#FALSE") if kind.upper() == "BOOL" else ("WHOLE", "0"), kind.start_pos or 1
+        value = whole("".join(row[colon + 3:-1])) if is_constant else None
+        self.constants |= {it: value for it in names if value is not None}
         initial = row[colon + 3:-1] or [Token(*default, start, end_pos=kind.end_pos)]
         return [part for it in names for part in (it, Token("ASSIGN", ":=", start, end_pos=start - 1), *initial, row[-1])]
 

@@ -11,11 +11,12 @@ from typing import Any
 from jinja2 import StrictUndefined, Template
 
 from .blocks import Block, Library, Port, variable
-from .common import MARK, Faults, Folded, Names, Place, shown
+from .common import KEYWORDS, MARK, Faults, Folded, Names, Place, shown
 from .document import Code, Node
+from .expressions import UNSIGNED, Variable
 from .lowering import Lowering
 from .network import Network, System
-from .structured_text import Algorithm, Find, condition, constant
+from .structured_text import Algorithm, Find, Found, condition, constant, whole
 
 TEXTS: Any = Template(Path(__file__).with_name("texts.jinja").read_text("utf-8"), undefined=StrictUndefined, trim_blocks=True,
                       lstrip_blocks=True, keep_trailing_newline=True).module
@@ -42,13 +43,18 @@ class Chart:
         codes = {name: Algorithm(self.code_of(it), self.finder(name), self.faults) for it in nodes if (name := it.get("Name"))}
         self.variables = [variable(it, False, library)
                           for part in inside.all("InternalVars", "InternalConstVars") for it in part.children]
-        self.variables += [Port(f"{name}.{it}", "data", False, code.place(it), kind)
+        self.variables += [Port(f"{name}.{it}", "data", False, code.place(it), UNSIGNED.get(kind, kind), declared=kind)
                            for name, code in codes.items() for it, kind in code.temporaries]
         ports = [*block.ports.values(), *self.variables]
         names = Names("variable", [(it.name, it.place) for it in ports], self.faults)
         for port in ports:
             port.out = names[port.name]
-        self.found = Folded({it.name: (it.out, it.type) for it in ports if it.kind == "data"})
+        constants = {f"{name}.{it}": number for name, code in codes.items() for it, number in code.constants.items()}
+        constants |= {it.get("Name"): number for part in inside.all("InternalConstVars") for it in part.children
+                      if (number := whole(it.get("InitialValue"))) is not None}
+        self.found = Folded({it.name: Found(it.out, it.declared or it.type, constants.get(it.name)) for it in ports if it.kind == "data"})
+        self.made: dict[str, Port] = {}
+        self.used = {*KEYWORDS, *(it.out for it in ports)}
         self.inputs, self.outputs = (Folded({it.name: it.out for it in block.side("event", side)}) for side in (False, True))
         ecc = next(inside.all("ECC"), inside)
         nodes = list(ecc.all("ECState"))
@@ -75,7 +81,18 @@ class Chart:
 
     def lowering(self, code: Code) -> Lowering:
         """Return what replaces in a text what the profile lacks."""
-        return Lowering(code, self.faults, self.library.overflow)
+        return Lowering(code, self.faults, self.library.overflow, self.fresh)
+
+    def fresh(self, kind: str, number: int) -> Variable:
+        """Return a variable for what an expression needs more than once. Each statement uses the same ones again."""
+        name, out = f"{kind}.{number}", f"T__{kind}_{number}"
+        while name not in self.made and out in self.used:
+            out += "_"
+        if name not in self.made:
+            self.made[name] = Port(name, "data", False, self.block.place, kind, out=out)
+            self.variables.append(self.made[name])
+            self.used.add(out)
+        return Variable(0, kind, self.made[name].out)
 
     def finder(self, algorithm: str) -> Find:
         """Return the look-up of variables in an algorithm."""
