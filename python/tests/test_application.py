@@ -9,7 +9,9 @@ import time
 import numpy
 import pandas
 import pytest
-from common import ALL, CYCLE, EXAMPLES, RING, application, example_in, has_ended, interpreter, program, second_trace
+from common import (
+    ALL, CYCLE, EXAMPLES, RING, application, example_in, has_ended, interpreter, processor_time, program, second_trace
+)
 
 import fbsim
 
@@ -287,9 +289,9 @@ def test_a_run_takes_little_longer_than_the_program(tmp_path, monkeypatch):
     plant = fbsim.Application("plant.iec")
     taken = []
     for _ in range(9):
-        start = time.perf_counter()
+        start = processor_time()
         assert plant.run(STIMULI, horizon=8).end == 8
-        taken.append(time.perf_counter() - start)
+        taken.append(processor_time() - start)
     assert min(taken) < 0.030
 
 

@@ -8,8 +8,11 @@ import threading
 import time
 from concurrent.futures import Executor, Future, ProcessPoolExecutor, ThreadPoolExecutor
 
+import numpy
 import pytest
-from common import CYCLE, EXAMPLES, application, example_in, interpreter, processor_time, second_trace
+from common import (
+    CYCLE, EXAMPLES, application, example_in, has_ended, interpreter, processor_time, program, second_trace
+)
 
 import fbsim
 
@@ -250,3 +253,251 @@ def test_a_bar_of_progress_on_a_terminal_only(capsys, monkeypatch):
     sweep({THERE: range(1, 5)})
     said = capsys.readouterr().err
     assert said.endswith("\r[" + "#" * 30 + "] 4 of 4 variants\n") and "1 of 4" in said
+
+
+ROUND = "APPLICATION A FBS S : E_RESTART; D : E_DELAY(DT := 2); M : E_MERGE; END_FBS EVENT_CONNECTIONS "
+ROUND += "S.COLD TO D.START; D.EO TO M.EI1; M.EO TO M.EI2; END_CONNECTIONS END_APPLICATION"
+RULE = '[[rule]]\nname = "it starts"\nafter = "* < S.COLD"\nwithin = 9\nsee = "* > D.START"\n'
+
+
+def stopping(folder, **options):
+    """Sweeps an application that stops in the tick of its timer, in two of three variants."""
+    (folder / "some.rules").write_text(RULE)
+    plant = application(folder, ROUND)
+    return plant.sweep({"D.DT": [1, 5, 2]}, horizon=5, steps=9, rules=folder / "some.rules", executor=Here(), **options)
+
+
+def test_a_variant_that_stops_is_broken_unless_it_may(tmp_path):
+    found, other = stopping(tmp_path), stopping(tmp_path, stops=True)
+    for it in (found, other):
+        assert [row.number for row in it.stopped] == [0, 2] and it.broken("it starts") == []
+        assert list(it.frame().stop.isna()) == [False, True, False] and it.failed == []
+    assert found.broken() == found.stopped and found.first_broken == found[0]
+    assert other.broken() == [] and other.first_broken is None
+    assert repr(found) == "<sweep over D.DT, variants: 3, broken: 2, stopped: 2, failed: 0>"
+    assert len(found) == 3 and list(found) == found.rows
+    kept, stopped = found.plot(y="D.DT").axes[0].lines
+    assert (list(kept.get_xdata()), list(stopped.get_xdata())) == ([5], [1, 2])
+    assert [it.get_label() for it in (kept, stopped)] == ["all rules hold", "the run stopped"]
+    with pytest.raises(fbsim.InputFault, match="^there is no column 'nope'; the columns are D.DT, end, stop, it"):
+        found.plot(y="nope")
+
+
+def test_a_kept_variant_that_stops_has_its_status(tmp_path):
+    found = stopping(tmp_path)
+    found.keep(found[0], tmp_path / "kept")
+    (tmp_path / "bin").mkdir()
+    (tmp_path / "bin" / "mine").symlink_to(fbsim.find_program())
+    env = {**os.environ, "FBSIM": "bin/mine", "PATH": "/usr/bin:/bin"}
+    made = subprocess.run(["kept/run.sh"], cwd=tmp_path, env=env, capture_output=True, text=True)
+    assert made.returncode == 1 and "\nok 1 - it starts\n" in made.stdout
+    assert (tmp_path / "kept" / "trace").read_text().endswith("\nstop 1 MAIN steps\n")
+
+
+def test_a_rule_that_there_is_not_is_a_fault(tmp_path):
+    with pytest.raises(fbsim.InputFault, match="^there is no rule 'it start'; the rules are 'it starts'$"):
+        stopping(tmp_path).broken("it start")
+    with pytest.raises(fbsim.InputFault, match="^there is no rule 'x'; the rules are none$"):
+        sweep({THERE: [1]}).broken("x")
+
+
+def test_values_of_numpy_are_taken():
+    found = sweep({
+        THERE: numpy.arange(5, 15, 5), BACK: [numpy.array([[0, 9], [180, 1]])], "WORK.DT": numpy.array([250]),
+        "stimuli[4].COVERED": numpy.array([True]), "horizon": numpy.array([700], dtype=numpy.uint16),
+    })
+    assert [it.parameters[THERE] for it in found] == [5, 10] and type(found[0].parameters[THERE]) is int
+    plain = sweep({
+        THERE: [5, 10], BACK: [[(0, 9), (180, 1)]], "WORK.DT": [250], "stimuli[4].COVERED": [True], "horizon": [700],
+    })
+    assert found.rows == plain.rows and found.rows[1].end == 700
+
+
+@pytest.mark.parametrize("parameters, fault", [
+    ({"horizon": ["800"]}, "horizon is '800', and not a whole number"),
+    ({"stimuli[0].tick": [1.5]}, r"stimuli\[0\].tick is 1.5, and not a whole number"),
+    ({"stimuli[0].COVERED": ["T#1ms"]}, "'T#1ms' is no value of a row"),
+    ({THERE: [object()]}, "is no latency"),
+    ({THERE: 5}, "its values are a list, and not 5"),
+    ({THERE: "567"}, "its values are a list, and not '567'"),
+])
+def test_values_that_are_none(parameters, fault):
+    with pytest.raises(fbsim.InputFault, match=fault) as caught:
+        sweep(parameters)
+    is_of_variant = isinstance(next(iter(parameters.values())), list)
+    assert not is_of_variant or caught.value.__notes__[0].startswith("variant 0: ")
+
+
+@pytest.mark.parametrize("given", [("LINE < BEHIND.CAME",), "LINE < BEHIND.CAME", ("a", "b", "c", "d"), (1, 2), None])
+def test_latencies_that_are_none(given):
+    with pytest.raises(fbsim.InputFault, match="^latencies x: .* is not .pattern, pattern. or "):
+        sweep({THERE: [1]}, latencies={"x": given})
+    with pytest.raises(fbsim.InputFault, match="is no pattern"):
+        sweep({THERE: [1]}, latencies={"x": ("LINE < BEHIND.CAME", "LINE")})
+
+
+def test_other_arguments_that_are_none(tmp_path):
+    with pytest.raises(fbsim.InputFault, match='^on_error is \'stop\', and not "raise" or "keep"$'):
+        sweep({THERE: [1]}, on_error="stop")
+    with pytest.raises(fbsim.FileFault, match="rules .*no.rules"):
+        sweep({THERE: [1]}, rules=tmp_path / "no.rules")
+    with pytest.raises(fbsim.InputFault, match="timeout is 0"):
+        sweep({THERE: [1]}, timeout=0)
+    (tmp_path / "a file").touch()
+    with pytest.raises(fbsim.InputFault, match="the cache .*/a file can't be made"):
+        sweep({THERE: [1]}, cache=tmp_path / "a file")
+
+
+def test_each_fault_names_its_variant(tmp_path):
+    """Also those of latencies, and those by other processes."""
+    first = {"x": ("* < GATE.LIFT", "* > BEFORE.SENSE", "queue")}
+    for executor in (Here(), None):
+        with pytest.raises(fbsim.InputFault, match="comes before") as caught:
+            sweep({THERE: [3]}, latencies=first, executor=executor)
+        assert caught.value.__notes__ == [f"variant 0: {THERE} = 3"]
+        with pytest.raises(fbsim.Refused) as caught:
+            sweep({THERE: [3, 0]}, executor=executor)
+        assert caught.value.__notes__ == [f"variant 1: {THERE} = 0"]
+
+
+def test_no_text_names_a_folder_that_is_gone(tmp_path):
+    with pytest.raises(fbsim.Refused) as caught:
+        sweep({THERE: [0]})
+    assert caught.value.file == "deploy.toml" and str(caught.value).splitlines()[1].startswith("deploy.toml:")
+    one, same = stopping(tmp_path), stopping(tmp_path)
+    assert one.rows == same.rows and "/" not in one[0].stop.where
+    text = "FUNCTION_BLOCK D EVENT_INPUT GO; END_EVENT VAR_INPUT N : INT; END_VAR VAR M : INT; END_VAR\n"
+    text += "EC_STATES I; R : X; END_STATES\n"
+    text += "EC_TRANSITIONS I TO R := GO; END_TRANSITIONS ALGORITHM X IN ST: M := 5 / N; END_ALGORITHM\n"
+    text += "END_FUNCTION_BLOCK APPLICATION A FBS X : D; END_FBS END_APPLICATION"
+    plant = application(tmp_path, text)
+    found = plant.sweep({"X.N": [1, 0]}, [(0, "X.GO")], horizon=5, executor=Here())
+    assert [it.stop and it.stop.where.partition(": ")[0] for it in found] == [None, "application.iec:3:72"]
+
+
+def test_faults_can_be_kept(tmp_path):
+    found = sweep({THERE: [3, 0, 9]}, rules=RULES, latencies={"stopping": STOPPING}, on_error="keep")
+    assert [it.number for it in found.failed] == [1] and [it.state for it in found][1] == "it failed"
+    fault = found[1].fault
+    assert (fault.number, found[1].end, found[1].latencies) == ("E12", None, {})
+    assert found.broken() == [found[1]] and found.broken(STOPS) == []
+    frame = found.frame()
+    assert list(frame.columns)[-1] == "fault" and list(frame.fault.isna()) == [True, False, True]
+    assert frame[STOPS].tolist()[::2] == ["kept", "kept"]
+    assert found.plot(y="end").axes[0].get_legend() is not None
+
+
+def test_rows_come_one_after_another(tmp_path):
+    app, stimuli = CONVEYOR.application, CONVEYOR.stimuli
+    rows = app.variants({THERE: [4, 9, 15]}, stimuli, horizon=800, rules=RULES, executor=Here())
+    found = {it.number: it.broken for it in (next(rows), *rows)}
+    assert found == {0: [], 1: [], 2: [STOPS]}
+    with pytest.raises(fbsim.InputFault, match="at least one parameter"):
+        app.variants({}, horizon=800)
+    with ThreadPoolExecutor(2) as executor:
+        some = app.variants({THERE: range(1, 41)}, stimuli, horizon=800, executor=executor)
+        assert next(some).end == 800
+        some.close()
+
+
+class Counting(Here):
+    """An executor of this process that counts variants, and breaks off after some."""
+
+    def __init__(self, most=1000):
+        self.most, self.count = most, 0
+
+    def submit(self, call, plan, batch):
+        self.count += len(batch)
+        if self.count > self.most:
+            made = Future()
+            made.set_exception(KeyboardInterrupt())
+            return made
+        return super().submit(call, plan, batch)
+
+
+def test_a_sweep_with_a_cache_goes_on_where_it_was_broken_off(tmp_path):
+    options = {"rules": RULES, "latencies": {"stopping": STOPPING}, "cache": tmp_path / "cache"}
+    parameters = {THERE: range(8, 14), BACK: [8, 9]}
+    with pytest.raises(KeyboardInterrupt):
+        sweep(parameters, executor=Counting(7), **options)
+    rest, again = Counting(), Counting()
+    found, same = sweep(parameters, executor=rest, **options), sweep(parameters, executor=again, **options)
+    assert (rest.count, again.count) == (5, 0)
+    plain = sweep(parameters, rules=RULES, latencies={"stopping": STOPPING})
+    assert found.rows == same.rows == plain.rows and found.frame().equals(plain.frame())
+    # A wider sweep runs what is new.
+    more = Counting()
+    assert len(sweep({THERE: range(8, 15), BACK: [8, 9]}, executor=more, **options)) == 14 and more.count == 2
+
+
+def test_a_cache_asks_for_all_that_a_variant_depends_on(tmp_path, monkeypatch):
+    (tmp_path / "some.rules").write_text(RULE)
+    (tmp_path / "lib.iec").write_text("")
+    plant = application(tmp_path, ROUND)
+
+    def count(**changed):
+        executor, options = Counting(), {"horizon": 9, "steps": 9, "rules": tmp_path / "some.rules", **changed}
+        fbsim.Application(plant.declaration, types=options.pop("types", [])).sweep(
+            {"D.DT": [1, 5]}, options.pop("stimuli", None), cache=tmp_path / "cache", executor=executor, **options)
+        return executor.count
+
+    changes = [
+        {}, {"horizon": 8}, {"steps": 8}, {"types": [tmp_path / "lib.iec"]}, {"stimuli": [(3, "D.STOP")]},
+        {"latencies": {"x": ("* < S.COLD", "* < D.EO")}}, {"latencies": {"x": ("* < S.COLD", "* < D.EO", "next")}},
+        {"rules": None},
+    ]
+    for _ in range(2):
+        assert [count(**it) for it in changes] == [2] * len(changes)
+        assert [count(**it) for it in changes] == [0] * len(changes)
+        (tmp_path / "plant.iec").write_text(ROUND + "\n")
+    (tmp_path / "some.rules").write_text(RULE + "\n")
+    assert (count(), count()) == (2, 0)
+    # Another version of the program, and a file that is damaged.
+    monkeypatch.setattr("fbsim.cache.version", lambda of_package=False: "fbsim 1.0.1")
+    assert (count(), count()) == (2, 0)
+    for it in (tmp_path / "cache").iterdir():
+        it.write_bytes(it.read_bytes()[:-9])
+    assert (count(), count()) == (2, 0)
+
+
+def test_a_cache_keeps_stops_and_no_faults(tmp_path):
+    first = stopping(tmp_path, cache=tmp_path / "cache")
+    again = stopping(tmp_path, cache=tmp_path / "cache")
+    assert again.rows == first.rows and again[0].stop.where and len(list((tmp_path / "cache").iterdir())) == 3
+    options = {"on_error": "keep", "cache": tmp_path / "other"}
+    counts = []
+    for _ in range(2):
+        executor = Counting()
+        found = sweep({THERE: [0, 1, 2]}, executor=executor, **options)
+        assert [bool(it.fault) for it in found] == [True, False, False]
+        counts.append(executor.count)
+    assert counts == [3, 1]
+
+
+def test_a_variant_that_takes_too_long_is_named(tmp_path, monkeypatch):
+    """The program hangs in the run of one variant."""
+    real = fbsim.find_program()
+    hangs = f"if grep -q '= 9$' deploy.toml; then echo $$ > {tmp_path}/pid; sleep 1000; true; fi"
+    text = f'case "$*" in run*) {hangs} ;; esac'
+    monkeypatch.setenv("FBSIM", program(tmp_path, f'{text}\nexec {real} "$@"'))
+    with pytest.raises(fbsim.TimedOut, match="^fbsim run took over 1.5 seconds, and was ended$") as caught:
+        sweep({THERE: [3, 9]}, timeout=1.5)
+    assert caught.value.__notes__ == [f"variant 1: {THERE} = 9"]
+    assert has_ended(int((tmp_path / "pid").read_text()))
+    found = sweep({THERE: [3, 9, 4]}, timeout=1.5, on_error="keep")
+    assert [type(it.fault) for it in found] == [type(None), fbsim.TimedOut, type(None)]
+
+
+def test_processes_that_end_are_a_fault_that_says_what_to_do():
+    with pytest.raises(fbsim.Fault, match="^a process of the sweep ended: put the sweep under .*__main__"):
+        sweep({Dies(): [1], THERE: [1]}, executor=None)
+
+
+class Dies(str):
+    """The name of a parameter with which a process ends."""
+
+    def __new__(cls):
+        return super().__new__(cls, "WORK.DT")
+
+    def __reduce__(self):
+        return os._exit, (3,)

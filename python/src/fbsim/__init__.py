@@ -9,8 +9,9 @@ from fbsim.latencies import Latencies, Pattern
 from fbsim.program import find_program
 from fbsim.sequence import check_sequence
 from fbsim.session import Session
-from fbsim.sweep import Jitter, Sweep, Variant, jitter
+from fbsim.sweep import Jitter, Sweep, jitter
 from fbsim.trace import Line, Lines, Report, Signal, Trace, Verdict
+from fbsim.variant import Variant
 
 __version__ = "1.2.0"
 

@@ -9,7 +9,7 @@ from collections.abc import Generator, Iterable, Iterator, Mapping, Sequence
 from dataclasses import dataclass
 from itertools import takewhile
 from pathlib import Path
-from typing import IO, TYPE_CHECKING, Any
+from typing import IO, TYPE_CHECKING, Any, Literal
 
 from fbsim.faults import InputFault, Stop, Stopped, fault_of
 from fbsim.program import call, started
@@ -21,7 +21,8 @@ from fbsim.trace import Line, Lines, Trace, ending, lines_of, temporary
 if TYPE_CHECKING:
     from concurrent.futures import Executor
 
-    from fbsim.sweep import Sweep
+    from fbsim.sweep import Between, Sweep
+    from fbsim.variant import Variant
 
 
 @dataclass(frozen=True)
@@ -100,18 +101,40 @@ class Application:
 
     def sweep(
         self, parameters: Mapping[str, Iterable[object]], stimuli: Stimuli = None, *, horizon: int,
-        steps: int | None = None, rules: FileName | None = None, latencies: Mapping[str, tuple[str, ...]] = {},
-        executor: Executor | None = None, sample: int | None = None, seed: int = 0
+        steps: int | None = None, rules: FileName | None = None, latencies: Mapping[str, Between] = {},
+        executor: Executor | None = None, sample: int | None = None, seed: int = 0, stops: bool = False,
+        on_error: Literal["raise", "keep"] = "raise", cache: FileName | None = None, timeout: float | None = None
     ) -> Sweep:
         """Runs a variant of the application for each combination of values, and judges its trace.
 
         Parameters are `link.A->B` (a latency, a table of latencies, or `jitter`), `INSTANCE.PARAMETER`,
         `stimuli[3].tick`, `stimuli[3].VARIABLE`, `horizon` and `steps`. With `sample`, only so many combinations are
         run, drawn with the seed. Any executor runs them: by default, processes of this machine.
-        """
-        from fbsim.sweep import sweep
 
-        return sweep(self, parameters, stimuli, horizon, steps, rules, latencies, executor, sample, seed)
+        A variant that stops is among `broken()`, unless `stops` is true. With `on_error="keep"` a fault is that of its
+        variant, and does not end the sweep. `cache` names a folder: what is there is not run again. Each run may take
+        `timeout` seconds.
+        """
+        from fbsim.sweep import Sweep, planned, variants
+
+        plan, chosen = planned(
+            self, parameters, stimuli, horizon, steps, rules, latencies, sample, seed, stops, on_error, timeout
+        )
+        return Sweep(plan, variants(plan, chosen, executor, cache))
+
+    def variants(
+        self, parameters: Mapping[str, Iterable[object]], stimuli: Stimuli = None, *, horizon: int,
+        steps: int | None = None, rules: FileName | None = None, latencies: Mapping[str, Between] = {},
+        executor: Executor | None = None, sample: int | None = None, seed: int = 0,
+        on_error: Literal["raise", "keep"] = "raise", cache: FileName | None = None, timeout: float | None = None
+    ) -> Iterator[Variant]:
+        """Does what `sweep` does, and goes over the variants as they come, in any order."""
+        from fbsim.sweep import planned, variants
+
+        plan, chosen = planned(
+            self, parameters, stimuli, horizon, steps, rules, latencies, sample, seed, True, on_error, timeout
+        )
+        return variants(plan, chosen, executor, cache)
 
 
 class Stream(Lines):

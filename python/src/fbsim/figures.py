@@ -6,12 +6,15 @@ from collections.abc import Iterable, Mapping, Sequence
 from importlib import import_module
 from typing import TYPE_CHECKING, Any
 
-from fbsim.faults import Fault
+from fbsim.faults import Fault, InputFault
 
 if TYPE_CHECKING:
+    from matplotlib.figure import Figure
+    from pandas import DataFrame
+
     from fbsim.latencies import Latencies
-    from fbsim.sweep import Variant
     from fbsim.trace import Line, Signal
+    from fbsim.variant import Variant
 
 
 def needed(module: str, package: str) -> Any:
@@ -32,7 +35,7 @@ def column(pandas: Any, values: list[Any]) -> Any:
     return pandas.array(values, dtype=object)
 
 
-def frame_of_lines(lines: Iterable[Line]) -> Any:
+def frame_of_lines(lines: Iterable[Line]) -> DataFrame:
     """Returns a frame with the columns tick, resource, sign, instance, event, and one for each variable."""
     pandas = needed("pandas", "pandas")
     parts: dict[str, list[Any]] = {name: [] for name in ("tick", "resource", "sign", "instance", "event")}
@@ -51,7 +54,7 @@ def frame_of_lines(lines: Iterable[Line]) -> Any:
     return pandas.DataFrame(parts | {name: column(pandas, values) for name, values in variables.items()})
 
 
-def frame_of_sweep(rows: Sequence[Variant]) -> Any:
+def frame_of_sweep(rows: Sequence[Variant]) -> DataFrame:
     """Returns a frame with the parameters, the end, the stop, the verdict of each rule, and statistics of latencies."""
     pandas = needed("pandas", "pandas")
     found = []
@@ -63,15 +66,17 @@ def frame_of_sweep(rows: Sequence[Variant]) -> Any:
             for statistic in ("least", "median", "most"):
                 row[f"{name}.{statistic}"] = getattr(given, statistic) if given.count else None
         found.append(row)
+    if any(it.fault for it in rows):
+        found = [row | {"fault": it.fault and str(it.fault)} for row, it in zip(found, rows)]
     return pandas.DataFrame(found)
 
 
-def figure(height: float) -> Any:
+def figure(height: float) -> Figure:
     """Returns an empty figure."""
     return needed("matplotlib.figure", "matplotlib").Figure(figsize=(8.0, height), layout="constrained")
 
 
-def steps(signals: Mapping[str, Signal], end: int | None) -> Any:
+def steps(signals: Mapping[str, Signal], end: int | None) -> Figure:
     """Returns a figure that draws each signal as steps over ticks, from its first value on."""
     if not signals:
         raise Fault("there is nothing to draw: name at least one signal, as GATE.TAKEN")
@@ -92,7 +97,7 @@ def steps(signals: Mapping[str, Signal], end: int | None) -> Any:
     return made
 
 
-def bars(latencies: Latencies, width: int | None) -> Any:
+def bars(latencies: Latencies, width: int | None) -> Figure:
     """Returns a figure with the histogram of latencies."""
     made = figure(3.2)
     axes, rows = made.subplots(), latencies.histogram(width)
@@ -101,12 +106,18 @@ def bars(latencies: Latencies, width: int | None) -> Any:
     return made
 
 
-def points(frame: Any, broken: Sequence[bool], x: str, y: str) -> Any:
-    """Returns a figure of two columns of a frame, with another mark for rows that break a rule."""
+MARKS = {"all rules hold": "o", "a rule is broken": "x", "the run stopped": "s", "it failed": "^"}
+
+
+def points(frame: DataFrame, states: Sequence[str], x: str, y: str) -> Figure:
+    """Returns a figure of two columns of a frame, with a mark for each state of a row."""
+    for it in (x, y):
+        if it not in frame.columns:
+            raise InputFault(f"there is no column {it!r}; the columns are {', '.join(map(str, frame.columns))}")
     made = figure(4.0)
     axes = made.subplots()
-    for value, mark, label in ((False, "o", "all rules hold"), (True, "x", "a rule is broken")):
-        rows = frame[[it == value for it in broken]]
+    for label, mark in MARKS.items():
+        rows = frame[[it == label for it in states]]
         if len(rows):
             xs, ys = ([it if isinstance(it, (int, float)) else str(it) for it in rows[name]] for name in (x, y))
             axes.plot(xs, ys, mark, label=label)

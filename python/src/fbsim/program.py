@@ -65,20 +65,28 @@ def started(words: Sequence[str], **how: Any) -> Iterator[subprocess.Popen[Any]]
 
 def call(
     words: Sequence[str], given: str = "", to: IO[Any] | int = subprocess.PIPE, statuses: Sequence[int] = (0,),
-    timeout: float | None = None
+    timeout: float | None = None, folder: Path | None = None
 ) -> subprocess.CompletedProcess[str]:
     """Calls the program, and raises the fault of a status that is not among these.
 
     `given` is its standard input. Standard output goes into the file `to`, or is returned. After `timeout` seconds the
-    program is ended, and `TimedOut` is raised.
+    program is ended, and `TimedOut` is raised. Names of files are names in `folder`, if there is one.
     """
-    how: dict[str, Any] = {"encoding": "utf-8", "errors": "replace"}
-    limit = seconds(timeout)
-    with started(words, stdin=subprocess.PIPE, stdout=to, stderr=subprocess.PIPE, **how) as process:
+    limit, text = seconds(timeout), given.encode("utf-8", "surrogateescape")
+    with started(words, stdin=subprocess.PIPE, stdout=to, stderr=subprocess.PIPE, cwd=folder) as process:
         try:
-            out, said = process.communicate(given, limit)
+            out, said = (it and it.decode("utf-8", "replace") for it in process.communicate(text, limit))
         except subprocess.TimeoutExpired:
             raise TimedOut(f"fbsim {words[0]} took over {timeout:g} seconds, and was ended") from None
     if process.returncode not in statuses:
-        raise fault_of(process.returncode, said)
-    return subprocess.CompletedProcess(words, process.returncode, out, said)
+        raise fault_of(process.returncode, said or "")
+    return subprocess.CompletedProcess(words, process.returncode, out, said or "")
+
+
+def version(of_package: bool = False) -> str:
+    """Returns what the program says of its version, or the version of this package."""
+    if of_package:
+        import fbsim
+
+        return fbsim.__version__
+    return call(["--version"]).stdout.strip()

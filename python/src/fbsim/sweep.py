@@ -10,18 +10,26 @@ import shlex
 import sys
 import tempfile
 from collections.abc import Callable, Iterable, Iterator, Mapping, Sequence
-from concurrent.futures import Executor, ProcessPoolExecutor, as_completed
+from concurrent.futures import Executor, Future, ProcessPoolExecutor, as_completed
+from concurrent.futures.process import BrokenProcessPool
 from dataclasses import dataclass
 from pathlib import Path
-from typing import Any, NamedTuple
+from typing import TYPE_CHECKING, Literal, NamedTuple
 
 from fbsim import figures
 from fbsim.application import Application
-from fbsim.faults import Fault, InputFault, Stop
-from fbsim.latencies import Latencies
+from fbsim.cache import Cache
+from fbsim.faults import Fault, InputFault
+from fbsim.latencies import Pattern
+from fbsim.program import call, seconds
 from fbsim.stimuli import FileName, Stimuli, stimuli_text
-from fbsim.texts import read, with_latency, with_parameter, with_stimulus, write
-from fbsim.trace import Report, Trace, check_rules
+from fbsim.texts import read, whole, with_latency, with_parameter, with_stimulus, write, write_script
+from fbsim.trace import Report, Trace, check_rules, temporary
+from fbsim.variant import Variant
+
+if TYPE_CHECKING:
+    from matplotlib.figure import Figure
+    from pandas import DataFrame
 
 # The names of parameters, the file that each changes, and how.
 PLACES: list[tuple[str, str, Callable[..., str]]] = [
@@ -31,6 +39,8 @@ PLACES: list[tuple[str, str, Callable[..., str]]] = [
 ]
 # A place in the product of all values, and the values there.
 Chosen = tuple[int, tuple[object, ...]]
+# Two patterns, and how their lines are paired (`Lines.latencies`).
+Between = tuple[str, str] | tuple[str, str, str]
 
 
 @dataclass(frozen=True)
@@ -63,14 +73,18 @@ class Plan(NamedTuple):
     types: list[str]
     horizon: int
     steps: int | None
-    latencies: dict[str, tuple[str, ...]]
+    latencies: dict[str, Between]
     names: tuple[str, ...]
+    rules: tuple[str, ...] = ()
+    timeout: float | None = None
+    keeps_faults: bool = False
+    may_stop: bool = False
 
     def variant(self, values: Sequence[object]) -> Plan:
         """Returns the plan with these values of its parameters."""
         files, options = dict(self.files), {"horizon": self.horizon, "steps": self.steps}
         changed = dict(zip(self.names, values))
-        options |= {name: changed.pop(name) for name in ("horizon", "steps") if name in changed}  # type: ignore[misc]
+        options |= {it: whole(changed.pop(it), it) for it in ("horizon", "steps") if it in changed}
         for name, value in changed.items():
             table = value.table(int(options["horizon"] or 0)) if isinstance(value, Jitter) else value
             file, change, place = place_of(name)
@@ -79,14 +93,11 @@ class Plan(NamedTuple):
             files[file] = change(files[file], *place, table)
         return self._replace(files=files, **options)  # type: ignore[arg-type]
 
-    def there(self, folder: Path, file: str) -> Path | None:
-        """Returns the path of a file in a folder, or None if the plan has no such file."""
-        return folder / file if file in self.files else None
-
-    def application(self, folder: Path) -> Application:
-        """Returns the application whose files are in a folder."""
-        types = [folder / it for it in self.types]
-        return Application(folder / "application.iec", types, self.there(folder, "deploy.toml"))
+    def words(self) -> list[str]:
+        """Returns the words of a run, in a folder with the files."""
+        deploy, stimuli = (it if it in self.files else None for it in ("deploy.toml", "stimuli.csv"))
+        application = Application("application.iec", self.types, deploy)
+        return application.call_words("run", stimuli, {"horizon": self.horizon, "steps": self.steps})[0]
 
 
 def place_of(name: str) -> tuple[str, Callable[..., str], tuple[str, ...]]:
@@ -98,53 +109,18 @@ def place_of(name: str) -> tuple[str, Callable[..., str], tuple[str, ...]]:
     raise InputFault(f"{name} is no parameter: {what}")
 
 
-class Variant(NamedTuple):
-    """A variant and what it came to. Its number is its place in the product of all values."""
-
-    number: int
-    parameters: dict[str, object]
-    end: int | None
-    stop: Stop | None
-    report: Report
-    latencies: dict[str, Latencies]
-
-    @property
-    def broken(self) -> list[str]:
-        """The names of the rules that do not hold."""
-        return [it.rule for it in self.report.of("broken")]
-
-    @property
-    def kept(self) -> list[str]:
-        """The names of the rules that hold."""
-        return [it.rule for it in self.report.of("kept")]
+def plain(value: object) -> object:
+    """Returns a value as Python has it, also if it is of numpy."""
+    if hasattr(value, "tolist"):
+        return plain(value.tolist())
+    return [plain(it) for it in value] if isinstance(value, (list, tuple)) else value
 
 
-def run_batch(plan: Plan, batch: Sequence[Chosen]) -> list[Variant]:
-    """Runs variants one after another, in files of a temporary folder."""
-    made: list[Variant] = []
-    with tempfile.TemporaryDirectory(prefix="fbsim-") as name:
-        folder, kept = Path(name), dict[str, str]()
-        for number, values in batch:
-            variant = plan.variant(values)
-            for file, text in variant.files.items():
-                if kept.get(file) != text:
-                    write(folder / file, text)
-            kept = variant.files
-            made.append(run_variant(variant, folder, number, dict(zip(plan.names, values))))
-    return made
-
-
-def run_variant(variant: Plan, folder: Path, number: int, parameters: dict[str, object]) -> Variant:
-    """Runs a variant whose files are in a folder, and judges its trace."""
-    stimuli, rules = variant.there(folder, "stimuli.csv"), variant.there(folder, "rules")
-    try:
-        trace = variant.application(folder).run(stimuli, horizon=variant.horizon, steps=variant.steps, stop=True)
-    except Fault as it:
-        it.add_note(f"variant {number}: {said(parameters)}")
-        raise
-    report = Report(()) if rules is None else check_rules(Trace(trace.path), rules)
-    latencies = {name: trace.latencies(*it) for name, it in variant.latencies.items()}
-    return Variant(number, parameters, trace.end, trace.stop, report, latencies)
+def values_of(name: str, given: Iterable[object]) -> list[object]:
+    """Returns the values of a parameter."""
+    if isinstance(given, (str, bytes, Mapping)) or not isinstance(given, Iterable):
+        raise InputFault(f"{name}: its values are a list, and not {given!r}")
+    return [plain(it) for it in given]
 
 
 def said(parameters: Mapping[str, object]) -> str:
@@ -152,20 +128,85 @@ def said(parameters: Mapping[str, object]) -> str:
     return ", ".join(f"{name} = {it}" for name, it in parameters.items())
 
 
+def run_batch(plan: Plan, batch: Sequence[Chosen]) -> list[Variant]:
+    """Runs variants one after another, in files of a temporary folder, up to the first fault unless they are kept."""
+    made: list[Variant] = []
+    with tempfile.TemporaryDirectory(prefix="fbsim-") as name:
+        folder, kept = Path(name), dict[str, str]()
+        for number, values in batch:
+            parameters = dict(zip(plan.names, values))
+            try:
+                variant = plan.variant(values)
+                for file, text in variant.files.items():
+                    if kept.get(file) != text:
+                        write(folder / file, text)
+                kept = variant.files
+                made.append(run_variant(variant, folder, number, parameters))
+            except Exception as it:
+                it.add_note(f"variant {number}: {said(parameters)}")
+                if not isinstance(it, Fault):
+                    raise
+                made.append(Variant(number, parameters, None, None, Report(()), {}, it.with_traceback(None)))
+                if not plan.keeps_faults:
+                    break
+    return made
+
+
+def run_variant(variant: Plan, folder: Path, number: int, parameters: dict[str, object]) -> Variant:
+    """Runs a variant whose files are in a folder, and judges its trace. Messages name files as that folder has them."""
+    trace, file = temporary(None)
+    with file as to:
+        trace.where_stopped = call(variant.words(), "", to, (0, 1), variant.timeout, folder).stderr.rstrip()
+    report = check_rules(trace, "rules", folder=folder) if "rules" in variant.files else Report(())
+    latencies = {name: trace.latencies(*it) for name, it in variant.latencies.items()}
+    return Variant(number, parameters, trace.end, trace.stop, report, latencies)
+
+
 class Sweep:
     """The variants of a sweep, in the order of the product of all values, the last parameter fastest."""
 
-    def __init__(self, plan: Plan, rows: Sequence[Variant]) -> None:
-        self.plan, self.rows = plan, list(rows)
+    def __init__(self, plan: Plan, rows: Iterable[Variant]) -> None:
+        self.plan, self.rows = plan, sorted(rows, key=lambda it: it.number)
+
+    def __len__(self) -> int:
+        return len(self.rows)
+
+    def __iter__(self) -> Iterator[Variant]:
+        return iter(self.rows)
+
+    def __getitem__(self, at: int) -> Variant:
+        return self.rows[at]
+
+    def __repr__(self) -> str:
+        counts = f"broken: {len(self.broken())}, stopped: {len(self.stopped)}, failed: {len(self.failed)}"
+        return f"<sweep over {', '.join(self.plan.names)}, variants: {len(self)}, {counts}>"
 
     def broken(self, rule: str | None = None) -> list[Variant]:
-        """Returns the variants in which a rule, or any rule, does not hold."""
-        return [it for it in self.rows if (rule in it.broken if rule else it.broken)]
+        """Returns the variants in which a rule does not hold.
+
+        Without a rule it is those in which any does not hold, or that failed, or that stopped, unless these may.
+        """
+        if rule is None:
+            return [it for it in self.rows if it.broken or it.fault or it.stop and not self.plan.may_stop]
+        if rule not in self.plan.rules:
+            names = ", ".join(map(repr, self.plan.rules)) or "none"
+            raise InputFault(f"there is no rule {rule!r}; the rules are {names}")
+        return [it for it in self.rows if rule in it.broken]
 
     @property
     def first_broken(self) -> Variant | None:
-        """The first variant in which a rule does not hold."""
+        """The first variant of those that `broken` returns."""
         return next(iter(self.broken()), None)
+
+    @property
+    def stopped(self) -> list[Variant]:
+        """The variants whose run stopped before its horizon."""
+        return [it for it in self.rows if it.stop]
+
+    @property
+    def failed(self) -> list[Variant]:
+        """The variants with a fault, which `on_error="keep"` keeps."""
+        return [it for it in self.rows if it.fault]
 
     def keep(self, variant: Variant, folder: FileName) -> str:
         """Writes the files of a variant into a folder, with run.sh, which runs it, and returns the line of its run."""
@@ -173,25 +214,20 @@ class Sweep:
         path.mkdir(parents=True, exist_ok=True)
         for name, text in plan.files.items():
             write(path / name, text)
-        options, here = {"horizon": plan.horizon, "steps": plan.steps}, Path()
-        words, _ = plan.application(here).call_words("run", plan.there(here, "stimuli.csv"), options)
-        run = shlex.join(["fbsim", *words]) + " > trace"
-        lines = ["#!/bin/sh", f"# {said(variant.parameters)}", 'cd "$(dirname "$0")" || exit', run]
-        write(path / "run.sh", "\n".join(lines + ["fbsim expect rules trace"] * ("rules" in plan.files)) + "\n")
-        (path / "run.sh").chmod(0o755)
-        return run
+        after = ["status=$?", "fbsim expect rules trace || exit", 'exit "$status"'] if "rules" in plan.files else []
+        return write_script(path, said(variant.parameters), shlex.join(["fbsim", *plan.words()]) + " > trace", *after)
 
-    def frame(self) -> Any:
+    def frame(self) -> DataFrame:
         """Returns a pandas data frame: a row for each variant; parameters, end, each rule, statistics of latencies."""
         return figures.frame_of_sweep(self.rows)
 
-    def plot(self, x: str | None = None, y: str | None = None) -> Any:
-        """Returns a figure of two columns of the frame, in which variants with a broken rule are marked.
+    def plot(self, x: str | None = None, y: str | None = None) -> Figure:
+        """Returns a figure of two columns of the frame, in which broken, stopped and failed variants are marked.
 
         They are by default the first two parameters, or a single parameter and the greatest of the first latencies.
         """
         names = [*self.plan.names, *(f"{it}.most" for it in self.plan.latencies), "end"]
-        return figures.points(self.frame(), [bool(it.broken) for it in self.rows], x or names[0], y or names[1])
+        return figures.points(self.frame(), [it.state for it in self.rows], x or names[0], y or names[1])
 
 
 def choose(lists: Sequence[Sequence[object]], sample: int | None, seed: int) -> Iterator[Chosen]:
@@ -205,53 +241,125 @@ def choose(lists: Sequence[Sequence[object]], sample: int | None, seed: int) -> 
         yield number, tuple(reversed(values))
 
 
-def sweep(
-    application: Application, parameters: Mapping[str, Iterable[object]], stimuli: Stimuli, horizon: int,
-    steps: int | None, rules: FileName | None, latencies: Mapping[str, tuple[str, ...]], executor: Executor | None,
-    sample: int | None, seed: int
-) -> Sweep:
-    """Runs all variants, as `Application.sweep` says."""
+def between(name: str, given: object) -> Between:
+    """Returns two patterns, and how their lines are paired, if they are that."""
+    if not isinstance(given, (tuple, list)) or len(given) not in (2, 3) or not all(isinstance(it, str) for it in given):
+        raise InputFault(f"latencies {name}: {given!r} is not (pattern, pattern) or (pattern, pattern, pair)")
+    for it in given[:2]:
+        Pattern(it)
+    return tuple(given)  # type: ignore[return-value]
+
+
+def files_of(application: Application, stimuli: Stimuli, rules: FileName | None) -> tuple[dict[str, str], list[str]]:
+    """Returns the texts of all files, by their names in the folder of a variant, and those of block types."""
     types = {f"types{k}.iec": it for k, it in enumerate(application.types)}
     given = {"application.iec": application.declaration, "deploy.toml": application.deploy, "rules": rules, **types}
+    application.check()  # (it names a file that can't be read)
     files = {name: read(it) for name, it in given.items() if it is not None}
     if isinstance(stimuli, (str, os.PathLike)):
+        application.check(stimuli)
         files["stimuli.csv"] = read(stimuli)
     elif stimuli is not None:
         files["stimuli.csv"] = stimuli_text(stimuli)
+        call([*application.call_words("check", None, {})[0], "--stim", "-"], files["stimuli.csv"])
+    return files, list(types)
+
+
+def names_of_rules(application: Application, rules: FileName | None) -> tuple[str, ...]:
+    """Returns the names of rules, which may name only what the application has: it reports on a trace of no lines."""
+    if rules is None:
+        return ()
     with tempfile.TemporaryDirectory(prefix="fbsim-") as folder:
-        # (names in the rules are checked once, and not for each variant)
-        write(Path(folder, "stimuli.csv"), files.get("stimuli.csv", ""))
-        application.check(Path(folder, "stimuli.csv"))
         write(Path(folder, "trace"), "end 1\n")
-        if rules is not None:
-            check_rules(Trace(Path(folder, "trace"), application), rules)
-    lists = [list(it) for it in parameters.values()]
-    plan = Plan(files, list(types), horizon, steps, dict(latencies), tuple(parameters))
+        return tuple(it.rule for it in check_rules(Trace(Path(folder, "trace"), application), rules).verdicts)
+
+
+def planned(
+    application: Application, parameters: Mapping[str, Iterable[object]], stimuli: Stimuli, horizon: int,
+    steps: int | None, rules: FileName | None, latencies: Mapping[str, Between], sample: int | None, seed: int,
+    stops: bool, on_error: Literal["raise", "keep"], timeout: float | None
+) -> tuple[Plan, list[Chosen]]:
+    """Returns what a sweep runs, or raises the fault of what all variants have in common."""
+    if on_error not in ("raise", "keep"):
+        raise InputFault(f'on_error is {on_error!r}, and not "raise" or "keep"')
+    names = names_of_rules(application, rules)
+    files, types = files_of(application, stimuli, rules)
+    lists = [values_of(name, it) for name, it in parameters.items()]
+    wanted = {name: between(name, it) for name, it in latencies.items()}
+    whole(horizon, "horizon")
+    keeps = on_error == "keep"
+    plan = Plan(files, types, horizon, steps, wanted, tuple(parameters), names, seconds(timeout), keeps, stops)
     chosen = list(choose(lists, sample, seed))
     if not parameters or not chosen:
         raise InputFault("a sweep has at least one parameter, and each has at least one value")
-    plan.variant(chosen[0][1])
+    for name in parameters:
+        name in ("horizon", "steps") or place_of(name)
+    return plan, chosen
+
+
+def variants(
+    plan: Plan, chosen: Sequence[Chosen], executor: Executor | None, cache: FileName | None
+) -> Iterator[Variant]:
+    """Runs variants, and goes over them as they come, by an executor or by processes of this machine."""
+    kept = None if cache is None else Cache(cache)
     if executor is not None:
-        return Sweep(plan, run_all(plan, chosen, executor))
-    with ProcessPoolExecutor(len(os.sched_getaffinity(0))) as own:
-        return Sweep(plan, run_all(plan, chosen, own))
+        yield from run_all(plan, chosen, executor, kept)
+        return
+    count = len(os.sched_getaffinity(0)) if hasattr(os, "sched_getaffinity") else os.cpu_count()
+    try:
+        with ProcessPoolExecutor(count) as own:
+            yield from run_all(plan, chosen, own, kept)
+    except BrokenProcessPool as it:
+        what = "put the sweep under `if __name__ == \"__main__\":`, or give an executor"
+        raise Fault(f"a process of the sweep ended: {what}") from it
 
 
-def run_all(plan: Plan, chosen: Sequence[Chosen], executor: Executor) -> list[Variant]:
-    """Runs variants by an executor, with a progress bar if standard error is a terminal."""
+def run_all(plan: Plan, chosen: Sequence[Chosen], executor: Executor, cache: Cache | None) -> Iterator[Variant]:
+    """Runs variants by an executor, with a progress bar if standard error is a terminal. The cache takes what ends."""
+    left, keys, count = [], dict[int, str](), 0
+    for number, values in chosen:
+        if cache is not None and (key := cache.key(plan, values)) is not None:
+            keys[number] = key
+            if (row := cache.load(key, number, dict(zip(plan.names, values)))) is not None:
+                count += 1
+                yield row
+                continue
+        left.append((number, values))
     # (one call of the executor runs some variants)
-    size = max(1, min(20, len(chosen) // 32))
-    calls = [executor.submit(run_batch, plan, chosen[at:at + size]) for at in range(0, len(chosen), size)]
-    rows: list[Variant] = []
+    size = max(1, min(20, len(left) // 32))
+    calls = [executor.submit(run_batch, plan, left[at:at + size]) for at in range(0, len(left), size)]
+    waiting = set(calls)
     try:
         for it in as_completed(calls):
-            rows += it.result()
-            if sys.stderr.isatty():
-                bar = "#" * (30 * len(rows) // len(chosen))
-                print(f"\r[{bar:30}] {len(rows)} of {len(chosen)} variants", end="", file=sys.stderr, flush=True)
+            waiting.discard(it)
+            rows = stored(it, cache, keys)
+            for row in rows:
+                if row.fault and not plan.keeps_faults:
+                    raise row.fault
+                count += 1
+                show_progress(count, len(chosen))
+                yield row
     finally:
-        for it in calls:
-            it.cancel()
-        if sys.stderr.isatty():
-            print(file=sys.stderr)
-    return sorted(rows, key=lambda it: it.number)
+        for it in waiting:
+            if not it.cancel() and it.done() and not it.exception():
+                stored(it, cache, keys)
+        show_progress(None, 0)
+
+
+def stored(batch: Future[list[Variant]], cache: Cache | None, keys: Mapping[int, str]) -> list[Variant]:
+    """Returns the variants of a batch, which are in the cache then, but for faults."""
+    rows = batch.result()
+    for it in rows if cache is not None else []:
+        if it.fault is None and it.number in keys and cache is not None:
+            cache.store(keys[it.number], it)
+    return rows
+
+
+def show_progress(count: int | None, of: int) -> None:
+    """Draws a bar on standard error, if that is a terminal, or ends it."""
+    if not sys.stderr.isatty():
+        return
+    if count is None:
+        print(file=sys.stderr)
+    else:
+        print(f"\r[{'#' * (30 * count // of):30}] {count} of {of} variants", end="", file=sys.stderr, flush=True)

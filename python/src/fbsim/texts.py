@@ -15,7 +15,7 @@ import tomllib
 from operator import index
 from pathlib import Path
 
-from fbsim.faults import InputFault
+from fbsim.faults import FileFault, InputFault
 
 # A comment or a token of a declaration (docs/FORMATS.md, "Tokens").
 TOKEN = re.compile(r"(\(\*.*?\*\)|//[^\n]*)|[A-Za-z0-9_]+(?:#-?[A-Za-z0-9_]+)?|:=|[^\sA-Za-z0-9_]", re.DOTALL)
@@ -24,7 +24,10 @@ CONSTANT = re.compile(r"-?[0-9_]+|-?(?:2|8|16)#\w+|(?:T|TIME)#-?\w+|TRUE|FALSE",
 
 def read(path: str | os.PathLike[str]) -> str:
     """Reads a file. What is no UTF-8 in it is kept."""
-    return Path(path).read_bytes().decode("utf-8", "surrogateescape")
+    try:
+        return Path(path).read_bytes().decode("utf-8", "surrogateescape")
+    except OSError as it:
+        raise FileFault(it.strerror or "it can't be read", None, os.fspath(path)) from it
 
 
 def write(path: Path, text: str) -> None:
@@ -43,7 +46,7 @@ cd "$(dirname "$0")" || exit
 def write_script(folder: Path, about: str, *lines: str) -> str:
     """Writes run.sh, in which the environment variable FBSIM may name the program, and returns its first line."""
     text = SCRIPT.format(about=about.replace("\n", " "))
-    write(folder / "run.sh", text + "".join('"$FBSIM"' + it.removeprefix("fbsim") + "\n" for it in lines))
+    write(folder / "run.sh", text + "".join(re.sub("^fbsim ", '"$FBSIM" ', it) + "\n" for it in lines))
     (folder / "run.sh").chmod(0o755)
     return lines[0]
 
@@ -127,7 +130,10 @@ def with_latency(deployment: str, source: str, target: str, latency: object) -> 
     for kind in ("resource", "link"):
         for table in plan.get(kind, []):
             # (these texts, numbers and lists are in TOML as in JSON)
-            lines += [f"[[{kind}]]", *(f"{key} = {json.dumps(value)}" for key, value in table.items()), ""]
+            try:
+                lines += [f"[[{kind}]]", *(f"{key} = {json.dumps(value)}" for key, value in table.items()), ""]
+            except TypeError as fault:
+                raise InputFault(f"link.{source}->{target}: {latency!r} is no latency: {fault}") from fault
     return "\n".join(lines)
 
 
@@ -139,7 +145,7 @@ def with_stimulus(stimuli: str, number: str, key: str, value: object) -> str:
         raise InputFault(f"stimuli[{row}].{key}: the stimuli have the rows 0 to {len(table) - 2}")
     tick, event, values = table[row + 1]
     if key == "tick":
-        tick = str(value)
+        tick = str(whole(value, f"stimuli[{row}].tick"))
     else:
         words = dict(it.partition("=")[::2] for it in values.upper().split(" ") if it)
         words[key.upper()] = value_text(value)

@@ -248,7 +248,7 @@ def remove_own(path: str, owner: int) -> None:
         os.remove(path)
 
 
-def temporary(application: Application) -> tuple[Trace, IO[bytes]]:
+def temporary(application: Application | None) -> tuple[Trace, IO[bytes]]:
     """Returns a trace whose temporary file is removed with it, and the open file, in which its lines will be."""
     number, path = tempfile.mkstemp(prefix="fbsim-", suffix=".trace")
     trace = Trace(path, application)
@@ -308,9 +308,11 @@ def read_report(text: str, trace: Trace) -> Report:
     return Report(tuple(verdicts))
 
 
-def check_rules(trace: Trace, rules: str | os.PathLike[str], strict: bool = False) -> Report:
-    """Returns what the rules come to on a trace. If it has an application, rules may name only what that has."""
+def check_rules(
+    trace: Trace, rules: str | os.PathLike[str], strict: bool = False, folder: Path | None = None
+) -> Report:
+    """Returns what the rules, a file in a folder, come to on a trace. They may name only what its application has."""
     words = ["expect", os.fspath(rules), os.fspath(trace.path), "--why", *["--strict"] * strict]
     if trace.application is not None:
         words += ["--decl", *trace.application.words]
-    return read_report(call(words, statuses=(0, 1)).stdout, trace)
+    return read_report(call(words, statuses=(0, 1), folder=folder).stdout, trace)
