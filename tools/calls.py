@@ -299,7 +299,7 @@ HELP_OF_WAVE = (
     "Prints the location", "Example: fbsim wave ",
 )
 HELP_OF_EXPECT = (
-    "RULES", "in TOML", "1000 rules", "TRACE", "--decl", "all names of the rules", "--types", "--deploy", "--strict", "never applied, as broken", "--cut", "without a last line", "--junit", "JUnit XML",
+    "RULES", "in TOML", "1000 rules", "TRACE", "--decl", "all names of the rules", "--types", "--deploy", "--strict", "never applied, as broken", "--applied", "in how many of the traces", "--cut", "without a last line", "--junit", "JUnit XML",
     "Example: fbsim expect ",
 )
 HELP_OF_DIFF = ("first trace", "second trace", "--no-ticks", "--why", "Example: fbsim diff ")

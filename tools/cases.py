@@ -12,7 +12,7 @@ one. A group has
 - `declaration`, `deployment`, `stimuli` and `trace`: the texts that the program reads; the last three are optional
 - `block_types` and `more_block_types`: block types in files of their own, which are read before the declaration, in this order; both are optional
 - `options`: further words
-- `rules` and `trace` of `expect`, with a `declaration` and a `deployment` if its names must be known; `first` and `second` of `diff`
+- `rules` and `trace` of `expect`, with a `second_trace` if there are two, and a `declaration` and a `deployment` if its names must be known; `first` and `second` of `diff`
 - `commands` of `session`: the text on standard input; its answer is all that the session writes
 - `horizon`, `steps` and `form`: the numbers of a `run`; the other commands have none
 - `answer`: `accepted`, `same`, a refusal as the program prints it (`E20`, `E03 line 4`, `trace line 3`), or a trace, a dump, a report
@@ -196,6 +196,8 @@ def words_of(room, case):
     files = FILES_OF.get(case.command, FILES)
     named = [[*files[it], kept_text(room, case.fields[it])] for it in files if it in case.fields]
     words = [case.command, *(["-"] if files is FILES else []), *sum(named, []), *(["-"] if case.command in READERS else [])]
+    if case.command == "expect" and "second_trace" in case.fields:
+        words.append(kept_text(room, case.fields["second_trace"]))
     for field in [it for it in NUMBERS if it in case.fields and case.command == "run"]:
         words += [NUMBERS[field], case.fields[field].decode()]
     return words + case.fields.get("options", b"").decode().split() + ["--why"] * ("why" in case.fields) + ["--lint"] * ("lint" in case.fields)
@@ -211,6 +213,7 @@ def fault_of(room, case):
         for field, name in CALLED.items():
             if field in case.fields:
                 errors = errors.replace(kept_text(room, case.fields[field]).encode(), name)
+                written = written.replace(kept_text(room, case.fields[field]).encode(), name)
         came = (ran.returncode, written, errors)
         if came != is_to_be:
             return f"{case.place}, {' '.join([case.command, *way])}: expected {shown(*is_to_be)}; got {shown(*came)}"

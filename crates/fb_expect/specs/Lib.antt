@@ -3,10 +3,12 @@ pub mod Words
 pub mod Pairing
 pub mod Lists
 pub mod Stars
+pub mod Contradictions
 pub mod Written
 pub mod PatternFaults
 pub mod Drafts
 pub mod Needs
+pub mod OwnNames
 pub mod Reading
 pub mod Locations
 pub mod Fingerprints
@@ -26,7 +28,9 @@ pub mod Judging
 pub mod Laws
 pub mod Timeless
 pub mod Parting
+pub mod Shown
 pub mod Reports
 pub mod Suites
+pub mod Applied
 pub mod DifferenceReport
 pub mod Faults

@@ -5,7 +5,8 @@ use Rattle.toml.specs.Data.{Data, Members, get_member, as_bool, as_str, as_integ
 use Rattle.fb_expect.specs.Drafts.{RuleText, rule_text, rules_in, text_values, texts_of}
 use Rattle.fb_expect.specs.Lists.{each, may}
 use Rattle.fb_expect.specs.Needs.{has_patterns, names_of, need_of, rule_of, within}
-use Rattle.fb_expect.specs.Reading.{document, limited, most_bytes, most_rules}
+use Rattle.fb_expect.specs.OwnNames.{IsSecond, have_own_names}
+use Rattle.fb_expect.specs.Reading.{accepted, document, most_bytes, most_rules}
 use Rattle.fb_expect.specs.Refusals.{Outcome, ◌>>=◌, or_refuse, over_limit, no_document, bad_shape, bad_pattern, bad_number}
 use Rattle.fb_expect.specs.Words.{Text}
 use Rattle.fb_expect.specs.Written.{pattern_of}
@@ -120,16 +121,21 @@ abbrev pub IsPatternFault : RuleText → RuleKey → Type 0
 IsPatternFault t k =
     ((k ≡ first_key t.need) × (is_bad (Some t.first) ≡ true)) ⊎ (((k ≡ second_key t.need) × (is_bad t.second ≡ true)) ⊎ (((k ≡ key.To) × (is_bad t.third ≡ true)) ⊎ ((k ≡ key.Same) × (names_of t.same ≡ None))))
 
--- The number at the key of a rule that counts is the first out of its range, or else it is the most, and that may be under the least.
-abbrev pub IsCountKey : (least every : Option ℤ) → RuleKey → Type 0
-IsCountKey least every key.Least = may (within 0) least ≡ None
-IsCountKey least every key.Every = (is_some (may (within 0) least) ≡ true) × (may (within 1) every ≡ None)
-IsCountKey least every key.Most = (is_some (may (within 0) least) ≡ true) × (is_some (may (within 1) every) ≡ true)
-IsCountKey least every _ = ⊥
+-- the least and the length of a window are in their ranges
+abbrev pub AreCountable : (least every : Option ℤ) → Type 0
+AreCountable least every = (is_some (may (within 0) least) ≡ true) × (is_some (may (within 1) every) ≡ true)
+
+-- The number at the key of a rule that counts is the first out of its range. Or else it is the least without a most, which is 0, or the
+-- most, which may be under the least.
+abbrev pub IsCountKey : (least most every : Option ℤ) → RuleKey → Type 0
+IsCountKey least most every key.Least = (may (within 0) least ≡ None) ⊎ (AreCountable least every × (most ≡ None))
+IsCountKey least most every key.Every = (is_some (may (within 0) least) ≡ true) × (may (within 1) every ≡ None)
+IsCountKey least most every key.Most = AreCountable least every × (is_some most ≡ true)
+IsCountKey least most every _ = ⊥
 
 -- The number at the key is out of its range.
 abbrev pub IsNumberKey : NeedDraft → RuleKey → Type 0
-IsNumberKey (draft.Count least most every) k = IsCountKey least every k
+IsNumberKey (draft.Count least most every) k = IsCountKey least most every k
 IsNumberKey (draft.See n) k = k ≡ key.Within
 IsNumberKey (draft.Not n) k = k ≡ key.Within
 IsNumberKey (draft.Before n) k = k ≡ key.Within
@@ -177,6 +183,7 @@ abbrev pub IsAmongTexts : List RuleText → RulesLocation → Type 0
 IsAmongTexts ts (location.Pattern i k) = IsPatternAt ts i k
 IsAmongTexts ts (location.Number i k) = IsNumberAt ts i k
 IsAmongTexts ts location.Crowded = nat_lt most_rules (length ts) ≡ true
+IsAmongTexts ts (location.Repeated i) = IsSecond ts i
 IsAmongTexts ts _ = ⊥
 
 -- This is wrong with a document.
@@ -197,6 +204,7 @@ number_at location.Bytes = over_limit
 number_at location.Crowded = over_limit
 number_at (location.Document at) = no_document
 number_at location.List = bad_shape
+number_at (location.Repeated i) = bad_shape
 number_at (location.Rule i f) = bad_shape
 number_at (location.Pattern i k) = bad_pattern
 number_at (location.Number i k) = bad_number
@@ -208,4 +216,4 @@ refusal_of (Err n) = Some n
 
 -- what comes of rules whose texts are patterns
 abbrev pub numbers_judged : List RuleText → Outcome (List Rule)
-numbers_judged ts = or_refuse bad_number (each rule_of ts) >>= limited
+numbers_judged ts = or_refuse bad_number (each rule_of ts) >>= accepted (have_own_names ts)

@@ -1,5 +1,5 @@
 -- Rules with their numbers and patterns judged one by one (docs/FORMATS.md, "Rules over traces"; this project's own).
-use Rattle.std.specs.Prelude.{ℕ, ◌^◌, ℤ, pos, negsuc, Bool, true, false, ◌&&◌, if◌then◌else◌, nat_le, nat_lt, List, [], ◌++◌, map, Option, Some, None, is_some, option_map, unwrap_or}
+use Rattle.std.specs.Prelude.{ℕ, ◌^◌, ℤ, pos, negsuc, Bool, true, false, not, ◌&&◌, ◌==◌, if◌then◌else◌, nat_le, List, [], ◌++◌, map, Option, Some, None, is_some, option_map, unwrap_or}
 use Rattle.fb_types.specs.Names.{Name}
 use Rattle.fb_expect.specs.Drafts.{RuleText}
 use Rattle.fb_expect.specs.Lists.{◌>>=◌, each, may}
@@ -21,10 +21,13 @@ abbrev pub within : (least : ℕ) → ℤ → Option ℕ
 within least (pos n) = if nat_le least n && nat_le n (10 ^ 12) then Some n else None
 within least (negsuc n) = None
 
--- the least is not over the most
+-- the least is not over the most, and without a most it is not 0, which asks for nothing
+abbrev pub is_asked : (least : ℕ) → (most : Option ℕ) → Bool
+is_asked least None = not (least == 0)
+is_asked least (Some most) = nat_le least most
+
 abbrev pub count_need : (least : ℕ) → (most every : Option ℕ) → Option Need
-count_need least None every = Some (need.Count least None every)
-count_need least (Some most) every = if nat_lt most least then None else Some (need.Count least (Some most) every)
+count_need least most every = if is_asked least most then Some (need.Count least most every) else None
 
 unfoldable pub count_of : (least most every : Option ℤ) → Option Need
 count_of least most every = do

@@ -1,6 +1,7 @@
 -- The report of rules at traces, in the form of the Test Anything Protocol, version 14 (docs/FORMATS.md, "The report (TAP)"; this project's own).
-use Rattle.std.specs.Prelude.{ℕ, ◌+◌, Bool, true, false, not, ◌&&◌, ◌||◌, ◌==◌, if◌then◌else◌, nat_le, List, [], ◌∷◌, ◌++◌, Option, Some, None, codes, decimal}
+use Rattle.std.specs.Prelude.{ℕ, ◌+◌, ◌*◌, Bool, true, false, not, ◌&&◌, ◌||◌, ◌==◌, if◌then◌else◌, nat_le, List, [], ◌∷◌, ◌++◌, Option, Some, None, codes, decimal}
 use Rattle.std.specs.List.{list_all}
+use Rattle.fb_expect.specs.Shown.{shown}
 use Rattle.fb_expect.specs.Words.{Text}
 use Rattle.fb_expect.specs.declared.judging.Judged.{Judged}
 use Rattle.fb_expect.specs.declared.pattern.Pattern.{Pattern}
@@ -24,17 +25,17 @@ abbrev pub joined : List Text → Text
 joined [] = []
 joined (t ∷ ts) = t ++ joined ts
 
--- a byte as it is shown: a control character as a question mark
-abbrev pub printable : ℕ → ℕ
-printable b = if nat_le 32 b && not (b == 127) then b else 63
-
 -- a byte, with a backslash before a backslash and before a mark
 abbrev pub escape_byte : (mark : ℕ) → ℕ → Text
-escape_byte mark b = if b == 92 || b == mark then 92 ∷ printable b ∷ [] else printable b ∷ []
+escape_byte mark b = if b == 92 || b == mark then 92 ∷ b ∷ [] else b ∷ []
 
+abbrev pub escape_bytes : (mark : ℕ) → Text → Text
+escape_bytes mark [] = []
+escape_bytes mark (b ∷ z) = escape_byte mark b ++ escape_bytes mark z
+
+-- the same of a text as it is shown
 abbrev pub escape : (mark : ℕ) → Text → Text
-escape mark [] = []
-escape mark (b ∷ z) = escape_byte mark b ++ escape mark z
+escape mark z = escape_bytes mark (shown z)
 
 -- ---- Blocks
 
@@ -177,6 +178,10 @@ abbrev pub points : (strict : Bool) → Of → (before : ℕ) → List Rule → 
 points strict of before [] js = []
 points strict of before (r ∷ rs) [] = []
 points strict of before (r ∷ rs) (j ∷ js) = point strict of (before + 1) r j ++ points strict of (before + 1) rs js
+
+-- how many points there are: one for each trace and rule, and with this one more for each rule
+abbrev pub all_points : (rules traces : ℕ) → (is_applied : Bool) → ℕ
+all_points rules traces is_applied = if is_applied then rules * traces + rules else rules * traces
 
 -- The version, and how many points follow.
 unfoldable pub plan : ℕ → Text

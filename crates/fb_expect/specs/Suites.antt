@@ -1,6 +1,7 @@
 -- The report of rules at traces as JUnit XML: a suite for each trace, a case for each rule (docs/FORMATS.md, "The report (JUnit)"; this project's own).
 use Rattle.std.specs.Prelude.{ℕ, ◌+◌, Bool, true, false, not, ◌&&◌, ◌||◌, ◌==◌, if◌then◌else◌, nat_le, nat_lt, List, [], ◌∷◌, ◌++◌, length, count_by, codes, decimal}
 use Rattle.fb_expect.specs.Reports.{is_well, joined, message_of}
+use Rattle.fb_expect.specs.Shown.{shown}
 use Rattle.fb_expect.specs.Words.{Text}
 use Rattle.fb_expect.specs.declared.judging.Judged.{Judged}
 use Rattle.fb_expect.specs.declared.rule.Rule.{Rule}
@@ -10,18 +11,22 @@ use Rattle.fb_expect.specs.declared.verdict.Verdict.TheVariants.{Holds, Broken, 
 
 -- ---- Texts
 
--- a byte in a value in quotes: the signs of XML as entities, control characters as question marks
+-- a byte in a value in quotes: the signs of XML as entities
 abbrev pub xml_byte : ℕ → Text
 xml_byte b =
     if b == 38 then codes "&amp;"
     else if b == 60 then codes "&lt;"
     else if b == 62 then codes "&gt;"
     else if b == 34 then codes "&quot;"
-    else if nat_lt b 32 || b == 127 then codes "?" else b ∷ []
+    else b ∷ []
 
+abbrev pub xml_bytes : Text → Text
+xml_bytes [] = []
+xml_bytes (b ∷ z) = xml_byte b ++ xml_bytes z
+
+-- a text as it is shown, in such a value
 abbrev pub xml : Text → Text
-xml [] = []
-xml (b ∷ z) = xml_byte b ++ xml z
+xml z = xml_bytes (shown z)
 
 -- ---- Cases
 

@@ -1,10 +1,11 @@
 -- Patterns as they are written: `RESOURCE > PATH.EVENT VAR=value ..` (docs/FORMATS.md, "Rules over traces"; this project's own).
-use Rattle.std.specs.Prelude.{ℕ, ◌-◌, Bool, true, false, not, ◌&&◌, ◌||◌, ◌==◌, if◌then◌else◌, nat_le, nat_eq, List, [], ◌∷◌, length, map, filter, take, drop, position, Option, Some, None, option_map, codes}
+use Rattle.std.specs.Prelude.{ℕ, ◌-◌, Bool, true, false, not, ◌&&◌, ◌||◌, ◌==◌, if◌then◌else◌, nat_le, nat_eq, List, [], ◌∷◌, length, map, filter, take, drop, position, Option, Some, None, is_some, option_map, codes}
 use Rattle.std.specs.List.{slice_split}
 use Rattle.std.specs.Option.{option_map_or}
 use Rattle.std.specs.Str.{bytes_eq}
 use Rattle.fb_types.specs.declared.value.Value.{Value}
 use Rattle.fb_types.specs.declared.value.Value.TheVariants as value
+use Rattle.fb_expect.specs.Contradictions.{impossible}
 use Rattle.fb_expect.specs.Lists.{◌>>=◌, each}
 use Rattle.fb_expect.specs.Words.{Text, after_front, before, is_name, is_path, is_port, value_of}
 use Rattle.fb_expect.specs.declared.pattern.Comparison.{Comparison}
@@ -131,13 +132,13 @@ condition_of w = option_map condition (condition_parts w)
 
 -- ---- Patterns
 
--- The pattern of a resource, a sign, a port and conditions. The text is that in which they are.
+-- The pattern of a resource, a sign, a port and conditions, of which some values meet all. The text is that in which they are.
 unfoldable pub pattern_with : (resource sign port : Text) → List Text → (text : Text) → Option Pattern
 pattern_with resource sign port conditions text = do
   way ← way_of sign
   p ← port_of port
   if is_resource resource
-      then (each condition_of conditions >>= λ cs.
+      then (each condition_of conditions >>= λ cs. if is_some (impossible cs) then None else
       Some (record { resource = resource_of resource; way = way; port = record { text = p.0; form = p.1 }; conditions = cs; text = text }))
       else None
 

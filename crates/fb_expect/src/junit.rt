@@ -5,6 +5,7 @@ ghost use Rattle.fb_expect.specs.Suites as spec;
 
 use crate::judging::Judged;
 use crate::rule::Rule;
+use crate::shown::shown;
 use crate::tap::{digits_of, is_well, join, message_of, put_all};
 use crate::verdict::{Breach, Verdict};
 use std::alloc::{AllocError, Global};
@@ -15,7 +16,7 @@ pub const SUITES_HEAD: &[u8] = b"<?xml version=\"1.0\" encoding=\"UTF-8\"?>\n<te
 /// What a report ends with.
 pub const SUITES_TAIL: &[u8] = b"</testsuites>\n";
 
-/// Appends a byte of a value in quotes: the signs of XML as entities, control characters as question marks.
+/// Appends a byte of a value in quotes: the signs of XML as entities.
 fn put_xml_byte(text: &mut Vec<u8>, byte: u8) -> Result<(), AllocError>
     ensures { OnOk result (text.new.items ≡ text.old.items ++ spec.xml_byte byte) }
 {
@@ -31,22 +32,27 @@ fn put_xml_byte(text: &mut Vec<u8>, byte: u8) -> Result<(), AllocError>
     if byte == b'"' {
         return text.extend_from_slice(b"&quot;");
     }
-    if byte < 32 || byte == 127 {
-        return text.extend_from_slice(b"?");
-    }
     text.push(byte)?;
     Ok(())
 }
 
-/// A text as a value in quotes.
-fn xml(alloc: Global, part: &[u8]) -> Result<Vec<u8>, AllocError>
-    ensures { IfOk result (λ t. t.items ≡ spec.xml part.now) }
+/// A text that is shown as a value in quotes.
+fn xml_bytes(alloc: Global, part: &[u8]) -> Result<Vec<u8>, AllocError>
+    ensures { IfOk result (λ t. t.items ≡ spec.xml_bytes part.now) }
 {
     let mut text = Vec::with_capacity(alloc, part.len())?;
     for byte in part {
         put_xml_byte(&mut text, *byte)?;
     }
     Ok(text)
+}
+
+/// A text as a value in quotes, with a question mark for each control character, U+FFFE and U+FFFF.
+pub(crate) fn xml(alloc: Global, part: &[u8]) -> Result<Vec<u8>, AllocError>
+    ensures { IfOk result (λ t. t.items ≡ spec.xml part.now) }
+{
+    let part = shown(alloc, part)?;
+    xml_bytes(alloc, part.as_slice())
 }
 
 /// How a case failed that broke at a line.
@@ -193,7 +199,7 @@ fn counts_text(
 
 /// Appends what a suite begins with that has this many cases, failures and skips.
 #[tactic(auto, unfolding(crate::specs::Suites::suite_head_by))]
-fn put_suite_head(
+pub(crate) fn put_suite_head(
     alloc: Global,
     text: &mut Vec<u8>,
     trace: &str,

@@ -13,9 +13,10 @@
 //! - `error` and `fault`;
 //! - `rule`, `pattern` and `port_pattern`: the data of rules;
 //! - `words`, `number`, `names` and `lines`: parts of texts;
-//! - `document` and `rules`: how rules are read;
+//! - `document`, `own_names` and `rules`: how rules are read;
 //! - `location`: where they are refused;
 //! - `event`, `entry` and `ending`: the meaning of a line;
+//! - `contradiction`: conditions that no value meets;
 //! - `stars` and `meeting`: whether a line meets a pattern;
 //! - `hit`, `watch` and `verdict`: the state and the answer of a rule that judges each line by itself;
 //! - `alike` and `pairs`: those of a rule that pairs lines;
@@ -23,11 +24,13 @@
 //! - `sight`: what a trace never has;
 //! - `fingerprint` and `port_set`: which lines are passed over;
 //! - `judging`: a trace line by line; `laws`: what its definitions have in common;
-//! - `tap` and `junit`: the reports;
+//! - `shown`, `tap` and `junit`: the reports; `applied`: in how many traces each rule applied;
 //! - `timeless`, `parting` and `difference_report`: where two texts first differ.
 #![tactic(auto)]
 
 mod alike;
+pub mod applied;
+pub mod contradiction;
 pub mod difference_report;
 mod document;
 mod ending;
@@ -45,6 +48,7 @@ pub mod location;
 pub mod meeting;
 mod names;
 mod number;
+mod own_names;
 mod pairs;
 pub mod parting;
 pub mod pattern;
@@ -52,6 +56,7 @@ pub mod port_pattern;
 mod port_set;
 pub mod rule;
 pub mod rules;
+mod shown;
 pub mod sight;
 mod stars;
 mod tally;
@@ -61,6 +66,8 @@ pub mod verdict;
 mod watch;
 mod words;
 
+pub use applied::{count_trace, have_applied, no_counts, put_applied, put_applied_suite};
+pub use contradiction::{has_number_within, has_truth};
 pub use difference_report::difference_text;
 pub use entry::Entry;
 pub use error::{RulesError, UNKNOWN_NAME};

@@ -7,9 +7,11 @@ ghost use Rattle.fb_expect.specs.Drafts.{text_of};
 ghost use Rattle.fb_expect.specs.Locations as spec;
 ghost use Rattle.fb_expect.specs.Needs as needs;
 ghost use Rattle.fb_expect.specs.Reading as reading;
-ghost use Rattle.fb_expect.specs.Refusals.{bad_pattern};
+ghost use Rattle.fb_expect.specs.OwnNames.{have_own_names};
+ghost use Rattle.fb_expect.specs.Refusals.{bad_pattern, bad_shape};
 
 use crate::document::{Draft, NeedDraft, draft_of, drafts_of, rules_in, text_values};
+use crate::own_names::second_of_name;
 use crate::rule::Need;
 use crate::rules::{MOST_RULES, has_names, is_pattern, may_be_pattern, may_within, need_of};
 use fb_types::MOST_BYTES;
@@ -68,6 +70,8 @@ pub enum RulesLocation {
     Number { rule: usize, key: RuleKey },
     /// There are too many rules (E40).
     Crowded,
+    /// The name of a rule is that of a rule before it (E42).
+    Repeated { rule: usize },
 }
 
 impl RulesLocation {
@@ -78,7 +82,7 @@ impl RulesLocation {
         match self {
             RulesLocation::Bytes | RulesLocation::Crowded => 40,
             RulesLocation::Document(_) => 41,
-            RulesLocation::List | RulesLocation::Rule { .. } => 42,
+            RulesLocation::List | RulesLocation::Rule { .. } | RulesLocation::Repeated { .. } => 42,
             RulesLocation::Pattern { .. } => 43,
             RulesLocation::Number { .. } => 44,
         }
@@ -348,15 +352,17 @@ fn pattern_location(
     Ok(None)
 }
 
-/// The key of the first number of a rule that counts which is out of its range, or that of the most, which is under the
-/// least.
-fn count_key(least: Option<i64>, every: Option<i64>) -> RuleKey
-    ensures { spec.IsCountKey least every result }
+/// The key of the first number of a rule that counts which is out of its range. Or else that of the least without a
+/// most, which is 0, or of the most, which is under the least.
+fn count_key(least: Option<i64>, most: Option<i64>, every: Option<i64>) -> RuleKey
+    ensures { spec.IsCountKey least most every result }
 {
     if may_within(0, least).is_none() {
         RuleKey::Least
     } else if may_within(1, every).is_none() {
         RuleKey::Every
+    } else if most.is_none() {
+        RuleKey::Least
     } else {
         RuleKey::Most
     }
@@ -367,7 +373,7 @@ fn number_key_of(need: NeedDraft) -> RuleKey
     ensures { spec.IsNumberKey need result }
 {
     match need {
-        NeedDraft::Count { least, every, .. } => count_key(least, every),
+        NeedDraft::Count { least, most, every } => count_key(least, most, every),
         _ => RuleKey::Within,
     }
 }
@@ -383,7 +389,19 @@ fn number_key(draft: &Draft<'_>) -> Option<RuleKey>
     }
 }
 
-/// The first rule with a number out of its range, or that there are too many rules.
+/// The first rule with the name of a rule before it.
+fn name_location(drafts: &[Draft<'_>]) -> Option<RulesLocation>
+    ensures among { IfSome result (spec.IsAmongTexts (map text_of drafts.now)) }
+    ensures exact { option_map spec.number_at result ≡ (if have_own_names (map text_of drafts.now) then None else Some bad_shape) }
+{
+    match second_of_name(drafts) {
+        Some(rule) => Some(RulesLocation::Repeated { rule }),
+        None => None,
+    }
+}
+
+/// The first rule with a number out of its range, or that there are too many rules, or the first with the name of a rule
+/// before it.
 fn number_location(drafts: &[Draft<'_>]) -> Option<RulesLocation>
     ensures among { IfSome result (spec.IsAmongTexts (map text_of drafts.now)) }
     ensures exact { list_all needs.has_patterns (map text_of drafts.now) ≡ true → option_map spec.number_at result ≡ spec.refusal_of (spec.numbers_judged (map text_of drafts.now)) }
@@ -396,7 +414,7 @@ fn number_location(drafts: &[Draft<'_>]) -> Option<RulesLocation>
     if MOST_RULES < drafts.len() {
         Some(RulesLocation::Crowded)
     } else {
-        None
+        name_location(drafts)
     }
 }
 

@@ -38,7 +38,7 @@ fn compares_whole(comparison: Comparison, found: i128, required: i128) -> bool
 
 /// Whether a value compares so with the given one. Values of two kinds do not.
 #[tactic(auto, unfolding(crate::specs::Patterns::compares))]
-fn compares(comparison: Comparison, found: Value, required: Value) -> bool
+pub(crate) fn compares(comparison: Comparison, found: Value, required: Value) -> bool
     ensures { result ≡ spec.compares comparison found required }
 {
     match (found, required) {

@@ -7,6 +7,7 @@ ghost use Rattle.fb_expect.specs.Needs as needs;
 ghost use Rattle.fb_expect.specs.PatternFaults as faults;
 ghost use Rattle.fb_expect.specs.Written as spec;
 
+use crate::contradiction::impossible;
 use crate::names::{is_name, is_path, is_port};
 use crate::number::value_of;
 use crate::port_pattern::{PortForm, PortPattern};
@@ -310,6 +311,9 @@ fn pattern_with(
     let Some(conditions) = conditions_of(alloc, conditions)? else {
         return Ok(None);
     };
+    if impossible(conditions.as_slice()).is_some() {
+        return Ok(None);
+    }
     Ok(Some(Pattern {
         resource: resource_of(alloc, resource)?,
         way,
@@ -452,9 +456,12 @@ pub enum PatternPart {
     Sign,
     Port,
     Condition,
+    /// No value of a variable meets all conditions on it. The word is its name.
+    Variable,
 }
 
-/// What is wrong with a text that is no pattern: the first word that is wrong, in upper case, and what it must be.
+/// What is wrong with a text that is no pattern: the first word that is wrong, in upper case, and what it must be; or
+/// the first variable of which no value meets all conditions.
 #[derive(Drop)]
 pub struct PatternFault {
     pub part: PatternPart,
@@ -484,6 +491,35 @@ fn condition_fault(alloc: Global, words: &[&[u8]]) -> Result<Option<PatternFault
     Ok(None)
 }
 
+/// The first variable of which no value meets all of these conditions.
+fn variable_fault(
+    alloc: Global,
+    conditions: &[Condition],
+) -> Result<Option<PatternFault>, AllocError>
+    ensures { IfOk result (λ o. o ≡ faults.variable_fault conditions.now) }
+{
+    match impossible(conditions) {
+        Some(condition) => {
+            let name = condition.variable.as_bytes();
+            Ok(Some(fault_at(alloc, PatternPart::Variable, name)?))
+        }
+        None => Ok(None),
+    }
+}
+
+/// The first word that is no condition, or else the first variable of which no value meets all conditions.
+fn conditions_fault(alloc: Global, words: &[&[u8]]) -> Result<Option<PatternFault>, AllocError>
+    ensures { IfOk result (λ o. o ≡ faults.conditions_fault (map (λ w. w.now) words.now)) }
+{
+    if let Some(fault) = condition_fault(alloc, words)? {
+        return Ok(Some(fault));
+    }
+    match conditions_of(alloc, words)? {
+        Some(conditions) => variable_fault(alloc, conditions.as_slice()),
+        None => Ok(None),
+    }
+}
+
 /// What is wrong with the words of a text that is no pattern.
 #[tactic(auto, unfolding(crate::specs::PatternFaults::fault_among))]
 fn words_fault(alloc: Global, words: &[&[u8]]) -> Result<Option<PatternFault>, AllocError>
@@ -501,7 +537,7 @@ fn words_fault(alloc: Global, words: &[&[u8]]) -> Result<Option<PatternFault>, A
     if port_of(port).is_none() {
         return Ok(Some(fault_at(alloc, PatternPart::Port, port)?));
     }
-    condition_fault(alloc, conditions)
+    conditions_fault(alloc, conditions)
 }
 
 /// What is wrong with a text that is no pattern. Nothing is, exactly if the text is a pattern.

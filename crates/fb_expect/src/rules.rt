@@ -13,6 +13,7 @@ ghost use Rattle.fb_expect.specs.Written as written;
 use crate::document::{Draft, NeedDraft, drafts_of, text_or_none};
 use crate::error::RulesError;
 use crate::names::is_name;
+use crate::own_names::second_of_name;
 use crate::pattern::{Pattern, in_upper, pattern_of};
 use crate::rule::{Need, Pairing, Rule};
 use fb_types::{Items, LATEST_TICK, MOST_BYTES, Name};
@@ -66,16 +67,25 @@ pub(crate) fn may_within(least: u64, number: Option<i64>) -> Option<Option<u64>>
     }
 }
 
-/// What a rule that counts asks for, where the least is not over the most.
+/// Whether the least is not over the most. Without a most it is not 0, which asks for nothing.
+fn is_asked(least: u64, most: Option<u64>) -> bool
+    ensures { result ≡ needs.is_asked least most }
+{
+    match most {
+        Some(most) => least <= most,
+        None => least != 0,
+    }
+}
+
+/// What a rule that counts asks for, if it asks for something.
 fn count_need(least: u64, most: Option<u64>, every: Option<u64>) -> Option<Need>
     ensures { result ≡ needs.count_need least most every }
 {
-    if let Some(most) = most {
-        if most < least {
-            return None;
-        }
+    if is_asked(least, most) {
+        Some(Need::Count { least, most, every })
+    } else {
+        None
     }
-    Some(Need::Count { least, most, every })
 }
 
 /// What a rule that counts asks for, where its numbers are in range.
@@ -311,7 +321,7 @@ fn each_rule(alloc: Global, drafts: &[Draft<'_>]) -> Result<Option<Items<Rule>>,
     Ok(Some(rules))
 }
 
-/// The rules of drafts. All patterns are judged before any number is.
+/// The rules of drafts. All patterns are judged before any number is, and names last.
 #[tactic(auto, unfolding(crate::specs::Reading::rules_of_drafts))]
 fn rules_of_drafts(alloc: Global, drafts: &[Draft<'_>]) -> Result<Items<Rule>, RulesError>
     ensures { Answers (λ rs. rs) (spec.rules_of_drafts (map text_of drafts.now)) result }
@@ -324,6 +334,9 @@ fn rules_of_drafts(alloc: Global, drafts: &[Draft<'_>]) -> Result<Items<Rule>, R
     };
     if MOST_RULES < rules.len() {
         return Err(RulesError::Limit);
+    }
+    if second_of_name(drafts).is_some() {
+        return Err(RulesError::Shape);
     }
     Ok(rules)
 }
@@ -349,6 +362,7 @@ fn of_document(alloc: Global, keys: &Table) -> Result<Items<Rule>, RulesError>
 /// - E43: a text that is no pattern, or one of `same` that is no name.
 /// - E44: a number out of its range.
 /// - E40: more than 1,000 rules.
+/// - E42: a second rule of one name.
 ///
 /// `Memory` if memory runs out.
 #[tactic(auto, unfolding(crate::specs::Reading::rules_of))]

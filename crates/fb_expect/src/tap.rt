@@ -6,6 +6,7 @@ ghost use Rattle.fb_expect.specs.Reports as spec;
 use crate::judging::Judged;
 use crate::pattern::Pattern;
 use crate::rule::{Need, Rule};
+use crate::shown::shown;
 use crate::sight::{Sight, Sights};
 use crate::verdict::{Breach, Fault, Verdict};
 use std::alloc::{AllocError, Global};
@@ -36,17 +37,6 @@ pub(crate) fn digits_of(alloc: Global, number: u128) -> Result<String, AllocErro
     format!(in alloc; "{number}")
 }
 
-/// A byte as it is shown: a control character as a question mark.
-fn printable(byte: u8) -> u8
-    ensures { result ≡ spec.printable byte }
-{
-    if 32 <= byte && byte != 127 {
-        byte
-    } else {
-        b'?'
-    }
-}
-
 /// Puts a byte after a text, with a backslash before a backslash and before a mark.
 fn put_escaped(text: &mut Vec<u8>, byte: u8, mark: u8) -> Result<(), AllocError>
     ensures { OnOk result (text.new.items ≡ text.old.items ++ spec.escape_byte mark byte) }
@@ -54,19 +44,27 @@ fn put_escaped(text: &mut Vec<u8>, byte: u8, mark: u8) -> Result<(), AllocError>
     if byte == b'\\' || byte == mark {
         text.push(b'\\')?;
     }
-    text.push(printable(byte))?;
+    text.push(byte)?;
     Ok(())
 }
 
-/// A text with a backslash before each backslash and each mark, and a question mark for each control character.
-fn escape(alloc: Global, part: &[u8], mark: u8) -> Result<Vec<u8>, AllocError>
-    ensures { IfOk result (λ t. t.items ≡ spec.escape mark part.now) }
+/// A text with a backslash before each backslash and each mark.
+fn escape_bytes(alloc: Global, part: &[u8], mark: u8) -> Result<Vec<u8>, AllocError>
+    ensures { IfOk result (λ t. t.items ≡ spec.escape_bytes mark part.now) }
 {
     let mut text = Vec::with_capacity(alloc, part.len())?;
     for byte in part {
         put_escaped(&mut text, *byte, mark)?;
     }
     Ok(text)
+}
+
+/// The same of a text as it is shown, with a question mark for each control character, U+FFFE and U+FFFF.
+pub(crate) fn escape(alloc: Global, part: &[u8], mark: u8) -> Result<Vec<u8>, AllocError>
+    ensures { IfOk result (λ t. t.items ≡ spec.escape mark part.now) }
+{
+    let part = shown(alloc, part)?;
+    escape_bytes(alloc, part.as_slice(), mark)
 }
 
 /// A line of a block: its key, and a text in quotes.
@@ -123,7 +121,7 @@ fn trace_mark(alloc: Global, of: Of<'_>) -> Result<Vec<u8>, AllocError>
 }
 
 /// The first word of a point.
-fn first_word(is_well: bool) -> &'static [u8]
+pub(crate) fn first_word(is_well: bool) -> &'static [u8]
     ensures { result.now ≡ spec.first_word is_well }
 {
     if is_well { b"ok " } else { b"not ok " }
@@ -263,7 +261,7 @@ fn can_wait(need: Need) -> bool
 }
 
 /// Whether the last P is not decided.
-fn is_last_open(need: Need, verdict: Verdict) -> bool
+pub(crate) fn is_last_open(need: Need, verdict: Verdict) -> bool
     ensures { result ≡ spec.is_last_open need verdict }
 {
     match verdict {
@@ -401,19 +399,37 @@ fn product(rules: usize, traces: usize) -> u128
 }
 
 /// The count of points of all rules at this many traces.
-fn point_count(rules: &[Rule], traces: usize) -> u128
+pub(crate) fn point_count(rules: &[Rule], traces: usize) -> u128
     ensures count { result ≡ length rules.now * traces }
     ensures room { result + length rules.now < 2 ^ 128 }
 {
     product(rules.len(), traces)
 }
 
-/// The beginning of a report of all rules at this many traces: the version and the count of points.
-#[tactic(auto, unfolding(crate::specs::Reports::plan))]
-pub fn plan(alloc: Global, rules: &[Rule], traces: usize) -> Result<Vec<u8>, AllocError>
-    ensures { IfOk result (λ t. t.items ≡ spec.plan (length rules.now * traces)) }
+/// The count of points of all rules at this many traces, and of one more for each rule if `is_applied`.
+fn all_points(rules: &[Rule], traces: usize, is_applied: bool) -> u128
+    ensures { result ≡ spec.all_points (length rules.now) traces is_applied }
 {
-    let digits = digits_of(alloc, point_count(rules, traces))?;
+    let count = point_count(rules, traces);
+    if is_applied {
+        count + rules.len() as u128
+    } else {
+        count
+    }
+}
+
+/// The beginning of a report of all rules at this many traces: the version and the count of points. If `is_applied`, a
+/// further point for each rule comes after them.
+#[tactic(auto, unfolding(crate::specs::Reports::plan))]
+pub fn plan(
+    alloc: Global,
+    rules: &[Rule],
+    traces: usize,
+    is_applied: bool,
+) -> Result<Vec<u8>, AllocError>
+    ensures { IfOk result (λ t. t.items ≡ spec.plan (spec.all_points (length rules.now) traces is_applied)) }
+{
+    let digits = digits_of(alloc, all_points(rules, traces, is_applied))?;
     join(alloc, &[b"TAP version 14\n1..", digits.as_bytes(), b"\n"])
 }
 

@@ -220,16 +220,16 @@ pub static OF_RULES: [Explanation; 6] = [
     },
     Explanation {
         name: "E42",
-        meaning: "A rule lacks a key, has an unknown one, or has a value of another kind; or there is no rule.",
+        meaning: "A rule lacks a key, has an unknown one, has a value of another kind, or has the name of a rule before it; or there is no rule.",
         example: "`after` with both `see` and `not`, or with neither.",
         other: "`within = \"10\"`: a number has no quotes.",
         look: "Each `[[rule]]` has a `name`, and the keys of one form: `after`, `within`, and `see` (with `same` and `each` or without) or `not`; `before`, `within`, `see`; `never`, with `from` and `to` or without; `count`, with `least` or `most` or both, and with `every` or without.",
     },
     Explanation {
         name: "E43",
-        meaning: "A text of a rule is not a pattern.",
+        meaning: "A text of a rule is not a pattern, or no value of a variable meets all its conditions.",
         example: "`VALVE.CLOSED`: a resource and a sign come first, as in `* < VALVE.CLOSED`.",
-        other: "`R1 > LAMP.SET ON = TRUE`: a condition has no blanks.",
+        other: "`R1 > LAMP.SET ON = TRUE`: a condition has no blanks. `MODE=1 MODE=2`: a line must meet all conditions.",
         look: "A pattern is `RESOURCE > PATH.EVENT VAR=value ..`: a name or `*`; `>`, `<` or `*`; names joined by full stops, at least two, with one `*` in each at most, or `*` for the first or the last ones; then conditions. TRUE and FALSE are compared only by `=` and `<>`.",
     },
     Explanation {
@@ -237,14 +237,14 @@ pub static OF_RULES: [Explanation; 6] = [
         meaning: "A number of a rule is out of its range.",
         example: "`within = -1`: use `before` for a Q before a P.",
         other: "`least = 3` with `most = 2`.",
-        look: "`within`, `least` and `most` are 0 to 1,000,000,000,000, `every` is 1 to that, and `least` is not over `most`.",
+        look: "`within`, `least` and `most` are 0 to 1,000,000,000,000, `every` is 1 to that, and `least` is not over `most`. Without `most` it is not 0, which asks for nothing.",
     },
     Explanation {
         name: "E45",
-        meaning: "The declared system has no event that matches a pattern of a rule, or none with all its variables.",
+        meaning: "The declared system has no event that matches a pattern of a rule, or none whose variables can meet its conditions.",
         example: "`R1 > VALVE.CLOSE` where `VALVE` is in `R2`.",
-        other: "`* < VALVE.CLOSED Q=TRUE` where `Q` is not WITH the event.",
-        look: "Typing errors; the resource of the instance; `>` for an event output, or `<` for an event input. Without `--decl` the report lists the patterns that no line of a trace matches.",
+        other: "`* < VALVE.CLOSED Q=TRUE` where `Q` is not WITH the event, or is a number.",
+        look: "Typing errors; the resource of the instance; `>` for an event output, or `<` for an event input; the types of the variables. WARM and STOP of an E_RESTART never come. Without `--decl` the report lists the patterns that no line of a trace matches.",
     },
 ];
 

@@ -1,5 +1,5 @@
 -- What a call that holds rules against traces does (docs/FORMATS.md, "Rules over traces"; this project's own).
-use Rattle.std.specs.Prelude.{option_map, ◌≡◌, ◌⊎◌, ℕ, ◌+◌, ◌*◌, ◌<◌, ◌≤◌, Bool, true, false, if◌then◌else◌, nat_lt, List, [], ◌∷◌, ◌++◌, length, map, Option, Some, None, IfOk, IfSome, Ok, Err, codes, string_bytes}
+use Rattle.std.specs.Prelude.{option_map, ◌≡◌, ◌⊎◌, ℕ, ◌+◌, ◌*◌, ◌<◌, ◌≤◌, Bool, true, false, ◌&&◌, if◌then◌else◌, nat_lt, List, [], ◌∷◌, ◌++◌, length, map, Option, Some, None, IfOk, IfSome, Ok, Err, codes, string_bytes}
 use Rattle.std.specs.Borrow.{Bor}
 use Rattle.std.specs.List.{list_all}
 use Rattle.std.specs.Io.KnownBytes.{Appends}
@@ -7,11 +7,12 @@ use Rattle.clap.specs.Words.{Text}
 use Rattle.fb_types.specs.Headline.{Inputs, system_of}
 use Rattle.fb_sim.specs.Given.{Given}
 use Rattle.fb_sim.specs.Serial.{Declares}
+use Rattle.fb_expect.specs.Applied.{applied_points, applied_suite, counts_of, have_applied}
 use Rattle.fb_expect.specs.Judging as judging
 use Rattle.fb_expect.specs.Judging.{Judges}
 use Rattle.fb_expect.specs.Locations.{IsLocation, number_at, refusal_of}
 use Rattle.fb_expect.specs.Reading.{most_bytes, rules_of}
-use Rattle.fb_expect.specs.Reports.{are_well, plan, points}
+use Rattle.fb_expect.specs.Reports.{all_points, are_well, plan, points}
 use Rattle.fb_expect.specs.Suites.{suite, suites_head, suites_tail}
 use Rattle.fb_expect.specs.declared.fault.TraceError.{TraceError}
 use Rattle.fb_expect.specs.declared.fault.TraceError.TheVariants as trace_error
@@ -198,23 +199,38 @@ points_of x rules before (t ∷ ts) (js ∷ all) = part_of x rules before t js +
 
 -- what the report begins with: how many points there are, or the head of the suites; and what it ends with
 abbrev pub head_of : Expect → List Rule → Text
-head_of x rules = if x.is_junit then suites_head else plan (length rules * length x.traces.items)
+head_of x rules = if x.is_junit then suites_head else plan (all_points (length rules) (length x.traces.items) x.is_applied)
 
 abbrev pub tail_of : Expect → Text
 tail_of x = if x.is_junit then suites_tail else []
 
+-- what it says of the traces in which rules applied, where that is asked for: a point for each rule, or a suite
+abbrev pub counted_of : Expect → List Rule → (counts : List ℕ) → Text
+counted_of x rules counts =
+    if x.is_junit then applied_suite rules counts (length x.traces.items)
+    else applied_points (length rules * length x.traces.items) rules counts (length x.traces.items)
+
+abbrev pub applied_of : Expect → List Rule → (counts : List ℕ) → Text
+applied_of x rules counts = if x.is_applied then counted_of x rules counts else []
+
 -- The report, trace by trace.
 abbrev pub report_of : Expect → List Rule → List (List Judged) → Text
-report_of x rules all = head_of x rules ++ (points_of x rules 0 x.traces.items all ++ tail_of x)
+report_of x rules all =
+    head_of x rules ++ (points_of x rules 0 x.traces.items all ++ (applied_of x rules (counts_of rules all) ++ tail_of x))
 
 abbrev pub all_well : Expect → List (List Judged) → Bool
 all_well x all = list_all (are_well x.is_strict) all
 
--- All traces were held against the rules, and this is the report. It says whether the rules are well at all of them.
+-- whether each rule applied in one trace or more, where that is asked for
+abbrev pub all_applied : Expect → List Rule → List (List Judged) → Bool
+all_applied x rules all = if x.is_applied then have_applied rules all else true
+
+-- All traces were held against the rules, and this is the report. It says whether the rules are well at all of them, and applied where they
+-- must.
 pub record Reports {S : Type 0} (opens : Opening S) (x : Expect) (rules : List Rule) (old new : S) (well : Bool) (text : Text) : Type 0 where
   pub all : List (List Judged)
   pub held : AreHeld opens x rules old new (names_of x) all
-  pub are_well : all_well x all ≡ well
+  pub are_well : (all_well x all && all_applied x rules all) ≡ well
   pub report : text ≡ report_of x rules all
 
 -- Those before this trace were held against the rules.
@@ -306,22 +322,22 @@ AreUnheld opens x rules old new note (Write n) = ⊥
 AreUnheld opens x rules old new note (Line message) = ⊥
 AreUnheld opens x rules old new note BadOption = ⊥
 
--- The trace at this place was held against the rules, and its points come after a text. It says whether all rules are well.
-pub record PutsOne {S : Type 0} (opens : Opening S) (x : Expect) (rules : List Rule) (index : ℕ) (trace : Bor Text) (old new : S) (before text : Text) (well : Bool) : Type 0 where
-  pub judged : List Judged
+-- The trace at this place was held against the rules, with these results, and its points come after a text.
+pub record PutsOne {S : Type 0} (opens : Opening S) (x : Expect) (rules : List Rule) (index : ℕ) (trace : Bor Text) (old new : S) (before text : Text) (judged : List Judged) : Type 0 where
   pub held : IsHeld opens x rules old new trace.now judged
+  pub each : length judged ≡ length rules
   pub is : text ≡ before ++ part_of x rules (length rules * index) trace judged
-  pub fine : well ≡ are_well x.is_strict judged
 
--- These traces were held against the rules, and their points come after a text.
-pub record Puts {S : Type 0} (opens : Opening S) (x : Expect) (rules : List Rule) (traces : List (Bor Text)) (old new : S) (before text : Text) (well : Bool) : Type 0 where
+-- These traces were held against the rules, and their points come after a text. The counts say in how many of them each rule applied.
+pub record Puts {S : Type 0} (opens : Opening S) (x : Expect) (rules : List Rule) (traces : List (Bor Text)) (old new : S) (before text : Text) (counts : List ℕ) (well : Bool) : Type 0 where
   pub all : List (List Judged)
   pub held : AreHeld opens x rules old new (map (λ t. t.now) traces) all
   pub are_well : all_well x all ≡ well
+  pub counted : counts ≡ counts_of rules all
   pub is : text ≡ before ++ points_of x rules 0 traces all
 
-abbrev pub PutsAll : {S : Type 0} → Opening S → Expect → List Rule → (old new : S) → (before text : Text) → (well : Bool) → Type 0
-PutsAll opens x rules old new before text well = Puts opens x rules x.traces.items old new before text well
+abbrev pub PutsAll : {S : Type 0} → Opening S → Expect → List Rule → (old new : S) → (before text : Text) → (counts : List ℕ) → (well : Bool) → Type 0
+PutsAll opens x rules old new before text counts well = Puts opens x rules x.traces.items old new before text counts well
 
 -- ---- Ends
 

@@ -1,10 +1,13 @@
 //! Traces against rules, and against one another.
 
-ghost use Rattle.std.specs.Prelude.{◌≡◌, ◌&&◌, IfErr, IfOk, OnOk, ◌*◌, ◌++◌, codes, length, nat_lt, option_map, string_bytes, true};
+ghost use Rattle.std.specs.Prelude.{◌≡◌, ◌&&◌, IfErr, IfOk, List, OnOk, ◌*◌, ◌++◌, codes, length, nat_lt, option_map, string_bytes, true};
+ghost use Rattle.fb_expect.specs.Applied.{counts_of};
 ghost use Rattle.fb_expect.specs.Parting.{MayPart};
+ghost use Rattle.fb_expect.specs.declared.judging.Judged.{Judged as JudgedModel};
+ghost use Rattle.fb_expect.specs.declared.rule.Rule.{Rule as RuleModel};
 ghost use Rattle.fbsim_command.specs.Comparing.{Compares, Differs, NotesEither, NotesUnread};
 ghost use Rattle.fbsim_command.specs.Failures.{refused_trace};
-ghost use Rattle.fbsim_command.specs.Expecting.{AreRules, AreUnheld, Expects, Holds, IsHeld, IsRefusedAt, IsTraceFailure, IsUndeclared, IsUnheld, MayDeclare, NotesError, PutsAll, PutsOne, RefusesFor, Reports, cut_of, head_of, own_of, part_of, tail_of, types_of};
+ghost use Rattle.fbsim_command.specs.Expecting.{AreRules, AreUnheld, Expects, Holds, IsHeld, IsRefusedAt, IsTraceFailure, IsUndeclared, IsUnheld, MayDeclare, NotesError, PutsAll, PutsOne, RefusesFor, Reports, all_applied, applied_of, counted_of, cut_of, head_of, own_of, part_of, tail_of, types_of};
 ghost use Rattle.fbsim_command.specs.Notes.{IsUnnoted, NotesEnd, noted_of};
 ghost use Rattle.fbsim_command.specs.Outcomes.{Held};
 ghost use Rattle.fbsim_command.specs.OwnLines.{EndsIn};
@@ -26,7 +29,8 @@ use crate::statuses::Done;
 use crate::texts::{Texts, Unread, files_of, lines_in, read_files};
 use fb_expect::{
     Cut, Difference, Judged, Of, PartFault, Rule, SUITES_HEAD, SUITES_TAIL, TraceError,
-    UNKNOWN_NAME, are_well, difference_text, judge, part, plan, put_points, put_suite, read_rules,
+    UNKNOWN_NAME, are_well, count_trace, difference_text, have_applied, judge, no_counts, part,
+    plan, put_applied, put_applied_suite, put_points, put_suite, read_rules,
 };
 use fb_sim::discard;
 use fb_types::Items;
@@ -99,6 +103,7 @@ fn hold<S: Streams>(
 ) -> Result<Vec<Judged>, Failure>
     requires { IsUnnoted (noted_of note.old) }
     ensures held { IfOk result (λ js. IsHeld S.opens expect.now rules.now source.old source.new name.now js.items) }
+    ensures each { IfOk result (λ js. length js.items ≡ length rules.now) }
     ensures unnoted { IfOk result (λ js. IsUnnoted (noted_of note.new)) }
     ensures unheld { IfErr result (IsUnheld S.opens expect.now source.old source.new name.now (noted_of note.new)) }
 {
@@ -172,8 +177,8 @@ fn put_part(
     put_points(alloc, text, expect.is_strict, of, index, rules, judged)
 }
 
-/// Holds all rules against the trace at this place of a call, and puts their points after a text. It says whether all
-/// are well. Of a file that fails there is a note, where one is asked for.
+/// Holds all rules against the trace at this place of a call, puts their points after a text, and returns the results.
+/// Of a file that fails there is a note, where one is asked for.
 fn put_one<S: Streams>(
     alloc: Global,
     expect: &Expect<'_>,
@@ -182,19 +187,20 @@ fn put_one<S: Streams>(
     text: &mut Vec<u8>,
     note: &mut Result<Option<String>, AllocError>,
     source: &mut S,
-) -> Result<bool, Failure>
+) -> Result<Vec<Judged>, Failure>
     requires { IsUnnoted (noted_of note.old) }
-    ensures put { IfOk result (PutsOne S.opens expect.now rules.now at.entry.0 at.entry.1 source.old source.new text.old.items text.new.items) }
-    ensures unnoted { IfOk result (λ well. IsUnnoted (noted_of note.new)) }
+    ensures put { IfOk result (λ js. PutsOne S.opens expect.now rules.now at.entry.0 at.entry.1 source.old source.new text.old.items text.new.items js.items) }
+    ensures unnoted { IfOk result (λ js. IsUnnoted (noted_of note.new)) }
     ensures unheld { IfErr result (IsUnheld S.opens expect.now source.old source.new at.entry.1.now (noted_of note.new)) }
 {
     let (_, trace) = at;
     let judged = hold(alloc, expect, rules, trace, note, source)?;
     put_part(alloc, expect, rules, at, text, judged.as_slice())?;
-    Ok(are_well(expect.is_strict, judged.as_slice()))
+    Ok(judged)
 }
 
-/// Holds all rules against each trace of a call, and puts their points after a text. It says whether all are well.
+/// Holds all rules against each trace of a call, and puts their points after a text. It says in how many traces each
+/// rule applied, and whether all are well.
 fn put_all<S: Streams>(
     alloc: Global,
     expect: &Expect<'_>,
@@ -202,19 +208,22 @@ fn put_all<S: Streams>(
     text: &mut Vec<u8>,
     note: &mut Result<Option<String>, AllocError>,
     source: &mut S,
-) -> Result<bool, Failure>
+) -> Result<(Vec<usize>, bool), Failure>
     requires { IsUnnoted (noted_of note.old) }
-    ensures put { IfOk result (PutsAll S.opens expect.now rules.now source.old source.new text.old.items text.new.items) }
-    ensures unnoted { IfOk result (λ well. IsUnnoted (noted_of note.new)) }
+    ensures put { IfOk result (λ p. PutsAll S.opens expect.now rules.now source.old source.new text.old.items text.new.items p.0.items p.1) }
+    ensures unnoted { IfOk result (λ p. IsUnnoted (noted_of note.new)) }
     ensures unheld { IfErr result (AreUnheld S.opens expect.now rules.now source.old source.new (noted_of note.new)) }
 {
+    let mut counts = no_counts(alloc, rules)?;
     let mut is_well = true;
     for (index, trace) in expect.traces.iter().enumerate() {
         let at = (index, *trace);
-        let ok = put_one(alloc, expect, rules, at, text, note, source)?;
+        let judged = put_one(alloc, expect, rules, at, text, note, source)?;
+        count_trace(&mut counts, rules, judged.as_slice());
+        let ok = are_well(expect.is_strict, judged.as_slice());
         is_well = both(ok, is_well);
     }
-    Ok(is_well)
+    Ok((counts, is_well))
 }
 
 /// What the report begins with.
@@ -224,7 +233,47 @@ fn head(alloc: Global, expect: &Expect<'_>, rules: &[Rule]) -> Result<Vec<u8>, A
     if expect.is_junit {
         return Vec::from_slice(alloc, SUITES_HEAD);
     }
-    plan(alloc, rules, expect.traces.len())
+    plan(alloc, rules, expect.traces.len(), expect.is_applied)
+}
+
+/// Puts in how many traces each rule applied after a text: a point for each, or a suite.
+fn put_counted(
+    alloc: Global,
+    expect: &Expect<'_>,
+    rules: &[Rule],
+    counts: &[usize],
+    text: &mut Vec<u8>,
+) -> Result<(), AllocError>
+    ensures { OnOk result (text.new.items ≡ text.old.items ++ counted_of expect.now rules.now counts.now) }
+{
+    let traces = expect.traces.len();
+    if expect.is_junit {
+        return put_applied_suite(alloc, text, rules, counts, traces);
+    }
+    put_applied(alloc, text, rules, counts, traces)
+}
+
+/// The same, if that is asked for.
+fn put_applied_part(
+    alloc: Global,
+    expect: &Expect<'_>,
+    rules: &[Rule],
+    counts: &[usize],
+    text: &mut Vec<u8>,
+) -> Result<(), AllocError>
+    ensures { OnOk result (text.new.items ≡ text.old.items ++ applied_of expect.now rules.now counts.now) }
+{
+    if !expect.is_applied {
+        return Ok(());
+    }
+    put_counted(alloc, expect, rules, counts, text)
+}
+
+/// Whether each rule applied in one trace or more, if that is asked for.
+fn are_applied(expect: &Expect<'_>, counts: &[usize]) -> bool
+    ensures { (rules : List RuleModel) (all : List (List JudgedModel)) → counts.now ≡ counts_of rules all → result ≡ all_applied expect.now rules all }
+{
+    !expect.is_applied || have_applied(counts)
 }
 
 /// Puts what the report ends with after a text.
@@ -237,7 +286,7 @@ fn put_tail(expect: &Expect<'_>, text: &mut Vec<u8>) -> Result<(), AllocError>
     Ok(())
 }
 
-/// The report of all rules at all traces of a call. It says whether all are well.
+/// The report of all rules at all traces of a call. It says whether all are well, and applied where they must.
 fn report<S: Streams>(
     alloc: Global,
     expect: &Expect<'_>,
@@ -251,9 +300,11 @@ fn report<S: Streams>(
     ensures unheld { IfErr result (AreUnheld S.opens expect.now rules.now source.old source.new (noted_of note.new)) }
 {
     let mut text = head(alloc, expect, rules)?;
-    let is_well = put_all(alloc, expect, rules, &mut text, note, source)?;
+    let (counts, is_well) = put_all(alloc, expect, rules, &mut text, note, source)?;
+    let counts = counts.as_slice();
+    put_applied_part(alloc, expect, rules, counts, &mut text)?;
     put_tail(expect, &mut text)?;
-    Ok((text, is_well))
+    Ok((text, both(is_well, are_applied(expect, counts))))
 }
 
 /// Reads the declaration and the deployment of a call, where it names some.

@@ -153,12 +153,13 @@ wave = with_why (
 -- the rules are held
 abbrev pub expect : App
 expect = with_why (
-    with_rule (with_rule (with_rule (with_rule (with_rule (with_rule (with_rule (begun (codes "expect") (codes "RULES"))
+    with_rule (with_rule (with_rule (with_rule (with_rule (with_rule (with_rule (with_rule (begun (codes "expect") (codes "RULES"))
     (several (codes "TRACE")))
     (file (codes "decl")))
     (repeated (codes "types")))
     (file (codes "deploy")))
     (flag (codes "strict")))
+    (flag (codes "applied")))
     (flag (codes "cut")))
     (flag (codes "junit")))
 
@@ -362,6 +363,7 @@ pub record AsksExpect (rows : List Row) (x : Expect) : Type 0 where
   pub deploy : first_of (codes "deploy") rows ≡ option_map (λ n. n.now) x.deploy
   pub of_a_declaration : declares_nothing (option_map (λ n. n.now) x.declaration) (option_map (λ n. n.now) x.deploy) (map (λ t. t.now) x.types.items) ≡ false
   pub strict : IsFlag rows (codes "strict") x.is_strict
+  pub applied : IsFlag rows (codes "applied") x.is_applied
   pub cut : IsFlag rows (codes "cut") x.is_cut
   pub junit : IsFlag rows (codes "junit") x.is_junit
   pub why : IsAsked rows x.why

@@ -27,6 +27,8 @@ pub struct Expect<'a> {
     pub deploy: Option<&'a str>,
     /// Whether a rule that a trace leaves undecided counts as broken.
     pub is_strict: bool,
+    /// Whether each rule must apply in one trace or more.
+    pub is_applied: bool,
     /// Whether traces may be cut off.
     pub is_cut: bool,
     /// Whether the report is JUnit XML.
@@ -73,6 +75,9 @@ const DEPLOY_HELP: &str =
 const STRICT_HELP: &str =
     "Counts a rule that a trace leaves undecided, or to which it never applied, as broken.";
 
+const APPLIED_HELP: &str =
+    "Reports for each rule in how many of the traces it applied, and counts one that applied in none as broken.";
+
 const CUT_HELP: &str = "Accepts traces that end without a last line or within a line.";
 
 const JUNIT_HELP: &str = "Writes JUnit XML in place of the Test Anything Protocol.";
@@ -100,6 +105,7 @@ pub(crate) const EXPECT_COMMAND: Outline<'static, 'static> = Outline {
         Argument::Repeated("types", TYPES_HELP),
         Argument::Named("deploy", DEPLOY_HELP),
         Argument::Flag("strict", STRICT_HELP),
+        Argument::Flag("applied", APPLIED_HELP),
         Argument::Flag("cut", CUT_HELP),
         Argument::Flag("junit", JUNIT_HELP),
         Argument::Flag("why", WHY_HELP),
@@ -162,6 +168,7 @@ pub(crate) fn expect_of<'a>(
         types,
         deploy,
         is_strict: has_flag(found, "strict"),
+        is_applied: has_flag(found, "applied"),
         is_cut: has_flag(found, "cut"),
         is_junit: has_flag(found, "junit"),
         why: asks_why(found),

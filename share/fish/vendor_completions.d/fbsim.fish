@@ -34,6 +34,7 @@ complete -c fbsim -n "__fish_seen_subcommand_from run" -l progress -d "Report ea
 complete -c fbsim -n "__fish_seen_subcommand_from run session" -l trace -x -a "1 2" -d "Form of the trace"
 complete -c fbsim -n "__fish_seen_subcommand_from expect" -l decl -r -F -d "Declaration that has all names of the rules"
 complete -c fbsim -n "__fish_seen_subcommand_from expect" -l strict -d "Count rules as broken that are undecided or never applied"
+complete -c fbsim -n "__fish_seen_subcommand_from expect" -l applied -d "Report in how many traces each rule applied"
 complete -c fbsim -n "__fish_seen_subcommand_from expect" -l junit -d "Write JUnit XML"
 complete -c fbsim -n "__fish_seen_subcommand_from diff" -l no-ticks -d "Leave ticks out"
 complete -c fbsim -n "__fish_seen_subcommand_from wave expect inspect coverage" -l cut -d "Accept traces that are cut off"

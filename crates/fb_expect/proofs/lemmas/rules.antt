@@ -9,3 +9,4 @@ pub mod Concluding
 pub mod Verdicts
 pub mod Following
 pub mod Idle
+pub mod AppliedCounts

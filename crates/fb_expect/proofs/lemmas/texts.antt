@@ -4,3 +4,4 @@ pub mod JoinedTexts
 pub mod LinesOfTwo
 pub mod Completing
 pub mod FedLines
+pub mod ShownTexts

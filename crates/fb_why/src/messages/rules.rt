@@ -62,6 +62,10 @@ fn push_location(text: &mut Text, keys: &Table, location: RulesLocation) {
             text.placed("", rule, " rule: ");
             text.phrase(&[key_text(key), range_of(key)]);
         }
+        RulesLocation::Repeated { rule } => {
+            push_rule(text, item_at(keys, "rule", rule), rule, RuleKey::Name);
+            text.words("a rule before it has this name");
+        }
         _ => match keys.get("rule") {
             Some(_) if keys.len() > 1 => push_further(text, keys, &["rule"]),
             _ => text.words("there is no rule"),
@@ -102,6 +106,7 @@ fn kind_of(key: RuleKey) -> &'static str {
 fn range_of(key: RuleKey) -> &'static str {
     match key {
         RuleKey::Every => " is not within 1 to 1,000,000,000,000",
+        RuleKey::Least => " is not within 0 to 1,000,000,000,000, or is 0 without most",
         RuleKey::Most => " is not within 0 to 1,000,000,000,000, or is under least",
         _ => " is not within 0 to 1,000,000,000,000",
     }
@@ -144,10 +149,18 @@ fn push_pattern_fault(text: &mut Text, fault: &PatternFault) {
         text.words(": a pattern is a resource, a sign, a port and conditions, with blanks between");
         return;
     }
+    if let PatternPart::Variable = fault.part {
+        text.words(": no value of ");
+        text.shown(fault.word.as_slice());
+        text.words(" meets all conditions on it");
+        return;
+    }
     text.words(": ");
     text.shown(fault.word.as_slice());
     text.words(match fault.part {
-        PatternPart::Words | PatternPart::Resource => " is no resource: a name, or * for any",
+        PatternPart::Words | PatternPart::Variable | PatternPart::Resource => {
+            " is no resource: a name, or * for any"
+        }
         PatternPart::Sign => " is no sign: >, < or * for both",
         PatternPart::Port => " is no port: two names or more, with a full stop between",
         PatternPart::Condition => {

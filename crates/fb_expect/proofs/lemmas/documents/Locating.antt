@@ -12,7 +12,8 @@ use Rattle.fb_expect.specs.Drafts.{RuleText, rule_text, rules_in, text_of, texts
 use Rattle.fb_expect.specs.Lists.{◌>>=◌, each, may}
 use Rattle.fb_expect.specs.Locations.{IsAmongTexts, IsAmongValues, IsDocumentFault, IsLocation, has_numbers, has_shape, number_at, numbers_judged, refusal_of}
 use Rattle.fb_expect.specs.Needs.{has_patterns, names_in, names_of, need_of, pairing_by, pairing_of, rule_of, with_names}
-use Rattle.fb_expect.specs.Reading.{document, limited, most_bytes, most_rules, of_document, rules_of, rules_of_drafts}
+use Rattle.fb_expect.specs.OwnNames.{have_own_names}
+use Rattle.fb_expect.specs.Reading.{accepted, document, most_bytes, most_rules, of_document, rules_of, rules_of_drafts}
 use Rattle.fb_expect.specs.Refusals.{bad_number, bad_pattern, bad_shape}
 use Rattle.fb_expect.specs.Words.{Text}
 use Rattle.fb_expect.specs.Written.{pattern_of}
@@ -32,6 +33,7 @@ location-of bytes keys (location.Rule i f) is at = (keys, is, at)
 location-of bytes keys (location.Pattern i k) is at = (keys, is, at)
 location-of bytes keys (location.Number i k) is at = (keys, is, at)
 location-of bytes keys location.Crowded is at = (keys, is, at)
+location-of bytes keys (location.Repeated i) is at = (keys, is, at)
 
 pub located :
     {E : Type 0} (bytes : Text) (keys : Members) (r : Result (Option RulesLocation) E) → document bytes ≡ Some keys → IfOk r (λ o. IfSome o (IsDocumentFault keys))
@@ -161,17 +163,20 @@ pub number-refused :
     (ts : List RuleText) (i : ℕ) (t : RuleText) → slice_get ts i ≡ Some t → need_of t.need ≡ None → Some bad_number ≡ refusal_of (numbers_judged ts)
 number-refused ts i t is none = rw (each-missing rule_of ts i t is (no-rule t none)) refl
 
--- none is, and then the count of rules decides
+-- none is, and then the count of rules decides, and whether each has a name of its own
 pub numbers-read :
     (ts : List RuleText) → list_all has_numbers ts ≡ true → list_all has_patterns ts ≡ true → (fits : Bool) → nat_le (length ts) most_rules ≡ fits
-    → (if fits then None else Some 40) ≡ refusal_of (numbers_judged ts)
+    → (if fits then (if have_own_names ts then None else Some bad_shape) else Some 40) ≡ refusal_of (numbers_judged ts)
 numbers-read ts numbers patterns fits is =
     let all = each-there rule_of ts (rules-there ts numbers patterns) in
-    rw all.1 (by all.0 fits (ap (λ (n : ℕ). nat_le n most_rules) all.2 ∙ is))
+    rw all.1 (by all.0 fits (ap (λ (n : ℕ). nat_le n most_rules) all.2 ∙ is) (have_own_names ts))
   where
-    by : (rules : List Rule) (fits : Bool) → nat_le (length rules) most_rules ≡ fits → (if fits then None else Some 40) ≡ refusal_of (limited rules)
-    by rules true is = rw is refl
-    by rules false is = rw is refl
+    by :
+        (rules : List Rule) (fits : Bool) → nat_le (length rules) most_rules ≡ fits → (named : Bool)
+        → (if fits then (if named then None else Some bad_shape) else Some 40) ≡ refusal_of (accepted named rules)
+    by rules true is true = rw is refl
+    by rules true is false = rw is refl
+    by rules false is named = rw is refl
 
 -- the shape of a value is wrong
 pub shape-refused : (keys : Members) (ds : List Data) (i : ℕ) (d : Data) → rules_in keys ≡ Some ds → slice_get ds i ≡ Some d → rule_text d ≡ None → Some bad_shape ≡ refusal_of (of_document keys)
@@ -264,6 +269,7 @@ value-located keys ds location.List in-keys at = absurd at
 value-located keys ds (location.Pattern i k) in-keys at = absurd at
 value-located keys ds (location.Number i k) in-keys at = absurd at
 value-located keys ds location.Crowded in-keys at = absurd at
+value-located keys ds (location.Repeated i) in-keys at = absurd at
 
 pub texts-located :
     {E : Type 0} (keys : Members) (ts : List RuleText) (r : Result (Option RulesLocation) E) → texts_of keys ≡ Some ts

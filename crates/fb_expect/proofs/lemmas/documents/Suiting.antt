@@ -1,12 +1,12 @@
 -- The cases of a suite, one after the other.
 use Rattle.fb_expect.proofs.lemmas.Common.{◌≡◌, ℕ, ◌+◌, ◌<◌, Bool, List, [], ◌∷◌, ◌++◌, length, get_or, drop, refl, sym, ap, ap₂, ◌∙◌, arith, inl, inr, append_assoc, append-nil, Result, Ok, Err, IfOk, OnOk, cases_lt, joined, Text, Judged, Rule}
 use Rattle.fb_types.proofs.Common.{min, Vec, drop_all, drop_more}
-use Rattle.fb_expect.specs.Suites.{case_of, cases_of, xml, xml_byte}
+use Rattle.fb_expect.specs.Suites.{case_of, cases_of, xml_bytes, xml_byte}
 
-pub byte-put : (z a b : Text) (i : ℕ) → i < length z → b ≡ a ++ xml_byte (get_or z i 0) → b ++ xml (drop (i + 1) z) ≡ a ++ xml (drop i z)
+pub byte-put : (z a b : Text) (i : ℕ) → i < length z → b ≡ a ++ xml_byte (get_or z i 0) → b ++ xml_bytes (drop (i + 1) z) ≡ a ++ xml_bytes (drop i z)
 byte-put z a b i lt is =
-    ap (λ (t : Text). t ++ xml (drop (i + 1) z)) is ∙ append_assoc a (xml_byte (get_or z i 0)) (xml (drop (i + 1) z))
-    ∙ ap (λ (t : Text). a ++ t) (sym (ap xml (drop_more z i 0 lt)))
+    ap (λ (t : Text). t ++ xml_bytes (drop (i + 1) z)) is ∙ append_assoc a (xml_byte (get_or z i 0)) (xml_bytes (drop (i + 1) z))
+    ∙ ap (λ (t : Text). a ++ t) (sym (ap xml_bytes (drop_more z i 0 lt)))
 
 -- one more case
 pub case-put :

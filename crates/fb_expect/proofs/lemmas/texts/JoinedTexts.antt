@@ -2,7 +2,7 @@
 use Rattle.fb_expect.proofs.lemmas.Common.{◌≡◌, ℕ, ◌+◌, ◌<◌, ◌≤◌, Bool, Bor, List, [], ◌∷◌, ◌++◌, length, get_or, map, take, drop, inl, inr, Result, Ok, Err, refl, sym, ap, ap₂, subst, ◌∙◌, append_assoc, append-nil, arith, IfOk, cases_lt, map-append, take_all, joined, Text, Judged, Rule}
 use Rattle.fb_types.proofs.Common.{min, length-take-le, take-append-drop, take_more, IfOk-equal}
 use Rattle.std.specs.Result.{result_and}
-use Rattle.fb_expect.specs.Reports.{escape, escape_byte, point, points}
+use Rattle.fb_expect.specs.Reports.{escape_bytes, escape_byte, point, points}
 use Rattle.fb_expect.specs.declared.tap.Of.{Of}
 
 joined-push : (ts : List Text) (t : Text) → joined (ts ++ t ∷ []) ≡ joined ts ++ t
@@ -23,13 +23,13 @@ one-more ps i lt =
     ap (λ (qs : List (Bor Text)). joined (texts qs)) (take_more ps i none lt) ∙ ap joined (map-append (λ (q : Bor Text). q.now) (take i ps) (get_or ps i none ∷ []))
     ∙ joined-push (texts (take i ps)) (part_at ps i)
 
-escape-push : (mark : ℕ) (z : Text) (b : ℕ) → escape mark (z ++ b ∷ []) ≡ escape mark z ++ escape_byte mark b
+escape-push : (mark : ℕ) (z : Text) (b : ℕ) → escape_bytes mark (z ++ b ∷ []) ≡ escape_bytes mark z ++ escape_byte mark b
 escape-push mark [] b = append-nil (escape_byte mark b)
-escape-push mark (x ∷ z) b = ap (λ (t : Text). escape_byte mark x ++ t) (escape-push mark z b) ∙ sym (append_assoc (escape_byte mark x) (escape mark z) (escape_byte mark b))
+escape-push mark (x ∷ z) b = ap (λ (t : Text). escape_byte mark x ++ t) (escape-push mark z b) ∙ sym (append_assoc (escape_byte mark x) (escape_bytes mark z) (escape_byte mark b))
 
 -- one more byte
-pub byte-more : (mark : ℕ) (z : Text) (i d : ℕ) → i < length z → escape mark (take (i + 1) z) ≡ escape mark (take i z) ++ escape_byte mark (get_or z i d)
-byte-more mark z i d lt = ap (escape mark) (take_more z i d lt) ∙ escape-push mark (take i z) (get_or z i d)
+pub byte-more : (mark : ℕ) (z : Text) (i d : ℕ) → i < length z → escape_bytes mark (take (i + 1) z) ≡ escape_bytes mark (take i z) ++ escape_byte mark (get_or z i d)
+byte-more mark z i d lt = ap (escape_bytes mark) (take_more z i d lt) ∙ escape-push mark (take i z) (get_or z i d)
 
 -- ---- Texts that are put after a text
 

@@ -35,4 +35,5 @@ returns-else-drafts-gt-MOST_RULES-clause-exact c = λ patterns.
     let ts = map text_of c.args.drafts.now in
     let long : length ts ≡ length c.args.drafts.now = length-map c.args.drafts.now text_of in
     let within : length ts ≤ most_rules = omega (arith, long) in
-    numbers-read ts (all-whole has_numbers ts c.loop-rule.rule (omega (arith, long)) c.loop-rule.invariant) patterns true (le-leb (length ts) most_rules within)
+    c.name_location.ensures.exact
+    ∙ numbers-read ts (all-whole has_numbers ts c.loop-rule.rule (omega (arith, long)) c.loop-rule.invariant) patterns true (le-leb (length ts) most_rules within)

@@ -15,5 +15,4 @@ returns-in_err-put_part-clause-unheld g c =
 pub returns-clause-put : goal.returns-clause-put
 returns-clause-put g c =
     put-one g.S.Streams.opens c.args.expect.now c.args.rules.now c.args.at.0 c.args.at.1 c.args.source.now c.hold.new.source c.args.text.now.items c.put_part.new.text.items
-    c.are_well.result c.in_ok-judged.judged.items c.as_slice.result.now c.as_slice-2.result.now c.in_ok-judged.ensures.held
-    c.in_ok-put_part.ensures c.as_slice.ensures.value c.as_slice-2.ensures.value c.are_well.ensures
+    c.in_ok-judged.judged.items c.as_slice.result.now c.in_ok-judged.ensures.held c.in_ok-judged.ensures.each c.in_ok-put_part.ensures c.as_slice.ensures.value

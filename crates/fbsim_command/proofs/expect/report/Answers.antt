@@ -18,5 +18,6 @@ returns-in_err-put_tail-clause-unheld g c =
 
 pub returns-clause-reported : goal.returns-clause-reported
 returns-clause-reported g c =
-    rules_reported g.S.Streams.opens c.args.expect.now c.args.rules.now c.args.source.now c.put_all.new.source c.in_ok-text.text.items c.put_all.new.text.items c.put_tail.new.text.items
-    c.in_ok-is_well.is_well c.in_ok-text.ensures c.in_ok-is_well.ensures.put c.in_ok-put_tail.ensures
+    rules_reported g.S.Streams.opens c.args.expect.now c.args.rules.now c.args.source.now c.put_all.new.source c.in_ok-text.text.items c.put_all.new.text.items c.put_applied_part.new.text.items
+    c.put_tail.new.text.items c.as_slice-counts.result.now c.in_ok-counts.is_well c.are_applied.result c.both.result c.in_ok-text.ensures c.in_ok-counts.ensures.put c.in_ok-put_applied_part.ensures
+    c.in_ok-put_tail.ensures c.are_applied.ensures c.both.ensures

@@ -1,7 +1,8 @@
 -- Rules that are held against traces, one after the other.
 use Rattle.fbsim_command.proofs.lemmas.Common.{◌≡◌, ℕ, suc, ◌+◌, ◌<◌, Bool, true, false, Bor, List, [], ◌∷◌, ◌++◌, length, get_or, map, take, drop, Option, Some, None, codes, Result, Ok, Err, refl, sym, ap, ◌∙◌, subst, append_assoc, append-nil, inl, inr, arith, ◌&&◌, IfErr, IfOk, IfSome, OnOk, if◌then◌else◌, nat_lt, Appends, drop_more, length-map, map-append, take-append-drop, take_more, IsErrAnd, Given, AreUnheld, Holds, IsUnheld, WritesPart, failure_of_source, End, Held, Opening, Expect, Failure, Refused, RefusedTrace, File, Write, Memory, Line, BadOption, SourceFault}
-use Rattle.fb_types.proofs.Common.{◌*◌, is_ok, length-take-le, list_all-append}
+use Rattle.fb_types.proofs.Common.{◌*◌, ◌^◌, ap₂, is_ok, length-take-le, list_all-append}
 use Rattle.clap.specs.Words.{Text}
+use Rattle.fb_expect.specs.Applied.{applied_points, applied_suite, counts_of}
 use Rattle.fb_expect.specs.Judging as judging
 use Rattle.fb_expect.specs.Judging.{IsRefusal, Judges}
 use Rattle.fb_expect.specs.declared.fault.TraceError.{TraceError}
@@ -12,7 +13,7 @@ use Rattle.fb_expect.specs.declared.judging.Cut.{Cut}
 use Rattle.fb_expect.specs.declared.judging.Judged.{Judged}
 use Rattle.fb_expect.specs.declared.rule.Rule.{Rule}
 use Rattle.fbsim_command.specs.Notes.{IsUnnoted, Noted, Notes, NotesEnd, SaysUnread}
-use Rattle.fbsim_command.specs.Expecting.{AreHeld, AreRules, ComesTo, IsHeld, IsRefusedAt, IsTraceFailure, IsWrongLine, NotesError, Puts, PutsOne, Reports, all_well, cut_of, head_of, part_of, points_of, tail_of}
+use Rattle.fbsim_command.specs.Expecting.{AreHeld, AreRules, ComesTo, IsHeld, IsRefusedAt, IsTraceFailure, IsWrongLine, NotesError, Puts, PutsOne, Reports, all_applied, all_well, applied_of, counted_of, cut_of, head_of, part_of, points_of, tail_of}
 use Rattle.fbsim_command.specs.Failures.{IsPartWritten}
 use Rattle.fbsim_command.specs.declared.sources.SourceFault.TheVariants as source
 use Rattle.fbsim_command.specs.declared.statuses.Done.TheVariants.{Met, Unmet}
@@ -104,15 +105,14 @@ put-points x rules before t js (Ok u) old new named off many is =
 
 -- what the report has of it is put after a text
 pub put-one :
-    {S : Type 0} (opens : Opening S) (x : Expect) (rules : List Rule) (i : ℕ) (t : Bor Text) (old new : S) (before text : Text) (well : Bool) (js ks ls : List Judged)
-    → IsHeld opens x rules old new t.now js → text ≡ before ++ part_of x rules (length rules * i) t ks → ks ≡ js → ls ≡ js → well ≡ are_well x.is_strict ls
-    → PutsOne opens x rules i t old new before text well
-put-one opens x rules i t old new before text well js ks ls held is first second fine =
+    {S : Type 0} (opens : Opening S) (x : Expect) (rules : List Rule) (i : ℕ) (t : Bor Text) (old new : S) (before text : Text) (js ks : List Judged)
+    → IsHeld opens x rules old new t.now js → length js ≡ length rules → text ≡ before ++ part_of x rules (length rules * i) t ks → ks ≡ js
+    → PutsOne opens x rules i t old new before text js
+put-one opens x rules i t old new before text js ks held each is first =
     record {
-      judged = js;
       held = held;
+      each = each;
       is = is ∙ ap (λ (js : List Judged). before ++ part_of x rules (length rules * i) t js) first;
-      fine = fine ∙ ap (are_well x.is_strict) second;
     }
 
 -- ---- All traces
@@ -159,17 +159,30 @@ and-last false false = refl
 
 -- before the first trace
 pub puts-none :
-    {S : Type 0} (opens : Opening S) (x : Expect) (rules : List Rule) (ts : List (Bor Text)) (old : S) (before : Text) → Puts opens x rules (take 0 ts) old old before before true
-puts-none opens x rules ts old before = record { all = []; held = refl; are_well = refl; is = sym (append-nil before) }
+    {S : Type 0} (opens : Opening S) (x : Expect) (rules : List Rule) (ts : List (Bor Text)) (old : S) (before : Text) (counts : List ℕ) → counts ≡ counts_of rules []
+    → Puts opens x rules (take 0 ts) old old before before counts true
+puts-none opens x rules ts old before counts is = record { all = []; held = refl; are_well = refl; counted = is; is = sym (append-nil before) }
+
+-- what counts rules in one more trace
+abbrev pub CountsOne : List Rule → (js : List Judged) → (old new : List ℕ) → Type 0
+CountsOne rules js old new =
+    (all : List (List Judged)) → length all + 1 < 2 ^ 64 → length js ≡ length rules → old ≡ counts_of rules all → new ≡ counts_of rules (all ++ js ∷ [])
+
+-- there are fewer traces than numbers
+pub index-room : (v : Vec (Bor Text)) (us : List (Bor Text)) (i : ℕ) → us ≡ v.items → i < length us → i + 1 < 2 ^ 64
+index-room v us i same lt =
+    let long = ap length same in
+    let small = v.ok.0 in
+    omega (arith, lt, long, small)
 
 -- one more trace
 pub puts-more :
-    {S : Type 0} (opens : Opening S) (x : Expect) (rules : List Rule) (ts : List (Bor Text)) (i : ℕ) (d : Bor Text) (old mid new : S) (before text more : Text) (well ok : Bool)
-    (both : Bool) → i < length ts → Puts opens x rules (take i ts) old mid before text well → PutsOne opens x rules i (get_or ts i d) mid new text more ok
-    → both ≡ (ok && well) → Puts opens x rules (take (i + 1) ts) old new before more both
-puts-more opens x rules ts i d old mid new before text more well ok both lt puts one all =
+    {S : Type 0} (opens : Opening S) (x : Expect) (rules : List Rule) (ts : List (Bor Text)) (i : ℕ) (d : Bor Text) (old mid new : S) (before text more : Text) (js : List Judged)
+    (counts fresh : List ℕ) (well both : Bool) → i < length ts → i + 1 < 2 ^ 64 → Puts opens x rules (take i ts) old mid before text counts well
+    → PutsOne opens x rules i (get_or ts i d) mid new text more js → CountsOne rules js counts fresh → both ≡ (are_well x.is_strict js && well)
+    → Puts opens x rules (take (i + 1) ts) old new before more fresh both
+puts-more opens x rules ts i d old mid new before text more js counts fresh well both lt room puts one more-counted all =
     let t = get_or ts i d in
-    let js = one.judged in
     let split : take (i + 1) ts ≡ take i ts ++ t ∷ [] = take_more ts i d lt in
     let count : length puts.all ≡ length (take i ts) = held-count opens x rules old mid (map now (take i ts)) puts.all puts.held ∙ length-map (take i ts) now in
     let long : length (take i ts) ≡ i = length-take-le i ts (omega arith) in
@@ -182,7 +195,8 @@ puts-more opens x rules ts i d old mid new before text more well ok both lt puts
           (held-more opens x rules old mid new (map now (take i ts)) t.now puts.all js puts.held one.held);
       are_well =
           list_all-append (are_well x.is_strict) puts.all (js ∷ []) ∙ and-last (all_well x puts.all) (are_well x.is_strict js)
-          ∙ ap (λ (b : Bool). are_well x.is_strict js && b) puts.are_well ∙ ap (λ (b : Bool). b && well) (sym one.fine) ∙ sym all;
+          ∙ ap (λ (b : Bool). are_well x.is_strict js && b) puts.are_well ∙ sym all;
+      counted = more-counted puts.all (omega (arith, room, count, long)) one.each puts.counted;
       is =
           one.is ∙ ap (λ (z : Text). z ++ of (length rules * i)) puts.is ∙ append_assoc before said (of (length rules * i))
           ∙ ap (λ (z : Text). before ++ z)
@@ -195,24 +209,26 @@ puts-more opens x rules ts i d old mid new before text more well ok both lt puts
 
 -- the same of a list that is these traces
 pub puts-more-of :
-    {S : Type 0} (opens : Opening S) (x : Expect) (rules : List Rule) (ts us : List (Bor Text)) (i : ℕ) (d : Bor Text) (old mid new : S) (before text more : Text) (well ok both : Bool) → us ≡ ts
-    → i < length us → Puts opens x rules (take i ts) old mid before text well → PutsOne opens x rules i (get_or us i d) mid new text more ok → both ≡ (ok && well)
-    → Puts opens x rules (take (i + 1) ts) old new before more both
-puts-more-of opens x rules ts us i d old mid new before text more well ok both same lt puts one all =
-    puts-more opens x rules ts i d old mid new before text more well ok both (subst (λ (vs : List (Bor Text)). i < length vs) same lt) puts
-    (subst (λ (vs : List (Bor Text)). PutsOne opens x rules i (get_or vs i d) mid new text more ok) same one) all
+    {S : Type 0} (opens : Opening S) (x : Expect) (rules : List Rule) (ts us : List (Bor Text)) (i : ℕ) (d : Bor Text) (old mid new : S) (before text more : Text) (js : List Judged)
+    (counts fresh : List ℕ) (well both : Bool) → us ≡ ts → i < length us → i + 1 < 2 ^ 64 → Puts opens x rules (take i ts) old mid before text counts well
+    → PutsOne opens x rules i (get_or us i d) mid new text more js → CountsOne rules js counts fresh → both ≡ (are_well x.is_strict js && well)
+    → Puts opens x rules (take (i + 1) ts) old new before more fresh both
+puts-more-of opens x rules ts us i d old mid new before text more js counts fresh well both same lt room puts one more-counted all =
+    puts-more opens x rules ts i d old mid new before text more js counts fresh well both (subst (λ (vs : List (Bor Text)). i < length vs) same lt) room puts
+    (subst (λ (vs : List (Bor Text)). PutsOne opens x rules i (get_or vs i d) mid new text more js) same one) more-counted all
 
 -- after the last
 pub puts-all :
-    {S : Type 0} (opens : Opening S) (x : Expect) (rules : List Rule) (ts us : List (Bor Text)) (old new : S) (before text : Text) (well : Bool) → us ≡ ts
-    → Puts opens x rules us old new before text well → Puts opens x rules ts old new before text well
-puts-all opens x rules ts us old new before text well same puts = subst (λ (vs : List (Bor Text)). Puts opens x rules vs old new before text well) same puts
+    {S : Type 0} (opens : Opening S) (x : Expect) (rules : List Rule) (ts us : List (Bor Text)) (old new : S) (before text : Text) (counts : List ℕ) (well : Bool) → us ≡ ts
+    → Puts opens x rules us old new before text counts well → Puts opens x rules ts old new before text counts well
+puts-all opens x rules ts us old new before text counts well same puts =
+    subst (λ (vs : List (Bor Text)). Puts opens x rules vs old new before text counts well) same puts
 
 -- a trace that is not held
 pub comes-to :
-    {S : Type 0} (opens : Opening S) (x : Expect) (rules : List Rule) (i : ℕ) (d : Bor Text) (old mid : S) (before text : Text) (well : Bool) → i < length x.traces.items
-    → Puts opens x rules (take i x.traces.items) old mid before text well → ComesTo opens x rules old mid (get_or x.traces.items i d).now
-comes-to opens x rules i d old mid before text well lt puts =
+    {S : Type 0} (opens : Opening S) (x : Expect) (rules : List Rule) (i : ℕ) (d : Bor Text) (old mid : S) (before text : Text) (counts : List ℕ) (well : Bool) → i < length x.traces.items
+    → Puts opens x rules (take i x.traces.items) old mid before text counts well → ComesTo opens x rules old mid (get_or x.traces.items i d).now
+comes-to opens x rules i d old mid before text counts well lt puts =
     let ts = x.traces.items in
     record {
       before = map now (take i ts);
@@ -244,17 +260,54 @@ tail-put x (Ok u) old new on is = is ∙ ap (λ (b : Bool). old ++ (if b then su
 
 -- the whole report
 pub rules_reported :
-    {S : Type 0} (opens : Opening S) (x : Expect) (rules : List Rule) (old new : S) (first text all : Text) (well : Bool) → first ≡ head_of x rules
-    → Puts opens x rules x.traces.items old new first text well → all ≡ text ++ tail_of x → Reports opens x rules old new well all
-rules_reported opens x rules old new first text all well is puts end =
+    {S : Type 0} (opens : Opening S) (x : Expect) (rules : List Rule) (old new : S) (first text more all : Text) (counts : List ℕ) (well applied both : Bool) → first ≡ head_of x rules
+    → Puts opens x rules x.traces.items old new first text counts well → more ≡ text ++ applied_of x rules counts → all ≡ more ++ tail_of x
+    → ((js : List (List Judged)) → counts ≡ counts_of rules js → applied ≡ all_applied x rules js) → both ≡ (well && applied)
+    → Reports opens x rules old new both all
+rules_reported opens x rules old new first text more all counts well applied both is puts further end of so =
     let said = points_of x rules 0 x.traces.items puts.all in
+    let later = applied_of x rules (counts_of rules puts.all) in
     record {
       all = puts.all;
       held = puts.held;
-      are_well = puts.are_well;
+      are_well = sym (so ∙ ap₂ (λ (a b : Bool). a && b) (sym puts.are_well) (of puts.all puts.counted));
       report =
-          end ∙ ap (λ (z : Text). z ++ tail_of x) (puts.is ∙ ap (λ (z : Text). z ++ said) is) ∙ append_assoc (head_of x rules) said (tail_of x);
+          end
+          ∙ ap (λ (z : Text). z ++ tail_of x)
+          (further ∙ ap (λ (ns : List ℕ). text ++ applied_of x rules ns) puts.counted ∙ ap (λ (z : Text). z ++ later) (puts.is ∙ ap (λ (z : Text). z ++ said) is)
+          ∙ append_assoc (head_of x rules) said later)
+          ∙ append_assoc (head_of x rules) (said ++ later) (tail_of x) ∙ ap (λ (z : Text). head_of x rules ++ z) (append_assoc said later (tail_of x));
     }
+
+-- ---- The traces in which rules applied
+
+pub counted-suite :
+    {U E : Type 0} (x : Expect) (rules : List Rule) (counts : List ℕ) (n : ℕ) (r : Result U E) (old new : Text) → x.is_junit ≡ true → n ≡ length x.traces.items
+    → OnOk r (new ≡ old ++ applied_suite rules counts n) → OnOk r (new ≡ old ++ counted_of x rules counts)
+counted-suite x rules counts n (Err e) old new on count is = tt
+counted-suite x rules counts n (Ok u) old new on count is =
+    let m = length x.traces.items in
+    is ∙ ap (λ (k : ℕ). old ++ applied_suite rules counts k) count
+    ∙ ap (λ (b : Bool). old ++ (if b then applied_suite rules counts m else applied_points (length rules * m) rules counts m)) (sym on)
+
+pub counted-points :
+    {U E : Type 0} (x : Expect) (rules : List Rule) (counts : List ℕ) (n : ℕ) (r : Result U E) (old new : Text) → x.is_junit ≡ false → n ≡ length x.traces.items
+    → OnOk r (new ≡ old ++ applied_points (length rules * n) rules counts n) → OnOk r (new ≡ old ++ counted_of x rules counts)
+counted-points x rules counts n (Err e) old new off count is = tt
+counted-points x rules counts n (Ok u) old new off count is =
+    let m = length x.traces.items in
+    is ∙ ap (λ (k : ℕ). old ++ applied_points (length rules * k) rules counts k) count
+    ∙ ap (λ (b : Bool). old ++ (if b then applied_suite rules counts m else applied_points (length rules * m) rules counts m)) (sym off)
+
+pub applied-none :
+    (x : Expect) (rules : List Rule) (counts : List ℕ) (text : Text) → x.is_applied ≡ false → text ≡ text ++ applied_of x rules counts
+applied-none x rules counts text off = sym (append-nil text) ∙ ap (λ (b : Bool). text ++ (if b then counted_of x rules counts else [])) (sym off)
+
+pub applied-put :
+    {U E : Type 0} (x : Expect) (rules : List Rule) (counts : List ℕ) (r : Result U E) (old new : Text) → x.is_applied ≡ true
+    → OnOk r (new ≡ old ++ counted_of x rules counts) → OnOk r (new ≡ old ++ applied_of x rules counts)
+applied-put x rules counts (Err e) old new on is = tt
+applied-put x rules counts (Ok u) old new on is = is ∙ ap (λ (b : Bool). old ++ (if b then counted_of x rules counts else [])) (sym on)
 
 -- ---- Ends
 

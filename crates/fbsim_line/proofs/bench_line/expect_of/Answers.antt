@@ -42,7 +42,8 @@ returns-clause-rows c =
           (sym c.as_slice.ensures.value)
           ∙ sym c.declares_nothing.ensures ∙ c.if-declares_nothing.false;
       strict = c.has_flag.ensures;
-      cut = c.has_flag-2.ensures;
-      junit = c.has_flag-3.ensures;
+      applied = c.has_flag-2.ensures;
+      cut = c.has_flag-3.ensures;
+      junit = c.has_flag-4.ensures;
       why = c.asks_why.ensures;
     }

@@ -1,7 +1,7 @@
 use Rattle.fb_types.proofs.Common.{ℕ, List, ◌++◌, get_or, sym, ap, ◌∙◌, arith, take_all}
-use Rattle.fb_expect.specs.Reports.{escape, escape_byte}
+use Rattle.fb_expect.specs.Reports.{escape_bytes, escape_byte}
 use Rattle.fb_expect.proofs.lemmas.texts.JoinedTexts.{byte-more}
-use Rattle.fb_expect.proofs.tap.escape.Goals as goal
+use Rattle.fb_expect.proofs.tap.escape_bytes.Goals as goal
 
 pub loop-byte-preserved : goal.loop-byte-preserved
 loop-byte-preserved c =
@@ -9,4 +9,4 @@ loop-byte-preserved c =
     ∙ sym (byte-more c.args.mark c.args.part.now c.loop-byte.byte-index 0 c.loop-byte-test.true)
 
 pub returns : goal.returns
-returns c = c.loop-byte.invariant ∙ ap (escape c.args.mark) (take_all c.loop-byte.byte-index c.args.part.now (omega (arith, c.loop-byte-test.false)))
+returns c = c.loop-byte.invariant ∙ ap (escape_bytes c.args.mark) (take_all c.loop-byte.byte-index c.args.part.now (omega (arith, c.loop-byte-test.false)))
