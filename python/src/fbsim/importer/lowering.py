@@ -15,6 +15,7 @@ from .functions import SHIFTS
 from .kinds import LOGICAL, numbers
 from .loops import continued
 from .statements import Segment, Words, assigned, made, test, word
+from .widths import narrow
 
 ABOUT = {"stop": "a value that does not fit stops the run", "wrap": "a value that does not fit loses its upper bits",
          "bits": "the bits are read as those of the other type"}
@@ -84,7 +85,8 @@ class Lowering:
         """Return an assignment, which wraps what does not fit if that is asked for. The simulator stops at it otherwise."""
         target, assign, value = segment.row
         assert isinstance(target, Expression) and isinstance(value, Expression)
-        result, kept = self.expression(value), RANGES.get(target.type)
+        kept = RANGES.get(target.type)
+        result = self.expression(value, kept)
         if self.overflow == "wrap" and kept and value.type != "BOOL":
             result, _ = fitted(result, numbers(value), kept, "wrap")
         if isinstance(target, Part):
@@ -94,8 +96,10 @@ class Lowering:
             target = target.base
         return Segment(":=", [target, assign, result])
 
-    def expression(self, it: Expression) -> Expression:
-        """Return an expression of the profile. One that nests too deep after it was rewritten is refused."""
+    def expression(self, it: Expression, kept: Range | None = None) -> Expression:
+        """Return an expression of the profile, whose result is then kept in a range. One that nests too deep then is refused."""
+        for one in narrow(it, kept):
+            self.faults.warn(self.code.place(one.at), "I01", str(one))
         result = self.lowered(it)
         if nesting(result) > MOST_NESTED:
             self.refuse(it.start, f"this nests deeper than {MOST_NESTED} when it is expanded: assign a part of it to a variable")
