@@ -5,6 +5,7 @@ use super::phase::{Squares, numbers};
 use fb_board::{MAX_JOBS, MAX_SEATS};
 use fb_phase::{Crew, Gate, run_all};
 use std::alloc::Global;
+use std::hint::spin_loop;
 use std::process::Abort;
 use std::sync::Wait;
 use std::sync::atomic::Ordering::SeqCst;
@@ -186,4 +187,68 @@ fn nobody_waits_for_ever(rt: HostRuntime) {
             naps.is_over.store(true, SeqCst);
         },
     );
+}
+
+/// How many phases a crew of one thread has, each with a shift for each of 63 workers: a million and a half shifts.
+const PHASES: u32 = 24_000;
+
+/// The gate of a crew's thread, which counts how often it is passed.
+#[derive(Drop)]
+struct Counts {
+    passes: AtomicU64,
+}
+
+impl Gate for Counts {
+    fn at<R: Wait>(&self, _rt: &R, _number: usize) {
+        self.passes.fetch_add(1, SeqCst);
+    }
+}
+
+/// Waits until the gate was passed once more, but not for ever. It answers whether it was.
+fn is_passed(counts: &Counts, before: u64) -> bool {
+    for _ in 0..1_000_000_000u32 {
+        if counts.passes.load(SeqCst) != before {
+            return true;
+        }
+        spin_loop();
+    }
+    false
+}
+
+/// The job of each phase is done by the crew's thread, before the thread that calls finishes the phase. So this one goes on
+/// after more than a million shifts. It takes the other shifts of a phase, which find no job, while the caller pauses.
+#[test]
+fn a_thread_serves_more_than_a_million_shifts(rt: HostRuntime) {
+    let alloc = rt.alloc();
+    let counts = Counts {
+        passes: AtomicU64::new(0),
+    };
+    let work = Squares::unseen();
+    let crew: Crew<Squares> = Crew::new(alloc);
+    join(
+        &rt,
+        || crew.serve(&rt, alloc, &work, &counts, 1),
+        || {
+            for _ in 0..PHASES {
+                let before = counts.passes.load(SeqCst);
+                let jobs = numbers(&rt, alloc, 1);
+                assert!(rt; jobs.len() <= MAX_JOBS);
+                let begun = crew.begin(&rt, alloc, jobs, MAX_SEATS, 0);
+                let Ok(phase) = begun else {
+                    panic!(rt; "memory ran out");
+                };
+                assert!(rt;
+                    is_passed(&counts, before),
+                    "the thread serves no more shifts"
+                );
+                for _ in 0..2_000u32 {
+                    spin_loop();
+                }
+                let done = crew.finish(&rt, alloc, &work, phase, &counts);
+                assert!(rt; done.is_ok());
+            }
+            crew.dismiss(&rt);
+        },
+    );
+    assert!(rt; counts.passes.load(SeqCst) == u64::from(PHASES));
 }

@@ -3,9 +3,9 @@
 
 use super::clocks::{Pace, Stepping};
 use super::gates::{Meeting, expect_meeting};
-use super::writers::{Narrow, page};
+use super::writers::{ANY, Narrow, page, with_room};
 use super::{ENOUGH, inputs_of, must, to};
-use fb_sim::{Inputs, Outcome, run, run_serial, run_with_clock};
+use fb_sim::{Inputs, Outcome, RunError, run, run_serial, run_with_clock};
 use std::alloc::Global;
 use std::process::Abort;
 use std::sync::Wait;
@@ -299,4 +299,27 @@ fn workers_meet_in_a_later_round(rt: HostRuntime) {
         &Meeting::new(2, 3),
         result,
     );
+}
+
+/// Clocks that stand still: no round takes any time.
+static STILL: Pace = Pace {
+    by_wall: 0,
+    by_thread: 0,
+    late_from: u64::MAX,
+};
+
+/// The horizon of the longest run.
+const LATEST: u64 = 1_000_000_000_000;
+
+/// The text of the first rounds is written once it is long, also where no clock says that they took any time. Without that
+/// a run to the last tick would write nothing before its end.
+#[test]
+fn a_run_writes_where_clocks_stand_still(rt: HostRuntime) {
+    let inputs = deployed_by(WITH_FIVE.deploy);
+    let gate = Meeting::new(0, 0);
+    let clock = Stepping::new(STILL);
+    let mut out = with_room(rt.alloc(), ANY, 0);
+    let options = to(LATEST, ENOUGH, 2);
+    let ended = run_with_clock(&rt, rt.alloc(), &inputs, options, &mut out, &gate, &clock);
+    assert!(rt; matches!(ended, Err(RunError::Write(0))));
 }
