@@ -1,7 +1,6 @@
 """Tests of the plugin: references, and folders with a file fbsim.toml, in runs of pytest."""
 
 import pytest
-from common import CYCLE, RING
 from junitparser import Failure, JUnitXml
 from rooms import PASSED, names
 
@@ -33,27 +32,6 @@ def test_another_trace_than_the_reference_shows_where_they_differ(room):
         "the trace is not that of */trace", "line 6 differs in: tick",
         "*/trace, tick 104: 104 STATION > GATE.ARRIVE ARRIVED=1", "the run, tick 105: *", "*--fbsim-bless*",
     ])
-
-
-def test_bless_makes_the_new_trace_the_reference_and_says_so(room):
-    kept = (room.path / "trace").read_text()
-    room.change("deploy.toml", "latency = 4", "latency = 5")
-    result = room.run("--fbsim-bless")
-    result.assert_outcomes(passed=8, skipped=2)
-    result.stdout.fnmatch_lines(["*references changed by --fbsim-bless*", "*/trace"])
-    assert kept != (room.path / "trace").read_text() and "105 STATION" in (room.path / "trace").read_text()
-    result = room.run("--fbsim-bless")
-    result.assert_outcomes(passed=8, skipped=2)
-    result.stdout.no_fnmatch_line("*references changed*")
-
-
-def test_a_missing_reference_is_a_failure_and_bless_makes_it(room):
-    room.change("fbsim.toml", 'reference = "trace"', 'reference = "references/two.trace"')
-    result = room.run()
-    result.assert_outcomes(passed=7, failed=1, skipped=2)
-    result.stdout.fnmatch_lines(["there is no reference */references/two.trace: --fbsim-bless makes it"])
-    room.run("--fbsim-bless").assert_outcomes(passed=8, skipped=2)
-    assert (room.path / "references" / "two.trace").read_text() == (room.path / "trace").read_text()
 
 
 def test_a_scenario_whose_file_is_missing_is_a_failure(room):
@@ -96,11 +74,11 @@ def test_a_file_that_is_wrong_is_an_error_that_names_it(room, old, new, fault):
     result.stdout.fnmatch_lines([fault])
 
 
-def test_a_file_with_nothing_to_test_and_one_that_is_empty(room):
-    room.write("fbsim.toml", "")
-    result = room.run()
-    result.assert_outcomes(errors=1)
-    result.stdout.fnmatch_lines(["*there is neither a scenario nor a sequence"])
+@pytest.mark.parametrize("text", ["", 'decl = "conveyor.iec"\ndeploy = "deploy.toml"\nrules = "some.rules"\n'])
+def test_a_file_without_tests_is_a_project(room, text):
+    room.write("fbsim.toml", text)
+    room.write("test_it.py", "def test_it():\n    pass\n")
+    room.run().assert_outcomes(passed=1)
 
 
 def test_rules_that_name_nothing_are_an_error(room):
@@ -108,29 +86,6 @@ def test_rules_that_name_nothing_are_an_error(room):
     result = room.run()
     result.assert_outcomes(errors=1)
     result.stdout.fnmatch_lines(["refused E45", "*some.rules:10:1: 2nd rule, *: from: *"])
-
-
-STOPS = 'decl = "{}.iec"\nhorizon = 8\n[[scenario]]\nname = "it"\nsteps = {}\nstatus = {}\n'
-
-
-@pytest.mark.parametrize("name, steps, status, said", [
-    ("ring", 5, 1, None),
-    ("ring", 5, 0, "the run has status 1, and not 0: stop 0 MAIN steps"),
-    ("cycle", 5, 1, "the run has status 0, and not 1: end 8"),
-    ("slip", 5, 2, None),
-    ("slip", 5, 0, "refused E21"),
-    ("slip", 5, 1, "refused E21"),
-    ("ring", 5, 2, "the run has status 1, and not 2: stop 0 MAIN steps"),
-    ("cycle", 0, 2, "error: invalid value '0' for '--steps*"),
-])
-def test_the_status_of_a_scenario(room, name, steps, status, said):
-    room.write("ring.iec", RING)
-    room.write("cycle.iec", CYCLE)
-    room.write("slip.iec", CYCLE.replace("C.START", "C.STAR"))
-    room.write("fbsim.toml", STOPS.format(name, steps, status))
-    result = room.run()
-    result.assert_outcomes(passed=said is None, failed=said is not None)
-    result.stdout.fnmatch_lines([f"*{said or '1 passed'}*"])
 
 
 def test_a_sequence_needs_no_declaration(room):
@@ -148,48 +103,3 @@ def test_several_processes_of_xdist_and_a_report_for_junit(room):
     assert set(failed) == {"run", "the belt stops in time"}
     assert "180 LINE < BEHIND.CAME COUNT=1" in failed["the belt stops in time"]
     assert sorted(it.name for it in suite if not it.result)[:2] == ["E_CTU", "run"]
-
-
-def test_bless_with_several_processes(room):
-    room.change("deploy.toml", "latency = 4", "latency = 5")
-    result = room.run("-n", "2", "--fbsim-bless")
-    result.assert_outcomes(passed=8, skipped=2)
-    result.stdout.fnmatch_lines(["*references changed by --fbsim-bless*", "*/trace"])
-
-
-IN_PYTHON = """
-import fbsim
-APP = fbsim.Application("conveyor.iec", deploy="deploy.toml")
-def test_the_shift(reference):
-    trace = APP.run("stimuli.csv", horizon=800)
-    trace.expect("some.rules")
-    assert trace == reference("trace")
-"""
-
-
-def test_a_bench_in_python(room):
-    (room.path / "fbsim.toml").unlink()
-    room.pytester.makepyfile(IN_PYTHON)
-    room.run().assert_outcomes(passed=1)
-    room.change("deploy.toml", "latency = 4", "latency = 5")
-    result = room.run()
-    result.assert_outcomes(failed=1)
-    result.stdout.fnmatch_lines(["E*the trace is not that of */trace", "E*line 6 differs in: tick", "*--fbsim-bless*"])
-    room.run("--fbsim-bless").assert_outcomes(passed=1)
-    room.run().assert_outcomes(passed=1)
-    (room.path / "trace").unlink()
-    result = room.run()
-    result.assert_outcomes(failed=1)
-    result.stdout.fnmatch_lines(["E*there is no reference */trace: --fbsim-bless makes it"])
-    room.change("deploy.toml", "latency = 5", "latency = 15")
-    result = room.run()
-    result.assert_outcomes(failed=1)
-    result.stdout.fnmatch_lines(["E*RulesBroken: the belt stops in time: *tick 180: 180 LINE < BEHIND.CAME COUNT=1"])
-
-
-def test_two_traces_that_differ_show_where(room):
-    (room.path / "fbsim.toml").unlink()
-    room.pytester.makepyfile(IN_PYTHON.replace('reference("trace")', 'APP.run("stimuli.csv", horizon=801)'))
-    result = room.run()
-    result.assert_outcomes(failed=1)
-    result.stdout.fnmatch_lines(["E*the traces differ", "E*line 39 differs in: tick"])

@@ -2,7 +2,7 @@
 
 from fbsim.application import Application, Stream
 from fbsim.faults import (
-    Fault, FileFault, InputFault, Location, OutOfMemory, ProgramFault, ProgramMissing, Refused,
+    Fault, FileFault, InputFault, Location, OutOfMemory, ProgramFault, ProgramMissing, ReferenceDiffers, Refused,
     RulesBroken, SequenceBroken, Stop, Stopped, TimedOut, WriteFault
 )
 from fbsim.latencies import Latencies, Pattern
@@ -17,7 +17,7 @@ __version__ = "1.2.0"
 
 __all__ = [
     "Application", "Fault", "FileFault", "InputFault", "Jitter", "Latencies", "Line", "Lines", "Location",
-    "OutOfMemory", "Pattern", "ProgramFault", "ProgramMissing", "Refused", "Report", "RulesBroken", "SequenceBroken",
-    "Session", "Signal", "Stop", "Stopped", "Stream", "Sweep", "TimedOut", "Trace", "Variant", "Verdict", "WriteFault",
-    "check_sequence", "find_program", "jitter"
+    "OutOfMemory", "Pattern", "ProgramFault", "ProgramMissing", "ReferenceDiffers", "Refused", "Report", "RulesBroken",
+    "SequenceBroken", "Session", "Signal", "Stop", "Stopped", "Stream", "Sweep", "TimedOut", "Trace", "Variant",
+    "Verdict", "WriteFault", "check_sequence", "find_program", "jitter"
 ]

@@ -109,6 +109,10 @@ class SequenceBroken(Fault, AssertionError):
     """A block type did not answer as its sequence says."""
 
 
+class ReferenceDiffers(Fault, AssertionError):
+    """A trace is not that of its reference."""
+
+
 class RulesBroken(Fault, AssertionError):
     """A trace breaks rules. `report` has the verdicts of all rules."""
 

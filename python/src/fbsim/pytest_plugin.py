@@ -5,17 +5,18 @@ Such a file is a bench without a line of Python: it names scenarios, rules and s
 from __future__ import annotations
 
 import json
+import sys
 from collections.abc import Callable, Iterator
-from functools import partial
+from functools import cached_property, partial
 from pathlib import Path
 from typing import Any
 
 import pytest
 
 from fbsim.faults import Fault, Refused, RulesBroken
-from fbsim.findings import Findings, Once, judge
-from fbsim.project import Bench, Scenario, names_of_rules, read_bench
-from fbsim.references import Reference, bless
+from fbsim.findings import Findings, Once, check_coverage, judge, warnings_of
+from fbsim.project import Scenario, names_of_rules, read_bench
+from fbsim.references import Reference, bless, changed
 from fbsim.sequence import check_sequence
 from fbsim.trace import Report, Trace, Verdict
 
@@ -29,8 +30,24 @@ class BenchWarning(UserWarning):
 
 def pytest_addoption(parser: pytest.Parser) -> None:
     """Adds the option --fbsim-bless."""
-    text = "makes the traces of runs the references that they are compared with"
-    parser.getgroup("fbsim").addoption("--fbsim-bless", action="store_true", help=text)
+    how: dict[str, Any] = {"action": "store_const", "dest": "fbsim_bless"}
+    group = parser.getgroup("fbsim")
+    text = "makes the traces of runs the references that they are compared with, unless they break rules or CI is set"
+    group.addoption("--fbsim-bless", const="yes", help=text, **how)
+    # (as an option of its own it takes no word after it, as a value of the other one would)
+    group.addoption("--fbsim-bless=force", const="force", help="the same, whatever breaks and wherever it runs", **how)
+
+
+def hides_frames(excinfo: pytest.ExceptionInfo[BaseException] | None) -> bool:
+    """Whether a failure is shown without the frames of this package: not if the package itself is wrong."""
+    return excinfo is not None and isinstance(excinfo.value, Fault)
+
+
+def pytest_configure() -> None:
+    """Has pytest ask `hides_frames` for each frame of a module of this package."""
+    for name, module in list(sys.modules.items()):
+        if name.partition(".")[0] == "fbsim":
+            setattr(module, "__tracebackhide__", hides_frames)
 
 
 @pytest.fixture
@@ -41,20 +58,24 @@ def reference(request: pytest.FixtureRequest) -> Any:
 
 def pytest_assertrepr_compare(op: str, left: object, right: object) -> list[str] | None:
     """Shows where two traces first differ."""
-    if op != "==" or not isinstance(left, Trace):
+    if op != "==":
         return None
-    if isinstance(right, Reference):
-        return right.difference(left)
-    return ["the traces differ", *left.diff(right).splitlines()] if isinstance(right, Trace) else None
+    for trace, other in ((left, right), (right, left)):
+        if isinstance(trace, Trace) and isinstance(other, Reference):
+            return other.difference(trace)
+    if isinstance(left, Trace) and isinstance(right, Trace):
+        return ["the traces differ", *left.diff(right).splitlines()]
+    return None
 
 
-def pytest_terminal_summary(terminalreporter: Any) -> None:
-    """Names the references that were changed."""
-    reports = terminalreporter.stats.get("passed", [])
-    changed = sorted({value for it in reports for name, value in it.user_properties if name == "fbsim_blessed"})
-    if changed:
+def pytest_terminal_summary(terminalreporter: Any, config: pytest.Config) -> None:
+    """Names all references that were changed, whatever became of their tests."""
+    reports = [it for them in terminalreporter.stats.values() for it in them]
+    named = {value for it in reports for name, value in getattr(it, "user_properties", ()) if name == "fbsim_blessed"}
+    named |= changed(config)
+    if named:
         terminalreporter.section("references changed by --fbsim-bless")
-        terminalreporter.write_line("\n".join(changed))
+        terminalreporter.write_line("\n".join(sorted(named)))
 
 
 def pytest_collect_file(file_path: Path, parent: pytest.Collector) -> pytest.Collector | None:
@@ -95,15 +116,40 @@ class BenchFile(ByText, pytest.File):  # type: ignore[misc]
         self.bench = read_bench(self.path)
         rules = names_of_rules(self.bench, self.path)
         scenarios = [
-            ScenarioTests.from_parent(self, name=it.name, bench=self.bench, scenario=it, rules=rules)
+            ScenarioTests.from_parent(self, name=it.name, file=self, scenario=it, rules=rules)
             for it in self.bench.scenarios
         ]
         yield from scenarios
         for it in self.bench.sequences:
             yield BenchItem.from_parent(self, name=it["name"], test=partial(self.test_sequence, it))
+        self.scenarios = [it for it in scenarios if it.has_rules]
         if rules and scenarios:
-            judged = [it for it in scenarios if it.has_rules]
-            yield AppliedTests.from_parent(self, name="applied", bench=self.bench, scenarios=judged, rules=rules)
+            yield AppliedTests.from_parent(self, name="applied", file=self, rules=rules)
+        for name, test in (("coverage", self.test_coverage), ("lint", self.test_lint)):
+            if getattr(self.bench, name) is not None:
+                yield BenchItem.from_parent(self, name=name, test=test)
+
+    @cached_property
+    def has_coverage(self) -> bool:
+        """Whether the traces are needed until their coverage is judged."""
+        return any(it.parent is self and it.name == "coverage" for it in self.session.items)
+
+    def test_coverage(self, item: pytest.Item) -> None:
+        """Tests whether the traces of all scenarios cover enough, and drops them."""
+        found = []
+        for scenario in self.scenarios:
+            try:
+                found.append(scenario.found(item))
+            except Fault as fault:
+                raise Fault(f"{scenario.name}: its run failed, so nobody knows what it covers") from fault
+        check_coverage(self.bench, [it.trace for it in found if it.trace is not None])
+        for it in found:
+            it.trace = None
+
+    def test_lint(self, item: pytest.Item) -> None:
+        """Tests whether the program warns of nothing that is denied, and shows the warnings that are not."""
+        for text in warnings_of(self.bench):
+            item.warn(BenchWarning(text))
 
     def test_sequence(self, given: dict[str, Any], item: pytest.Item) -> None:
         """Tests whether a block type answers as a service sequence says."""
@@ -115,12 +161,14 @@ class BenchFile(ByText, pytest.File):  # type: ignore[misc]
 class ScenarioTests(pytest.Collector):
     """A scenario: a test of its run, and one for each rule. It is run and judged once for all of them."""
 
-    def __init__(self, bench: Bench, scenario: Scenario, rules: list[str], **given: Any) -> None:
+    def __init__(self, file: BenchFile, scenario: Scenario, rules: list[str], **given: Any) -> None:
         super().__init__(**given)
-        self.bench, self.scenario, self.rules = bench, scenario, rules
-        # (a blessing needs the trace of the run)
-        keep = bool(self.config.getoption("fbsim_bless"))
-        self.findings = Once(partial(judge, bench, scenario, keep))
+        self.file, self.bench, self.scenario, self.rules = file, file.bench, scenario, rules
+        self.findings = Once(partial(judge, file.bench, scenario, self.keeps_trace))
+
+    def keeps_trace(self) -> bool:
+        """Whether its trace is needed when it is judged: a blessing and the coverage need it."""
+        return bool(self.config.getoption("fbsim_bless")) or (self.has_rules and self.file.has_coverage)
 
     @property
     def has_rules(self) -> bool:
@@ -142,19 +190,30 @@ class ScenarioTests(pytest.Collector):
         return found
 
     def test_run(self, item: pytest.Item) -> None:
-        """Tests whether the scenario ends with its status, and has the trace of its reference."""
+        """Tests whether the scenario ends as it must, and has the trace of its reference."""
+        wanted = self.scenario
         try:
-            found, wanted = self.found(item), self.scenario.status
-        except Refused:
-            if self.scenario.status != 2:
+            found = self.found(item)
+        except Refused as it:
+            if wanted.status != 2:
                 raise
+            if wanted.refused is None:
+                item.warn(BenchWarning(f'{wanted.name}: status = 2 is any refusal: write refused = "{it.number}"'))
+            elif it.number != wanted.refused:
+                raise Fault(f"the inputs are refused by {it.number}, and not by {wanted.refused}:\n{it}") from it
             return
-        if wanted != bool(found.stop):
-            raise Fault(f"the run has status {int(bool(found.stop))}, and not {wanted}: {found.stop or found.last}")
-        if found.difference:
-            if self.scenario.reference is None or found.trace is None:
-                raise Fault("\n".join(found.difference))
-            bless(self.scenario.reference, found.trace, item)
+        stop = found.stop and found.stop._replace(where="")
+        if wanted.status != bool(stop):
+            raise Fault(f"the run has status {int(bool(stop))}, and not {wanted.status}: {found.stop or found.last}")
+        if stop and not wanted.is_expected(stop):
+            raise Fault(f"the run does not stop as it must, by {wanted.stop}:\n{found.stop}")
+        if stop and wanted.stop is None:
+            whole = f"{stop.tick} {stop.resource} {stop.reason}"
+            text = f'status = 1 is any stop: write stop = "{stop.reason}" or stop = "{whole}"'
+            item.warn(BenchWarning(f"{wanted.name}: {text}"))
+        if wanted.reference is not None and found.difference:
+            broken = [str(found.report.fault)] if found.report.fault else [it.rule for it in found.report().broken]
+            bless(wanted.reference, found.trace, item, found.difference, broken)
 
     def test_rule(self, at: int, item: pytest.Item) -> None:
         """Tests whether a rule holds. It is skipped if the trace does not decide it, unless the scenario is strict."""
@@ -173,17 +232,12 @@ def reason_of(verdict: Verdict) -> str:
     return "; ".join([verdict.verdict, *verdict.notes])
 
 
-def has_applied(verdict: Verdict) -> bool:
-    """Whether a trace decides a rule at least once. Of an undecided one, only the last time is sure to be undecided."""
-    return verdict.verdict == "broken" or verdict.decided > (verdict.verdict == "undecided")
-
-
 class AppliedTests(pytest.Collector):
     """A test for each rule of whether it was decided in at least one scenario: else it checked nothing."""
 
-    def __init__(self, bench: Bench, scenarios: list[ScenarioTests], rules: list[str], **given: Any) -> None:
+    def __init__(self, file: BenchFile, rules: list[str], **given: Any) -> None:
         super().__init__(**given)
-        self.bench, self.scenarios, self.rules = bench, scenarios, rules
+        self.bench, self.scenarios, self.rules = file.bench, file.scenarios, rules
 
     def collect(self) -> Iterator[pytest.Item]:
         """Goes over the rules that must apply."""
@@ -196,7 +250,7 @@ class AppliedTests(pytest.Collector):
         notes = []
         for it in sorted(self.scenarios, key=lambda it: not it.findings.is_made):
             verdict = verdict_in(it, at, item)
-            if verdict is not None and has_applied(verdict):
+            if verdict is not None and verdict.applied:
                 return
             notes.append(f"{it.name}: {reason_of(verdict) if verdict else 'its run failed'}")
         rest = [f"and {len(notes) - MOST_NOTES} more"] * (len(notes) > MOST_NOTES)

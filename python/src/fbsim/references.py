@@ -2,11 +2,20 @@
 
 from __future__ import annotations
 
+import os
+import warnings
+from collections.abc import Sequence
 from pathlib import Path
+from typing import Any, cast
 
 import pytest
 
+from fbsim.faults import ReferenceDiffers
 from fbsim.trace import Trace
+
+# References that were changed in this process. (A test that is interrupted has no report to name them.)
+CHANGED: Any = pytest.StashKey()
+HINT = "if this is intended: --fbsim-bless makes the new trace the reference"
 
 
 def difference(path: Path, trace: Trace) -> list[str]:
@@ -16,12 +25,41 @@ def difference(path: Path, trace: Trace) -> list[str]:
     if trace == Trace(path):
         return []
     said = Trace(path).diff(trace).replace(str(trace.path), "the run")
-    hint = "if this is intended: --fbsim-bless makes the new trace the reference"
-    return [f"the trace is not that of {path}", *said.splitlines(), hint]
+    return [f"the trace is not that of {path}", *said.splitlines(), HINT]
+
+
+def may_bless(config: pytest.Config, broken: Sequence[str] = ()) -> tuple[bool, list[str]]:
+    """Returns whether --fbsim-bless changes references, and why it does not though it is given.
+
+    `broken` are the rules that the new trace breaks. With --fbsim-bless=force neither they nor a CI engine matter.
+    """
+    how = config.getoption("fbsim_bless")
+    faults = ["the environment variable CI is set"] * bool(os.environ.get("CI"))
+    faults += [f"the trace breaks rules: {', '.join(broken)}"] * bool(broken)
+    if how and how != "force" and faults:
+        return False, [f"not blessed, since {' and '.join(faults)}; --fbsim-bless=force makes it the reference"]
+    return bool(how), []
+
+
+def bless(path: Path, trace: Trace | None, node: pytest.Item, differs: list[str], broken: Sequence[str] = ()) -> None:
+    """Makes a trace that differs the reference where that is wanted, otherwise raises `ReferenceDiffers`."""
+    blesses, why_not = may_bless(node.config, broken)
+    if not blesses or trace is None:
+        raise ReferenceDiffers("\n".join([*differs, *why_not]))
+    path.parent.mkdir(parents=True, exist_ok=True)
+    trace.save(path)
+    node.user_properties.append(("fbsim_blessed", str(path)))
+    changed(node.config).add(str(path))
+
+
+def changed(config: pytest.Config) -> set[str]:
+    """Returns the references that this process has changed, to be added to."""
+    stash: Any = config.stash
+    return cast(set[str], stash.setdefault(CHANGED, set()))
 
 
 class Reference:
-    """A trace in a file, as somebody last reviewed it. With --fbsim-bless it takes what it is compared with."""
+    """A trace in a file, as somebody last reviewed it. `check` compares a trace with it."""
 
     def __init__(self, path: Path, node: pytest.Item) -> None:
         self.path, self.node = path, node
@@ -31,23 +69,20 @@ class Reference:
 
     __hash__ = None  # type: ignore[assignment]
 
+    def check(self, trace: Trace) -> None:
+        """Raises `ReferenceDiffers` if a trace differs. With --fbsim-bless the trace becomes the reference instead."""
+        differs = difference(self.path, trace)
+        if differs:
+            bless(self.path, trace, self.node, differs)
+
     def __eq__(self, other: object) -> bool:
+        """Whether a trace is the same. Comparing changes no file."""
         if not isinstance(other, Trace):
             return NotImplemented
-        if self.path.is_file() and other == Trace(self.path):
-            return True
-        if not self.node.config.getoption("fbsim_bless"):
-            return False
-        bless(self.path, other, self.node)
-        return True
+        text = f"{self!r} is compared by ==, which blesses nothing: use reference({self.path.name!r}).check(trace)"
+        warnings.warn(text, DeprecationWarning, stacklevel=2)
+        return not difference(self.path, other)
 
     def difference(self, trace: Trace) -> list[str]:
         """Returns what `fbsim diff` says of the reference and a trace."""
         return difference(self.path, trace)
-
-
-def bless(path: Path, trace: Trace, node: pytest.Item) -> None:
-    """Makes a trace the reference of a file, and notes it for the report."""
-    path.parent.mkdir(parents=True, exist_ok=True)
-    trace.save(path)
-    node.user_properties.append(("fbsim_blessed", str(path)))

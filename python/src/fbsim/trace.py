@@ -27,7 +27,7 @@ if TYPE_CHECKING:
 POINT = re.compile(
     r"^(not )?ok \d+ - (.*?)(?: # SKIP (undecided|never applied))?\n"
     r'(?:  ---\n  message: "(.*)"\n  trace: .*\n(?:  line: (\d+)\n  tick: (\d+)\n)?  \.\.\.\n)?'
-    r"# (?:decided|applied) (\d+) times?(?:, .*)?\n"
+    r"# (decided|applied) (\d+) times?(?:, .*)?\n"
     r"((?:# .*\n)*)", re.MULTILINE
 )
 
@@ -259,7 +259,8 @@ def temporary(application: Application | None) -> tuple[Trace, IO[bytes]]:
 class Verdict(NamedTuple):
     """What a rule comes to: kept, broken, undecided or never applied. A broken one has a message and its line.
 
-    `decided` is how often the rule was decided, and `notes` says which patterns no line of the trace meets.
+    `decided` is how often the rule was decided, or applied if it is undecided. `applied` is whether it was decided at
+    least once. `notes` says which patterns no line of the trace meets.
     """
 
     rule: str
@@ -270,6 +271,7 @@ class Verdict(NamedTuple):
     text: str = ""
     notes: tuple[str, ...] = ()
     decided: int = 0
+    applied: bool = False
 
     def __str__(self) -> str:
         place = "" if self.line is None else f" at line {self.line}, tick {self.tick}: {self.text}"
@@ -303,8 +305,10 @@ def read_report(text: str, trace: Trace) -> Report:
     for it in points:
         line_number, tick = (int(it[k]) if it[k] else None for k in (5, 6))
         verdict, rule = "broken" if it[1] else it[3] or "kept", re.sub(r"\\([\\#])", r"\1", it[2])
-        notes, line = tuple(note[2:] for note in it[8].splitlines()), wanted.get(line_number or 0, "")
-        verdicts.append(Verdict(rule, verdict, it[4] or "", line_number, tick, line, notes, int(it[7])))
+        notes, line = tuple(note[2:] for note in it[9].splitlines()), wanted.get(line_number or 0, "")
+        # (of a rule that is undecided at the end, as the program then says, the last time is)
+        applied = verdict == "broken" or int(it[8]) > (it[7] == "applied")
+        verdicts.append(Verdict(rule, verdict, it[4] or "", line_number, tick, line, notes, int(it[8]), applied))
     return Report(tuple(verdicts))
 
 
