@@ -269,7 +269,11 @@ def test_a_file_with_another_interface_is_another_type(tmp_path):
     assert "type E_SR: E_SR_1" in done.text("import.txt")
 
 
-@pytest.mark.parametrize("name", "E_RS E_TRAIN E_TABLE E_N_TABLE E_T_FF E_DEMUX TON TOF TP CTU CTD CTUD RS SR".split())
+ANNEX = """E_RS E_TRAIN E_TABLE E_N_TABLE E_T_FF E_DEMUX E_SPLIT_3 E_SPLIT_4 E_MERGE_3 E_MERGE_4 E_T_FF_SR E_CTD E_CTUD E_RDELAY
+    E_PULSE E_TON E_TOF E_TP E_SPLIT_17 E_MERGE_2 TON TOF TP CTU CTD CTUD RS SR"""
+
+
+@pytest.mark.parametrize("name", ANNEX.split())
 def test_types_of_annex_a_come_with_all_that_they_need(name, tmp_path):
     done = import_all(tmp_path, {"A.sys": system(f'<FB Name="F" Type="{name}"/>')})
     assert done.status == 0, done.lines
@@ -281,6 +285,38 @@ def test_the_names_of_4diac_for_timers_are_known(tmp_path):
     done = import_all(tmp_path, {"lib/FB_TON.fbt": text, "A.sys": system('<FB Name="F" Type="FB_TON"/>')})
     assert done.status == 0, done.lines
     assert "F : TON;" in done.declaration()
+
+
+# Files of tools without a chart, and names without a file.
+@pytest.mark.parametrize("has_file", [True, False])
+def test_splits_and_merges_of_any_number_are_made(has_file, tmp_path):
+    network = '<FB Name="S" Type="E_SPLIT_5"/><FB Name="M" Type="iec61499::events::E_MERGE_6"/>'
+    network += connections("Event", "S.EO5 M.EI1", "S.EO2 M.EI6")
+    files = {f"lib/{it}.fbt": service(it).replace("SHOW", "EI").replace("PRESSED", "EO") for it in ("E_SPLIT_5", "E_MERGE_6")}
+    done = import_all(tmp_path, {**(files if has_file else {}), "A.sys": system(network)})
+    assert done.status == 0, done.lines
+    assert (
+        done.run(1, "tick,event,values\n0,S.EI,\n")
+        == """\
+0 MAIN > S.EI
+0 MAIN < S.EO1
+0 MAIN < S.EO2
+0 MAIN < S.EO3
+0 MAIN < S.EO4
+0 MAIN < S.EO5
+0 MAIN > M.EI6
+0 MAIN < M.EO
+0 MAIN > M.EI1
+0 MAIN < M.EO
+end 1
+"""
+    )
+
+
+@pytest.mark.parametrize("name", ["E_SPLIT_1", "E_SPLIT_201", "E_MERGE_X", "E_MERGE_²", "E_REND_3"])
+def test_other_names_like_splits_are_no_types(name, tmp_path):
+    done = import_all(tmp_path, {"A.sys": system(f'<FB Name="S" Type="{name}"/>')})
+    assert done.status == 2 and len(done.lines) == 1, done.lines
 
 
 def test_a_list_of_times_is_given_to_the_inputs_of_a_table(tmp_path):

@@ -15,6 +15,7 @@ from .document import Code, Node
 from .expressions import UNSIGNED
 from .files import TypeFile, TypeFiles, is_standard, package_of
 from .made import Made
+from .splits import split_or_merge
 from .stubs import Stubs, give_ports, make_stub
 
 KINDS = {"SubAppType": "subapplication", "AdapterType": "adapter", "System": "system", "BasicFB": "basic",
@@ -117,7 +118,10 @@ class Library:
 
     def look_up(self, name: str, package: str, place: Place, tag: str) -> Block | None:
         """Return the type of a file, or the one that the simulator has, or refuse the name."""
-        usual = self.built_in.get(name.upper()) or self.annex.get(name.upper().removeprefix("FB_"))
+        usual = self.built_in.get(name.upper()) or self.annex.get(name.upper().removeprefix("FB_")) or split_or_merge(name.upper(), Block)
+        if usual and usual.out not in self.taken:
+            self.annex[usual.out] = usual
+            self.taken.add(usual.out)
         found = self.files.find(name, package, tag, usual is not None)
         if len(found) > 1:
             paths, example = " and ".join(it.path for it in found[:5]), found[-1].package or "PACKAGE"
