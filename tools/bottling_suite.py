@@ -23,6 +23,9 @@ PROGRAM = f"{TOP}/crates/fbsim/out/fbsim"
 EXAMPLE = f"{TOP}/examples/bottling"
 PAGE = f"{TOP}/docs/BENCH.md"
 SCENARIOS = ["emergency", "rejects", "shift"]
+EMERGENCY = "the filler hears of an emergency within the latency of its link"
+# In how many of the three traces a rule applies, if not in all: only in `shift` a pallet gets full, and a recipe is refused.
+APPLIED = {"nothing is put on a full pallet": 1, "a refused recipe is not loaded": 1}
 # Calls in the folder of a copy, as what runs programs makes no other folder its own.
 CALL = ["sh", "-c", 'cd "$1" && shift && exec "$@"', "sh"]
 
@@ -123,6 +126,30 @@ def other_application(bench):
     bench.write("shift/args", "run\nother.iec\n--horizon\n48000\n")
 
 
+def blessed(bench):
+    assert bench.call("./suite", "bless")[0] == 0
+
+
+def without_stimuli(bench):
+    for it in SCENARIOS:
+        bench.write(f"{it}/stimuli.csv", "tick,event,values\n")
+    blessed(bench)
+
+
+def stimuli_beyond_horizon(bench):
+    for it in SCENARIOS:
+        rows = content(f"{bench.folder}/{it}/stimuli.csv").splitlines()
+        bench.write(f"{it}/stimuli.csv", "\n".join([rows[0], *(f"90{row}" for row in rows[1:] if len(row.split(",")[0]) > 3), ""]))
+    blessed(bench)
+
+
+def horizon_of_one(bench):
+    for it in SCENARIOS:
+        args = content(f"{bench.folder}/{it}/args").splitlines()
+        bench.write(f"{it}/args", "\n".join([*args[:-1], "1", ""]))
+    blessed(bench)
+
+
 def link_to_result(bench):
     bench.remove("shift/trace")
     os.symlink("../out/shift.trace", f"{bench.folder}/shift/trace")
@@ -151,10 +178,14 @@ BREAKS = [
     Break("args name a copy of the declaration", copy_of_declaration, "shift/args: no word names the declaration"),
     Break("args run another application", other_application, "shift/args: no word names the declaration"),
     Break("args have no deployment", lambda it: it.edit("shift/args", "--deploy\n../deploy.toml\n", ""), "shift/args: there is no --deploy"),
+    Break("a rule applies in no trace", lambda it: it.edit("bottling.rules", "MODE=2", "MODE=4"), f"{EMERGENCY}: applied in 0 of 3 traces"),
+    Break("all stimuli are removed, and this is blessed", without_stimuli, f"{EMERGENCY}: applied in 0 of 3 traces"),
+    Break("all stimuli are beyond the horizon, and this is blessed", stimuli_beyond_horizon, f"{EMERGENCY}: applied in 0 of 3 traces"),
+    Break("all runs end at once, and this is blessed", horizon_of_one, f"{EMERGENCY}: applied in 0 of 3 traces"),
     Break("a reference is a link to the trace of the run", link_to_result, "shift/trace: this is a link to the trace of the run"),
     Break("a scenario has the name of the folder for results", lambda it: it.copy("shift", "out"), "out: this folder is for results", 3),
     Break("the program does nothing", program_that_does_nothing, "there are 0 points for 3 traces and 12 rules"),
-    Break("a report lacks a point", lambda it: it.wrap("expect", '"$program" "$@" | sed "/^ok 7 /d"; exit 0'), "there are 35 points for 3 traces and 12 rules"),
+    Break("a report lacks a point", lambda it: it.wrap("expect", '"$program" "$@" | sed "/^ok 7 /d"; exit 0'), "there are 47 points for 3 traces and 12 rules"),
     Break("args are cut off", lambda it: it.edit("shift/args", "--horizon\n48000\n", "--horizon\n"), "shift: the status of its run is 5, expected 0"),
     Break("args name no file", lambda it: it.edit("shift/args", "stimuli.csv", "nothing.csv"), "shift: the status of its run is 3, expected 0"),
     Break("stimuli are missing", lambda it: it.remove("shift/stimuli.csv"), "shift: the status of its run is 3, expected 0"),
@@ -224,6 +255,7 @@ def faults_of_green(room):
     bench = Bench(room, "green")
     rules = re.findall(r'^name = "(.*)"$', content(f"{EXAMPLE}/bottling.rules"), re.M)
     expected = [*SCENARIOS, "bottling.rules", *(f"{rule} ({name}.trace)" for name in SCENARIOS for rule in rules)]
+    expected += [f"{rule}: applied in {APPLIED.get(rule, 3)} of 3 traces" for rule in rules]
     first = bench.call("./suite")
     if (first[0], points_of(first[1]), first[2]) != (0, expected, "") or not first[1].endswith(f"1..{len(expected)}\n"):
         yield f"nothing is broken: {first}"
@@ -277,10 +309,10 @@ def faults_of_one(room):
 def faults_of_places(room):
     """Yields what is wrong where a scenario is hidden, or results are to go into the folder of one."""
     bench = Bench(room, "hidden")
-    os.rename(f"{bench.folder}/shift", f"{bench.folder}/.shift")
+    os.rename(f"{bench.folder}/emergency", f"{bench.folder}/.emergency")
     os.mkdir(f"{bench.folder}/.cache")
     status, out, err = bench.call("./suite")
-    if status or not out.endswith("\n# skipped: .shift, since its name begins with a dot\n# 2 scenarios, 12 rules\n1..27\n") or ".cache" in out:
+    if status or not out.endswith("\n# skipped: .emergency, since its name begins with a dot\n# 2 scenarios, 12 rules\n1..39\n") or ".cache" in out:
         yield f"a hidden scenario: {status}, {out}{err}"
     bench = Bench(room, "into")
     status, out, err = bench.call("./suite", out="shift")
