@@ -5,6 +5,7 @@ from __future__ import annotations
 from collections.abc import Callable, Iterable
 
 from .common import TYPES
+from .expressions import BITS
 from .wires import Key
 
 
@@ -13,7 +14,7 @@ def literal_type(text: str) -> str:
     word, mark, _ = text.strip().upper().partition("#")
     if not mark:
         return "BOOL" if word in ("TRUE", "FALSE") else ""
-    return "TIME" if word == "T" else word if word in TYPES else ""
+    return "TIME" if word == "T" else word if word in (*TYPES, *BITS) else ""
 
 
 def infer(edges: Iterable[tuple[Key, Key]], known: Callable[[Key], str], given: dict[Key, str]) -> dict[Key, str]:

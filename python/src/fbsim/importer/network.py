@@ -12,7 +12,9 @@ from dataclasses import dataclass, field
 from .blocks import Block, Library, Port, full_type, read_interface
 from .common import MARK, Faults, Folded, Names, Place, T, shown
 from .document import Code, Node, Source
+from .expressions import UNSIGNED
 from .files import package_of
+from .function_blocks import Functions, function_block
 from .inference import infer, literal_type
 from .relays import Relays, communication
 from .structured_text import constant
@@ -67,7 +69,8 @@ class Network:
 
     def add_instance(self, node: Node, path: str, types: tuple[str, ...]) -> None:
         """Add an instance, or the inside of a subapplication, whose ports only hand on what comes to them."""
-        block, place = communication(node.get("Type"), node.at("Name")), node.at("Name")
+        place = node.at("Name")
+        block = communication(node.get("Type"), place) or function_block(full_type(node), place, self.library)
         if block is None and (node.get("Type") or node.tag == "FB"):
             block = self.library.get(full_type(node), node.at("Type"), node.tag)
         elif block is None:
@@ -178,6 +181,12 @@ class Network:
         block = self.blocks.get(key[0])
         return block.ports[key[1]].type if block and key[1] in block.ports else ""
 
+    def declared_of(self, key: Key) -> str:
+        """Return the type of a variable as it is declared, or nothing if it is open."""
+        block = self.blocks.get(key[0])
+        port = block.ports.get(key[1]) if block else None
+        return port.declared or port.type if port else ""
+
     def targets(self, key: Key, outer: Wire | None = None, depth: int = 0) -> Iterator[tuple[Key, Wire | None]]:
         """Return the ports to which a connection leads in the end, each with the outermost connection on the way.
 
@@ -222,9 +231,13 @@ class Network:
 
         Parameters of a subapplication, and its initial values, go to the inputs inside."""
         relays = Relays(self, self.flat())
-        edges = [(it.source, it.target) for it in relays.wires if not it.is_event] + relays.edges()
-        given = {key: literal_type(code.text) for key, code in self.parameters.items()} | dict.fromkeys(self.constants, "BOOL")
-        self.wires = relays.expanded(infer(edges, self.type_of, given))
+        functions = Functions(self, relays.wires)
+        edges = [*((it.source, it.target) for it in relays.wires if not it.is_event), *relays.edges(), *functions.edges()]
+        given = {end: literal_type(code.text) for key, code in self.parameters.items() for end, _ in self.targets(key)}
+        given |= dict.fromkeys(self.constants, "BOOL")
+        types = functions.settled(lambda more: infer(edges, self.declared_of, more), given)
+        functions.expand(types)
+        self.wires = relays.expanded({key: UNSIGNED.get(kind, kind) for key, kind in types.items()})
         set_already = {it.target for row in self.outgoing.values() for it in row}
         for path, block in self.blocks.items():
             for port in block.side("data", False) if block and block.kind == "subapplication" else ():
