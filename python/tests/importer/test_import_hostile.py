@@ -157,7 +157,7 @@ def test_a_folder_with_files_is_not_written(tmp_path):
     (tmp_path / "out").mkdir()
     (tmp_path / "out" / "mine").write_text("kept")
     done = import_all(tmp_path, {"A.fbt": basic().replace("Adder", "A", 1)})
-    assert done.status == 3 and done.lines == ["fbsim-import: out: this is no new or empty folder"]
+    assert done.status == 3 and done.lines == ["fbsim-import: out: this is no new or empty folder, and no folder that fbsim-import wrote"]
     assert everything_in(tmp_path) == ["A.fbt", "out", "out/mine"] and (tmp_path / "out" / "mine").read_text() == "kept"
 
 
@@ -174,11 +174,10 @@ def test_a_file_or_a_link_in_the_place_of_the_folder_is_kept(tmp_path):
 def test_an_empty_folder_is_filled_and_a_new_one_made(tmp_path):
     (tmp_path / "out").mkdir()
     done = import_all(tmp_path, {"Adder.fbt": basic()})
-    assert done.status == 0 and everything_in(done.out) == ["application.iec", "deploy.toml", "import.txt", "types.iec"]
+    assert done.status == 0 and everything_in(done.out) == ["application.iec", "deploy.toml", "import.txt", "map.json", "types.iec"]
     assert everything_in(tmp_path) == sorted(["Adder.fbt", "out", *(f"out/{it}" for it in everything_in(done.out))])
     done = import_all(tmp_path, {"Adder.fbt": basic()}, out="missing/out")
     assert done.status == 3 and not (tmp_path / "missing").exists()
-    assert import_all(tmp_path, {"Adder.fbt": basic()}).status == 3
 
 
 def test_a_refused_import_leaves_an_empty_folder_empty(tmp_path):

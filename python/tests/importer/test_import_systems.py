@@ -39,7 +39,7 @@ def test_instances_in_two_devices_have_the_trace_of_the_same_application_in_text
     assert sum(len(it["instances"]) for it in plan["resource"]) == 31
     assert {it["device"] for it in plan["resource"]} == {"CONVEYING", "SORTING"}
     assert done.run(2500) == (PARCELS / "trace").read_text()
-    for name in ("types.iec", "application.iec", "deploy.toml", "import.txt"):
+    for name in ("types.iec", "application.iec", "deploy.toml", "import.txt", "map.json"):
         assert done.text(name) == (PARCELS / "imported" / name).read_text(), name
 
 

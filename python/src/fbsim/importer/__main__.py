@@ -6,53 +6,60 @@ from __future__ import annotations
 
 import argparse
 import contextlib
+import functools
 import os
-import re
-import shutil
-import subprocess
 import sys
-import tempfile
 from collections.abc import Sequence
 
 from fbsim.faults import ProgramMissing
-from fbsim.program import find_program
-
 from .blocks import Library
-from .common import MARK, Faults, FileFault, Refused
+from .common import Faults, FileFault, Refused
 from .document import read_document
+from .given_names import GivenNames
+from .mapping import mapping_of
 from .network import System, system_of
-from .report import ACCEPTED, add_options, finish
+from .project_names import ProjectNames
+from .report import ACCEPTED, REFUSED, add_options, finish
+from .store import earlier_latencies, write
 from .stubs import Stubs, stub_names
-from .writing import place_in, texts_of
+from .writing import Latencies, Types, texts_of
 
 FILES, COMMAND_LINE = 3, 5
-FINDING = re.compile(r"(application\.iec|types\.iec|deploy\.toml):(\d+):(\d+): (.*)")
 
 
 def arguments(words: Sequence[str] | None) -> argparse.Namespace:
     """Read the command line, or end with the status of the simulator for a wrong one."""
     parser = argparse.ArgumentParser(prog="fbsim-import", description="Imports an application from the XML of IEC 61499-2.",
                                      epilog="docs/IMPORT.md says what maps to what.")
-    parser.add_argument("files", nargs="+", metavar="FILE", help="a system (.sys), or types (.fbt, .sub, .adp)")
-    parser.add_argument("--out", required=True, metavar="DIR", help="the folder to write, new or empty")
+    parser.add_argument("files", nargs="*", metavar="FILE",
+                        help="a system (.sys), or types (.fbt, .sub, .adp); with --trace and --names one text, or standard input")
+    modes = parser.add_mutually_exclusive_group(required=True)
+    modes.add_argument("--out", metavar="DIR", help="the folder to write: new, empty, or of an earlier import")
+    modes.add_argument("--trace", metavar="DIR", help="write a trace, or what run --why, inspect or coverage says, in the project's names")
+    modes.add_argument("--names", metavar="DIR", help="write stimuli or rules, which have the project's names, in those of an import")
     parser.add_argument("--lib", action="append", default=[], metavar="DIR", help="a folder with types, at any depth")
     parser.add_argument("--latency", type=int, default=1, metavar="N", help="the latency of each link, in ms (1)")
     parser.add_argument("--overflow", choices=("stop", "wrap"), default="stop",
                         help="what a number that does not fit does: stop the run, or lose its upper bits (stop)")
     parser.add_argument("--stub", action="extend", nargs="?", const="", default=[], type=stub_names, metavar="NAMES",
                         help="replace these service interface types by stubs: names with commas, or all")
+    parser.add_argument("--force", action="store_true", help="write over files of an earlier import that were edited")
     add_options(parser)
     try:
         given = parser.parse_args(words)
         if not 1 <= given.latency <= 1_000_000:
             parser.error("--latency is 1 to 1,000,000")
+        if given.out is not None and not given.files:
+            parser.error("a file to import is missing")
+        if given.out is None and len(given.files) > 1:
+            parser.error("--trace and --names take one file")
     except SystemExit as end:
         sys.exit(COMMAND_LINE if end.code else ACCEPTED)
     return given
 
 
-def convert(given: argparse.Namespace, faults: Faults) -> dict[str, str]:
-    """Read all files, and return the texts of their system or of their types, with marks of places."""
+def convert(given: argparse.Namespace, faults: Faults) -> tuple[System, Types]:
+    """Read all files, and return their system, or one with their types, and the types that it has."""
     library, roots = Library(given.lib, Stubs(frozenset(given.stub)), faults), []
     library.overflow = given.overflow
     for path in given.files:
@@ -65,50 +72,45 @@ def convert(given: argparse.Namespace, faults: Faults) -> dict[str, str]:
         faults.refuse(it.place, "there is more than one system: import them one by one")
     if not roots:
         raise Refused
-    system = System(systems[0] if systems else system_of(roots, faults), library)
-    return texts_of(system, library, given.latency)
+    return System(systems[0] if systems else system_of(roots, faults), library), Types(library)
 
 
-def check(folder: str, texts: dict[str, str], faults: Faults) -> None:
-    """Have the simulator check the texts in a folder, and map the places of what it refuses back to the XML."""
-    words = ["check", "application.iec", "--types", "types.iec", "--deploy", "deploy.toml", "--why"]
-    done = subprocess.run([find_program(), *words], cwd=folder, capture_output=True, text=True, errors="replace")
-    for name, line, column, text in FINDING.findall(done.stderr):
-        place = place_in(texts[name], int(line), int(column))
-        if place:
-            faults.refuse(place, text)
-    if done.returncode != ACCEPTED and not faults:
-        raise FileFault(f"the simulator answers: {done.stderr.strip() or done.returncode}")
+def import_files(given: argparse.Namespace, faults: Faults) -> None:
+    """Import files into a folder."""
+    latencies = Latencies(given.latency, earlier_latencies(given.out, given.force))
+    system, types = convert(given, faults)
+    texts = texts_of(system, types, latencies)
+    if not faults:
+        write(given.out, texts, functools.partial(mapping_of, system, types, texts, given.latency), faults)
 
 
-def write(given: argparse.Namespace, texts: dict[str, str], faults: Faults) -> None:
-    """Write the texts into a new folder beside the one that is asked for, check them, and put it in its place."""
-    out, made = os.path.realpath(given.out), ""
+def rename(given: argparse.Namespace, faults: Faults) -> int:
+    """Write a text with the names of the project, or with those of its import, to standard output."""
+    path = given.files[0] if given.files else "-"
     try:
-        if os.path.lexists(out) and (not os.path.isdir(out) or os.listdir(out)):
-            raise FileFault(f"{given.out}: this is no new or empty folder")
-        made = tempfile.mkdtemp(prefix=".fbsim-import-", dir=os.path.dirname(out))
-        for name, text in texts.items():
-            with open(os.path.join(made, name), "x", encoding="utf-8", newline="\n") as file:
-                file.write(MARK.sub("", text))
-        check(made, texts, faults)
-        if not faults:
-            os.umask(mask := os.umask(0o022))
-            os.chmod(made, 0o777 & ~mask)
-            os.rename(made, out)
+        file = sys.stdin if path == "-" else open(path, encoding="utf-8", errors="surrogateescape", newline="")
+        with file:
+            if given.trace is not None:
+                for line in ProjectNames(given.trace).lines(file):
+                    print(line)
+            else:
+                text = GivenNames(given.names, path, faults).convert(file.read())
+                print(*(faults.lines() or [text]), sep="\n", end="\n" if faults else "", file=sys.stderr if faults else sys.stdout)
+        sys.stdout.flush()
+    except BrokenPipeError:
+        os.dup2(os.open(os.devnull, os.O_WRONLY), sys.stdout.fileno())
     except OSError as fault:
-        raise FileFault(f"{given.out}: {fault.strerror}") from None
-    finally:
-        shutil.rmtree(made, ignore_errors=True)
+        raise FileFault(f"{path}: {fault.strerror}") from None
+    return REFUSED if faults else ACCEPTED
 
 
 def main(words: Sequence[str] | None = None) -> int:
     """Import files, and return the status: 0 accepted, 1 with a denied warning, 2 refused, 3 for files, 5 for the command line."""
     given, faults = arguments(words), Faults()
     try:
-        texts = convert(given, faults)
-        if not faults:
-            write(given, texts, faults)
+        if given.out is None:
+            return rename(given, faults)
+        import_files(given, faults)
     except Refused:
         pass
     except (FileFault, ProgramMissing) as fault:

@@ -264,13 +264,14 @@ def value_of(code: Code, kind: str) -> str:
 
 @dataclass(slots=True)
 class Resource:
-    """A resource: its name in the profile, and what instances of the application are called in it."""
+    """A resource: its name in the profile and in the project, and what instances of the application are called in it."""
 
     device: str
     name: str
     place: Place
     node: Node
     out: str = ""
+    title: str = ""
     device_out: str = "DEV"
     aliases: dict[str, str] = field(default_factory=dict)
     instances: list[Instance] = field(default_factory=list)
@@ -310,7 +311,7 @@ class System(Network):
         wanted = [it.name if names.count(it.name.upper()) == 1 else f"{it.device}.{it.name}" for it in self.resources]
         known = Names("resource", [(name, it.place) for name, it in zip(wanted, self.resources)], self.faults)
         for name, it in zip(wanted, self.resources):
-            it.out, it.device_out = known[name], Names("device", [(it.device, it.place)], self.faults)[it.device]
+            it.title, it.out, it.device_out = name, known[name], Names("device", [(it.device, it.place)], self.faults)[it.device]
 
     def read_mapping(self, root: Node) -> dict[str, Resource]:
         """Return the resources of instances and subapplications of the application, by their paths."""
@@ -356,6 +357,7 @@ class System(Network):
         for one in self.instances.values():
             (self.mapped(one.path) or rest).instances.append(one)
         if rest.instances or not self.resources:
+            rest.title = "MAIN"
             rest.out = Names("resource", [("MAIN", rest.place)], self.faults, [it.out for it in self.resources])["MAIN"]
             if self.resources:
                 rows = ", ".join(it.out for it in rest.instances)

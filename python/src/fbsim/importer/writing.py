@@ -5,6 +5,7 @@ texts.jinja has their form."""
 from __future__ import annotations
 
 import functools
+from collections.abc import Mapping
 from pathlib import Path
 from typing import Any
 
@@ -169,6 +170,8 @@ class Types:
         self.library, self.faults = library, library.faults
         self.texts = ["(* Imported by fbsim-import: see import.txt. *)\n\n"]
         self.written: dict[Block, None] = {}
+        self.charts: dict[Block, Chart] = {}
+        self.networks: dict[Block, Network] = {}
         self.depth, self.constant = 0, functools.partial(value, faults=library.faults)
 
     def need(self, block: Block, place: Place) -> None:
@@ -188,12 +191,14 @@ class Types:
             self.texts.append(TEXTS.block(block, None, self.network(block), self.constant))
         else:
             chart = block.made or Chart(block, self.library)
+            if isinstance(chart, Chart):
+                self.charts[block] = chart
             self.texts.append(TEXTS.block(block, chart, None, self.constant))
         self.depth -= 1
 
     def network(self, block: Block) -> Network:
         """Return the inside of a composite type, after the types of its instances are written."""
-        network = Network(self.library, block)
+        network = self.networks[block] = Network(self.library, block)
         for inside in block.node.all("FBNetwork") if block.node else ():
             network.add(inside)
         for path, (_, place) in network.services.items():
@@ -205,11 +210,26 @@ class Types:
         return network
 
 
-def texts_of(system: System, library: Library, latency: int) -> dict[str, str]:
+class Latencies:
+    """The latency of each link: the one that was set after an earlier import, or the same for all others."""
+
+    def __init__(self, usual: int, kept: Mapping[tuple[str, str], str]) -> None:
+        self.usual, self.kept = usual, kept
+
+    def row(self, source: str, target: str) -> str:
+        """Return the row of a link from one resource to another."""
+        return self.kept.get((source, target), f"latency = {self.usual}")
+
+    def shown(self, source: str, target: str) -> str:
+        """Return the latency of a link for the report."""
+        word, _, value = self.row(source, target).partition(" = ")
+        return f"{value} ms" if word == "latency" and value.isdecimal() else "as set in deploy.toml"
+
+
+def texts_of(system: System, types: Types, latencies: Latencies) -> dict[str, str]:
     """Return all texts by their names, with marks of places."""
-    types = Types(library)
     for it in system.instances.values():
         types.need(it.block, it.place)
-    application, deployment = TEXTS.application(system, types.constant), TEXTS.deployment(system, latency)
+    application, deployment = TEXTS.application(system, types.constant), TEXTS.deployment(system, latencies)
     return {"types.iec": "".join(types.texts), "application.iec": application, "deploy.toml": deployment,
-            "import.txt": TEXTS.report(system, types, latency)}
+            "import.txt": TEXTS.report(system, types, latencies)}
