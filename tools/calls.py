@@ -1035,6 +1035,7 @@ CALLS += [
     Call(["check", "halves", "--types", ODD_NAME], 2, err=b"refused E03 odd???name line 1\n"),
     Call(["check", "no\nwhere", "--why"], 3, err=b"file fault\ndeclaration no?where: no file of this name can be read\n"),
     Call(["expect", "rules", "trace", ODD_NAME], 2, err=b"refused trace odd???name line 1\n"),
+    Call(["diff", ODD_NAME, "no_trace"], 1, out=b"line 1 differs in: length\nodd???name: APPLICATION A FBS D : E_DELAY END_FBS END_APPLICATION\nno_trace has no such line\n"),
     # Rows that a run does not come to.
     of("run halves --stim some_rows --horizon 9 --why", 0, out=None, err=b"stimuli: rows at or beyond the horizon 9: 2 of 4; the run does not take them\n"),
     of("run halves --stim some_rows --horizon 4 --why", 0, out=None, err=b"stimuli: rows at or beyond the horizon 4: 3 of 4; the run does not take them\n"),

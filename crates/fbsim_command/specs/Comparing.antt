@@ -11,6 +11,7 @@ use Rattle.fbsim_command.specs.Failures.{IsPartWritten, failure_of_part, failure
 use Rattle.fbsim_command.specs.Notes.{Noted, Notes, SaysUnread, rest_note}
 use Rattle.fbsim_command.specs.Outcomes.{End, Held}
 use Rattle.fbsim_command.specs.Showing.{Opening}
+use Rattle.fbsim_command.specs.Shown.{shown_name}
 use Rattle.fbsim_line.specs.declared.bench_line.Diff.{Diff}
 use Rattle.fbsim_command.specs.declared.failure.Failure.TheVariants.{Refused, RefusedTrace, File, Write, Memory, Line, BadOption}
 use Rattle.fbsim_command.specs.declared.sources.SourceFault.{SourceFault}
@@ -20,7 +21,7 @@ use Rattle.fbsim_command.specs.declared.statuses.Done.TheVariants.{Helped, Expla
 pub record IsReported (d : Diff) (first second : Held) (text : Text) : Type 0 where
   pub difference : Difference
   pub part : MayPart d.is_without_ticks first second (Some difference)
-  pub shows : ShowsDifference d.first.now d.second.now d.is_without_ticks difference text
+  pub shows : ShowsDifference (shown_name d.first.now) (shown_name d.second.now) d.is_without_ticks difference text
 
 -- two files, of which these bytes are known, are compared
 abbrev pub Differs : Diff → (first second : Held) → (old new : Held) → End → Type 0

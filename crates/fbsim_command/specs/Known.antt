@@ -1,5 +1,5 @@
 -- Whether a system has the names of rules (docs/FORMATS.md, "Rules over traces"; this project's own).
-use Rattle.std.specs.Prelude.{◌≡◌, ◌⊎◌, ℕ, ◌+◌, ◌^◌, zero, suc, Bool, true, false, ◌&&◌, ◌||◌, List, [], ◌++◌, length, map, min, Option, Some, None, if◌then◌else◌, slice_get, slice_index_or, codes}
+use Rattle.std.specs.Prelude.{◌≡◌, ◌⊎◌, ℕ, ◌+◌, ◌^◌, zero, suc, Bool, true, false, not, ◌&&◌, ◌||◌, List, [], ◌++◌, length, map, min, Option, Some, None, if◌then◌else◌, slice_get, slice_index_or, codes}
 use Rattle.std.specs.List.{list_all}
 use Rattle.fb_types.specs.Blocks.{inputs_with, outputs_with}
 use Rattle.fb_types.specs.Names.{Name}
@@ -9,6 +9,7 @@ use Rattle.fb_types.specs.Text.{path_text}
 use Rattle.fb_types.specs.declared.library.EventPort.{EventPort}
 use Rattle.fb_types.specs.declared.library.Ports.{Ports}
 use Rattle.fb_types.specs.declared.library.Variable.{Variable}
+use Rattle.fb_coverage.specs.Connected.{never_comes}
 use Rattle.fb_expect.specs.Events.{Event}
 use Rattle.fb_expect.specs.Patterns as patterns
 use Rattle.fb_expect.specs.declared.pattern.Condition.{Condition}
@@ -53,10 +54,14 @@ abbrev pub are_possible : List Variable → List Condition → List Name → Boo
 are_possible vs conditions names = list_all (is_possible vs names) conditions
 
 -- whether a port is of a pattern, and some values of its event meet each of its conditions
-unfoldable pub is_of : System → Pattern → (instance : ℕ) → (taken : Bool) → (event : ℕ) → Bool
-is_of sys p i taken event =
+unfoldable pub is_fitting : System → Pattern → (instance : ℕ) → (taken : Bool) → (event : ℕ) → Bool
+is_fitting sys p i taken event =
     patterns.is_at p (event_there sys i taken event)
     && are_possible (variables_of (ports_of sys i) taken) p.conditions (names_with (ports_of sys i) taken event)
+
+-- the same of a port to which events come: WARM and STOP of an E_RESTART never do
+abbrev pub is_of : System → Pattern → (instance : ℕ) → (taken : Bool) → (event : ℕ) → Bool
+is_of sys p i taken event = not (never_comes (sys.kind (path_at sys i)) event) && is_fitting sys p i taken event
 
 -- whether a test holds for some number below another
 abbrev pub any_below : (ℕ → Bool) → ℕ → Bool

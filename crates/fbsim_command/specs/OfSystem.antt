@@ -20,6 +20,9 @@ ports_of i = known.ports_of (system_of i)
 abbrev pub event_there : Inputs → (instance : ℕ) → (taken : Bool) → (event : ℕ) → Event
 event_there i = known.event_there (system_of i)
 
+abbrev pub is_fitting : Inputs → Pattern → (instance : ℕ) → (taken : Bool) → (event : ℕ) → Bool
+is_fitting i = known.is_fitting (system_of i)
+
 abbrev pub is_of : Inputs → Pattern → (instance : ℕ) → (taken : Bool) → (event : ℕ) → Bool
 is_of i = known.is_of (system_of i)
 

@@ -2,6 +2,7 @@
 
 ghost use Rattle.std.specs.Prelude.{◌≡◌, ◌&&◌, IfErr, IfOk, List, OnOk, ◌*◌, ◌++◌, codes, length, nat_lt, option_map, string_bytes, true};
 ghost use Rattle.fb_expect.specs.Applied.{counts_of};
+ghost use Rattle.fb_expect.specs.DifferenceReport.{ShowsDifference};
 ghost use Rattle.fb_expect.specs.Parting.{MayPart};
 ghost use Rattle.fb_expect.specs.declared.judging.Judged.{Judged as JudgedModel};
 ghost use Rattle.fb_expect.specs.declared.rule.Rule.{Rule as RuleModel};
@@ -11,6 +12,7 @@ ghost use Rattle.fbsim_command.specs.Expecting.{AreRules, AreUnheld, Expects, Ho
 ghost use Rattle.fbsim_command.specs.Notes.{IsUnnoted, NotesEnd, noted_of};
 ghost use Rattle.fbsim_command.specs.Outcomes.{Held};
 ghost use Rattle.fbsim_command.specs.OwnLines.{EndsIn};
+ghost use Rattle.fbsim_command.specs.Shown.{shown_name};
 ghost use Rattle.fbsim_command.specs.Texts.{given_of, may_lines_of};
 ghost use Rattle.fbsim_command.specs.declared.failure.Failure.{Failure};
 ghost use Rattle.fbsim_command.specs.declared.failure.Failure.TheVariants.{File};
@@ -435,6 +437,25 @@ pub(crate) fn expect<S: Source + Streams, W: Write>(
     (end, note)
 }
 
+/// Where two traces part first, with their names as they are shown.
+fn shown_difference(
+    alloc: Global,
+    diff: &Diff<'_>,
+    difference: &Difference,
+) -> Result<Vec<u8>, AllocError>
+    ensures { IfOk result (λ t. ShowsDifference (shown_name diff.now.first.now) (shown_name diff.now.second.now) diff.now.is_without_ticks difference.now t.items) }
+{
+    let first = shown_name(alloc, diff.first)?;
+    let second = shown_name(alloc, diff.second)?;
+    difference_text(
+        alloc,
+        first.as_str(),
+        second.as_str(),
+        diff.is_without_ticks,
+        difference,
+    )
+}
+
 /// Writes where two traces part first, if they do.
 fn show_parted<W: Write>(
     alloc: Global,
@@ -448,13 +469,7 @@ fn show_parted<W: Write>(
     let Some(difference) = found else {
         return Ok(Done::Same);
     };
-    let text = difference_text(
-        alloc,
-        diff.first,
-        diff.second,
-        diff.is_without_ticks,
-        &difference,
-    )?;
+    let text = shown_difference(alloc, diff, &difference)?;
     write_text(out, text.as_slice())?;
     Ok(Done::Different)
 }

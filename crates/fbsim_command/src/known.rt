@@ -1,18 +1,20 @@
 //! Whether a declared system has the names of rules.
 
 ghost use Rattle.std.specs.Prelude.{◌≡◌, ◌<◌, ◌++◌, All, IfNone, IfOk, IfSome, MatchOption, codes, length, map, true};
+ghost use Rattle.fb_coverage.specs.Connected.{never_comes};
 ghost use Rattle.fb_inspect.specs.OfSystem.{IsNoInstance};
 ghost use Rattle.fb_system.specs.IndexLists.{AreIndexes, variable_at};
 ghost use Rattle.fb_types.specs.Numbers.{event_at};
-ghost use Rattle.fb_types.specs.OfSystem.{IsInstance, path_at};
+ghost use Rattle.fb_types.specs.OfSystem.{IsInstance, kind_at, path_at};
 ghost use Rattle.fb_types.specs.Text.{path_text};
 ghost use Rattle.fbsim_command.specs.Known as spec;
-ghost use Rattle.fbsim_command.specs.OfSystem.{IsUnknownAt, IsUnknownKey, any_event, has_names, has_port, has_rule, is_of, may_have_port, ports_of};
+ghost use Rattle.fbsim_command.specs.OfSystem.{IsUnknownAt, IsUnknownKey, any_event, has_names, has_port, has_rule, is_fitting, is_of, may_have_port, ports_of};
 
 use crate::possible::is_possible;
+use fb_check_names::TypeNumber;
 use fb_expect::{Condition, Entry, Pattern, Rule, RuleKey, is_at, pattern_keys};
 use fb_system::System;
-use fb_types::{EventPort, Ports, Variable};
+use fb_types::{EventKind, EventPort, Ports, Variable};
 use std::alloc::{AllocError, Global};
 
 /// How many events of one interface have numbers.
@@ -100,9 +102,20 @@ pub(crate) fn port_text(alloc: Global, path: &[u8], event: &[u8]) -> Result<Vec<
     Ok(text)
 }
 
+/// Whether no event ever comes to a port: to WARM and STOP of an E_RESTART, whose ports are COLD and these two.
+pub(crate) fn never_comes(system: &System, instance: u32, event: u32) -> bool
+    requires { IsInstance system.now instance }
+    ensures { result ≡ never_comes (kind_at system.now (path_at system.now instance)) event }
+{
+    match system.kind(instance) {
+        TypeNumber::Event(EventKind::Restart) => event > 0,
+        _ => false,
+    }
+}
+
 /// Whether a port is of a pattern, and its event has values that meet each of its conditions.
-#[tactic(auto, unfolding(crate::specs::Known::is_of))]
-fn is_of(
+#[tactic(auto, unfolding(crate::specs::Known::is_fitting))]
+fn is_fitting(
     alloc: Global,
     system: &System,
     pattern: &Pattern,
@@ -112,7 +125,7 @@ fn is_of(
 ) -> Result<bool, AllocError>
     requires instance { IsInstance system.now instance }
     requires event { event < length (spec.events_of (ports_of system.now instance) taken) }
-    ensures { IfOk result (λ b. b ≡ is_of system.now pattern.now instance taken event) }
+    ensures { IfOk result (λ b. b ≡ is_fitting system.now pattern.now instance taken event) }
 {
     system.facts(); // for the prover: what holds of every accepted system
     let ports = system.ports(instance);
@@ -129,6 +142,25 @@ fn is_of(
     let variables = variables_of(ports, taken);
     let indexes = indexes_with(system, instance, taken, event);
     Ok(is_there && are_possible(pattern.conditions.as_slice(), variables, indexes))
+}
+
+/// The same of a port to which events come.
+fn is_of(
+    alloc: Global,
+    system: &System,
+    pattern: &Pattern,
+    instance: u32,
+    taken: bool,
+    event: u32,
+) -> Result<bool, AllocError>
+    requires instance { IsInstance system.now instance }
+    requires event { event < length (spec.events_of (ports_of system.now instance) taken) }
+    ensures { IfOk result (λ b. b ≡ is_of system.now pattern.now instance taken event) }
+{
+    if never_comes(system, instance, event) {
+        return Ok(false);
+    }
+    is_fitting(alloc, system, pattern, instance, taken, event)
 }
 
 /// Whether one of the event inputs of an instance, or of its event outputs, is of a pattern.

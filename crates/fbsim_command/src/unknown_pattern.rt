@@ -8,7 +8,8 @@ ghost use Rattle.fbsim_command.specs.Known as spec;
 ghost use Rattle.fbsim_command.specs.OfSystem.{ports_of};
 
 use crate::known::{
-    MOST_EVENTS, event_name, events_of, indexes_with, instance_at, port_text, variables_of,
+    MOST_EVENTS, event_name, events_of, indexes_with, instance_at, never_comes, port_text,
+    variables_of,
 };
 use crate::near::nearest_path;
 use crate::possible::{is_possible, range_of};
@@ -27,6 +28,8 @@ enum Stage {
     Sign,
     /// All but its conditions.
     Place,
+    /// The same, and events come to it.
+    Coming,
     /// All, with this condition alone.
     Condition(usize),
 }
@@ -71,10 +74,13 @@ fn fits(
     let (resource, side) = match stage {
         Stage::Port => (resource_of(pattern, own), side_of(pattern.way, taken)),
         Stage::Sign => (resource_of(pattern, own), taken),
-        Stage::Place | Stage::Condition(_) => (own, taken),
+        Stage::Place | Stage::Coming | Stage::Condition(_) => (own, taken),
     };
     let is_there = is_at(pattern, &Entry::of(0, resource, side, port.as_slice(), b""));
     drop(port);
+    if let Stage::Coming = stage {
+        return Ok(is_there && !never_comes(system, instance, event));
+    }
     let Stage::Condition(index) = stage else {
         return Ok(is_there);
     };
@@ -322,6 +328,10 @@ pub(crate) fn push_why_unknown(
         text.words("no such instance is in this resource");
         return Ok(());
     };
+    if first_fit(alloc, system, pattern, Stage::Coming)?.is_none() {
+        text.words("an E_RESTART emits COLD alone: WARM and STOP never come");
+        return Ok(());
+    }
     for (index, condition) in pattern.conditions.as_slice().iter().enumerate() {
         if first_fit(alloc, system, pattern, Stage::Condition(index))?.is_none() {
             push_condition(text, system, place, condition);

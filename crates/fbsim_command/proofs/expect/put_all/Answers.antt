@@ -16,7 +16,7 @@ loop-index-preserved g c = (
       c.loop-index.is_well c.both-is_well.result c.deref-trace-items.ensures.value c.loop-index-test.true (index-room c.args.expect.now.traces c.deref-trace-items.result.now c.loop-index.index c.deref-trace-items.ensures.value c.loop-index-test.true)
       c.loop-index.invariant.0 c.in_ok-judged.ensures.put
       (subst (λ (js : List Judged). CountsOne c.args.rules.now js c.loop-index.counts.items c.count_trace.new.counts.items) c.as_slice.ensures.value c.count_trace.ensures)
-      (c.both-is_well.ensures ∙ ap (λ (b : Bool). b && c.loop-index.is_well) (c.are_well-ok.ensures ∙ ap (are_well c.args.expect.now.is_strict) c.as_slice-2.ensures.value)),
+      (c.both-is_well.ensures ∙ ap (λ (b : Bool). b && c.loop-index.is_well) (c.are_well-ok.ensures ∙ ap (are_well c.args.expect.now.is_strict) c.as_slice-in-loop-index.ensures.value)),
   c.in_ok-judged.ensures.unnoted,
 )
 

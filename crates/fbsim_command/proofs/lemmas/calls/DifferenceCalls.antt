@@ -3,6 +3,7 @@ use Rattle.fbsim_command.proofs.lemmas.Common.{◌≡◌, Option, Some, None, Ok
 use Rattle.clap.specs.Words.{Text}
 use Rattle.fb_expect.specs.Parting.{IsUnparted, MayPart}
 use Rattle.fb_expect.specs.DifferenceReport.{ShowsDifference}
+use Rattle.fbsim_command.specs.Shown.{shown_name}
 use Rattle.fb_expect.specs.declared.parting.Difference.{Difference}
 use Rattle.fb_expect.specs.declared.parting.PartFault.{PartFault}
 use Rattle.fb_expect.specs.declared.parting.PartFault.TheVariants as part_fault
@@ -54,7 +55,7 @@ no_file_written old new bytes f part is = subst (WritesPart old new bytes) is pa
 
 -- what is reported of two lines
 pub reported-of :
-    (d : Diff) (first second : Held) (o : Option Difference) (x : Difference) (text : Text) → o ≡ Some x → MayPart d.is_without_ticks first second o → ShowsDifference d.first.now d.second.now d.is_without_ticks x text
+    (d : Diff) (first second : Held) (o : Option Difference) (x : Difference) (text : Text) → o ≡ Some x → MayPart d.is_without_ticks first second o → ShowsDifference (shown_name d.first.now) (shown_name d.second.now) d.is_without_ticks x text
     → IsReported d first second text
 reported-of d first second o x text is part shows = record { difference = x; part = subst (λ (p : Option Difference). MayPart d.is_without_ticks first second p) is part; shows = shows }
 

@@ -1,6 +1,6 @@
 -- Rules that are held against traces, one after the other.
 use Rattle.fbsim_command.proofs.lemmas.Common.{◌≡◌, ℕ, suc, ◌+◌, ◌<◌, Bool, true, false, Bor, List, [], ◌∷◌, ◌++◌, length, get_or, map, take, drop, Option, Some, None, codes, Result, Ok, Err, refl, sym, ap, ◌∙◌, subst, append_assoc, append-nil, inl, inr, arith, ◌&&◌, IfErr, IfOk, IfSome, OnOk, if◌then◌else◌, nat_lt, Appends, drop_more, length-map, map-append, take-append-drop, take_more, IsErrAnd, Given, AreUnheld, Holds, IsUnheld, WritesPart, failure_of_source, End, Held, Opening, Expect, Failure, Refused, RefusedTrace, File, Write, Memory, Line, BadOption, SourceFault}
-use Rattle.fb_types.proofs.Common.{◌*◌, ◌^◌, ap₂, is_ok, length-take-le, list_all-append}
+use Rattle.fb_types.proofs.Common.{Vec, ◌*◌, ◌^◌, ap₂, is_ok, length-take-le, list_all-append}
 use Rattle.clap.specs.Words.{Text}
 use Rattle.fb_expect.specs.Applied.{applied_points, applied_suite, counts_of}
 use Rattle.fb_expect.specs.Judging as judging
@@ -172,8 +172,10 @@ CountsOne rules js old new =
 pub index-room : (v : Vec (Bor Text)) (us : List (Bor Text)) (i : ℕ) → us ≡ v.items → i < length us → i + 1 < 2 ^ 64
 index-room v us i same lt =
     let long = ap length same in
-    let small = v.ok.0 in
-    omega (arith, lt, long, small)
+    let count = v.ok.0 in
+    let within = v.ok.1 in
+    let small = v.small in
+    omega (arith, lt, long, count, within, small)
 
 -- one more trace
 pub puts-more :

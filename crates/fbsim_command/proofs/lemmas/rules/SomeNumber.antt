@@ -5,7 +5,7 @@ use Rattle.fb_system.specs.IndexLists.{AreIndexes, variable_at}
 use Rattle.fb_expect.specs.Patterns as patterns
 use Rattle.fb_expect.specs.declared.pattern.Condition.{Condition}
 use Rattle.fb_expect.specs.declared.pattern.Pattern.{Pattern}
-use Rattle.fbsim_command.specs.Known.{any_below, any_event, any_port, are_possible, event_there, events_of, has_port, is_of, names_with, numbered, ports_of, variables_of}
+use Rattle.fbsim_command.specs.Known.{any_below, any_event, any_port, are_possible, event_there, events_of, has_port, is_fitting, is_of, names_with, numbered, ports_of, variables_of}
 
 or-right : (a : Bool) → (a || true) ≡ true
 or-right true = refl
@@ -56,8 +56,8 @@ index-passed f vs ks i v all lt within is so-far off =
 pub of-there :
     (sys : System) (p : Pattern) (i : ℕ) (taken : Bool) (event : ℕ) (vs : List Variable) (ks : List ℕ) (cs : List Condition) (there b : Bool) → vs ≡ variables_of (ports_of sys i) taken
     → cs ≡ p.conditions → there ≡ patterns.is_at p (event_there sys i taken event) → there ≡ true
-    → AreIndexes (variables_of (ports_of sys i) taken) (names_with (ports_of sys i) taken event) ks → b ≡ are_possible vs cs (map (variable_at vs) ks) → b ≡ is_of sys p i taken event
-unfolding is_of
+    → AreIndexes (variables_of (ports_of sys i) taken) (names_with (ports_of sys i) taken event) ks → b ≡ are_possible vs cs (map (variable_at vs) ks) → b ≡ is_fitting sys p i taken event
+unfolding is_fitting
 of-there sys p i taken event vs ks cs there b same-variables same-conditions at on stand is =
     let names = names_with (ports_of sys i) taken event in
     let its = variables_of (ports_of sys i) taken in

@@ -5,7 +5,7 @@ use Rattle.fb_wave.proofs.lemmas.Bounds.{resource_named}
 use Rattle.fbsim_command.specs.Known.{events_of, variables_of}
 use Rattle.fbsim_command.specs.OfSystem.{event_there}
 use Rattle.fbsim_command.proofs.lemmas.rules.SomeNumber.{of-there}
-use Rattle.fbsim_command.proofs.known.is_of.Goals as goal
+use Rattle.fbsim_command.proofs.known.is_fitting.Goals as goal
 
 pub event_name-requires : goal.event_name-requires
 event_name-requires c = subst (λ (its : Ports). c.args.event < length (events_of its c.args.taken)) (sym c.ports-ports.ensures) c.requires.event
