@@ -1,7 +1,6 @@
 """Tests of traces: their lines, patterns, signals, frames and figures."""
 
 import os
-import random
 import subprocess
 import sys
 
@@ -66,77 +65,6 @@ def test_where_is_read_any_number_of_times(conveyor):
     assert [it.tick for it in last] == [434] and found.count() == 6
 
 
-# Patterns, and the lines of the trace below that each matches, worked by hand.
-SOME = ["1 A > X.GO N=1 B=TRUE", "2 A < X.Y.OUT N=-2", "3 B > XY.GO", "4 B < X.GO N=3 B=FALSE"]
-PATTERNS = {
-    "* * *": [1, 2, 3, 4],
-    "A * *": [1, 2],
-    "a > *": [1],
-    "* < *": [2, 4],
-    "* * X.GO": [1, 4],
-    "* * X.*": [1, 2, 4],
-    "* * X.Y.*": [2],
-    "* * X.Y.OUT": [2],
-    "* * X.OUT": [],
-    "* * * N=1": [1],
-    "* * * N<>1": [2, 4],
-    "* * * N>=1": [1, 4],
-    "* * * N<1": [2],
-    "* * * N<=-2": [2],
-    "*  *\t*  N>-3   b=true": [1],
-    "* * * B<>TRUE": [4],
-    "* * * B=1": [],
-    "* * * N=TRUE": [],
-    "* * * Z<>1": [],
-}
-
-
-def test_patterns_match_as_worked_by_hand(tmp_path):
-    trace = trace_in(tmp_path, *SOME, "end 5")
-    assert {it: [line.tick for line in trace.where(it)] for it in PATTERNS} == PATTERNS
-
-
-@pytest.mark.parametrize("text", [
-    "", "A", "A >", "A = X.GO", "A > X", "A > X..GO", "A > X*", "A.B > X.GO", "1 > X.GO", "A > X.GO N",
-    "A > X.GO N==1", "A > X.GO N = 1", "A > X.GO B>TRUE", "A > X.GO N=+1", "A > X.GO N=1.5",
-    "A > X.GO N=18446744073709551616",
-])
-def test_a_text_that_is_no_pattern_is_refused_here_and_by_the_program(tmp_path, text):
-    trace = trace_in(tmp_path, *SOME, "end 5")
-    with pytest.raises(fbsim.InputFault):
-        trace.where(text)
-    (tmp_path / "some.rules").write_text(f'[[rule]]\nname = "x"\nnever = "{text}"\n')
-    with pytest.raises(fbsim.Refused) as caught:
-        trace.expect(tmp_path / "some.rules")
-    assert caught.value.number == "E43"
-
-
-def random_pattern(lines, chance):
-    """Returns a pattern made of parts of lines."""
-    line = chance.choice(lines)
-    path = line.instance.split(".")
-    ports = [f"{line.instance}.{line.event}", "*", *(".".join(path[:k + 1]) + ".*" for k in range(len(path)))]
-    words = [chance.choice([line.resource, "*"]), chance.choice("<>*"), chance.choice(ports)]
-    for name, value in chance.choice(lines).values.items():
-        sign = chance.choice(["=", "<>"] if isinstance(value, bool) else ["=", "<>", "<", "<=", ">", ">="])
-        if chance.random() < 0.5:
-            words.append(f"{name}{sign}{str(value).upper()}")
-    return " ".join(words)
-
-
-def test_patterns_match_as_many_lines_as_the_program_counts(tmp_path):
-    chance, rules = random.Random(5), []
-    trace = fbsim.Trace(EXAMPLES / "bottling" / "shift" / "trace")
-    lines = list(trace)
-    for k in range(120):
-        pattern = random_pattern(lines, chance)
-        count = len([*filter(fbsim.Pattern(pattern).matches, lines)])
-        rules.append(f'[[rule]]\nname = "{k}"\ncount = "{pattern}"\nleast = {count}\nmost = {count}\n')
-    (tmp_path / "some.rules").write_text("\n".join(rules))
-    report = trace.expect(tmp_path / "some.rules")
-    assert len(report.of("kept")) == 120
-
-
 def test_signals_are_the_values_of_a_variable(conveyor):
     # (README.md of the example)
     assert conveyor.signal("GATE.TAKEN") == ([104, 434], [1, 2])
@@ -145,9 +73,6 @@ def test_signals_are_the_values_of_a_variable(conveyor):
     assert conveyor.signals(["GATE.ARRIVED", "WORK.DT"]) == {
         "GATE.ARRIVED": ([104, 190], [1, 2]), "WORK.DT": ([184, 504], [250, 250]),
     }
-    assert conveyor.signal("NOBODY.X") == ([], [])
-    with pytest.raises(fbsim.Fault, match="TAKEN is no signal"):
-        conveyor.signal("TAKEN")
 
 
 def test_a_frame_has_a_row_for_each_line(conveyor):

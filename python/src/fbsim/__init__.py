@@ -5,7 +5,8 @@ from fbsim.faults import (
     Fault, FileFault, InputFault, Location, OutOfMemory, ProgramFault, ProgramMissing, ReferenceDiffers, Refused,
     RulesBroken, SequenceBroken, Stop, Stopped, TimedOut, WriteFault
 )
-from fbsim.latencies import Latencies, Pattern
+from fbsim.latencies import Latencies
+from fbsim.patterns import Pattern
 from fbsim.program import find_program
 from fbsim.sequence import check_sequence
 from fbsim.session import Session

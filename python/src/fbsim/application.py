@@ -91,7 +91,7 @@ class Application:
     ) -> Stream:
         """Runs the application, and returns its lines as they come, to be read once. Reading them raises its faults."""
         options = {"horizon": horizon, "steps": steps, "workers": workers, "trace": 2 if keys else None}
-        return Stream(*self.call_words("run", stimuli, options), stop)
+        return Stream(*self.call_words("run", stimuli, options), stop, self)
 
     def session(
         self, stimuli: Stimuli = None, *, steps: int | None = None, timeout: float | None = None
@@ -140,8 +140,10 @@ class Application:
 class Stream(Lines):
     """The lines of a run, read from its pipe while it runs. `end` and `stop` are known when all have been read."""
 
-    def __init__(self, words: Sequence[str], given: str, may_stop: bool) -> None:
-        self.words, self.given, self.may_stop = words, given, may_stop
+    def __init__(
+        self, words: Sequence[str], given: str, may_stop: bool, application: Application | None = None
+    ) -> None:
+        self.words, self.given, self.may_stop, self.application = words, given, may_stop, application
         self.end: int | None = None
         self.stop: Stop | None = None
         self.was_read = False

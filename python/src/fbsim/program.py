@@ -75,7 +75,8 @@ def call(
     limit, text = seconds(timeout), given.encode("utf-8", "surrogateescape")
     with started(words, stdin=subprocess.PIPE, stdout=to, stderr=subprocess.PIPE, cwd=folder) as process:
         try:
-            out, said = (it and it.decode("utf-8", "replace") for it in process.communicate(text, limit))
+            parts = process.communicate(text, limit)
+            out, said = (None if it is None else it.decode("utf-8", "replace") for it in parts)
         except subprocess.TimeoutExpired:
             raise TimedOut(f"fbsim {words[0]} took over {timeout:g} seconds, and was ended") from None
     if process.returncode not in statuses:

@@ -102,6 +102,8 @@ class Session(Lines):
     exception in the body of `with` breaks it off, and is passed on.
     """
 
+    application: Application
+
     def __init__(
         self, application: Application, stimuli: Stimuli = None, *, steps: int | None = None,
         timeout: float | None = None

@@ -20,7 +20,7 @@ from fbsim import figures
 from fbsim.application import Application
 from fbsim.cache import Cache
 from fbsim.faults import Fault, InputFault
-from fbsim.latencies import Pattern
+from fbsim.patterns import Pattern, ask_patterns
 from fbsim.program import call, seconds
 from fbsim.stimuli import FileName, Stimuli, stimuli_text
 from fbsim.texts import read, whole, with_latency, with_parameter, with_stimulus, write, write_script
@@ -241,12 +241,13 @@ def choose(lists: Sequence[Sequence[object]], sample: int | None, seed: int) -> 
         yield number, tuple(reversed(values))
 
 
-def between(name: str, given: object) -> Between:
-    """Returns two patterns, and how their lines are paired, if they are that."""
+def between(application: Application, name: str, given: object) -> Between:
+    """Returns two patterns, and how their lines are paired, if they are that and the application has their names."""
     if not isinstance(given, (tuple, list)) or len(given) not in (2, 3) or not all(isinstance(it, str) for it in given):
         raise InputFault(f"latencies {name}: {given!r} is not (pattern, pattern) or (pattern, pattern, pair)")
     for it in given[:2]:
         Pattern(it)
+    ask_patterns(application, given[:2])
     return tuple(given)  # type: ignore[return-value]
 
 
@@ -285,7 +286,7 @@ def planned(
     names = names_of_rules(application, rules)
     files, types = files_of(application, stimuli, rules)
     lists = [values_of(name, it) for name, it in parameters.items()]
-    wanted = {name: between(name, it) for name, it in latencies.items()}
+    wanted = {name: between(application, name, it) for name, it in latencies.items()}
     whole(horizon, "horizon")
     keeps = on_error == "keep"
     plan = Plan(files, types, horizon, steps, wanted, tuple(parameters), names, seconds(timeout), keeps, stops)

@@ -16,7 +16,8 @@ from typing import IO, TYPE_CHECKING, Any, NamedTuple
 
 from fbsim import figures
 from fbsim.faults import InputFault, RulesBroken, Stop
-from fbsim.latencies import Latencies, Pattern, paired
+from fbsim.latencies import Latencies, paired
+from fbsim.patterns import PORT, Pattern, ask_patterns, ask_signal
 from fbsim.program import call
 from fbsim.stimuli import Value
 
@@ -112,7 +113,12 @@ def ending(text: str) -> tuple[int | None, Stop | None]:
 
 
 class Lines(ABC):
-    """Lines of a trace, in their order, and what is worked out from them."""
+    """Lines of a trace, in their order, and what is worked out from them.
+
+    If they know their application, a pattern or a signal with a name that nothing of it has is an InputFault.
+    """
+
+    application: Application | None = None
 
     @abstractmethod
     def __iter__(self) -> Iterator[Line]:
@@ -120,7 +126,13 @@ class Lines(ABC):
 
     def where(self, pattern: str) -> Selection:
         """Returns the lines that match a pattern as in rules (docs/FORMATS.md): `STATION < GATE.* TAKEN>2`."""
-        return Selection(self, Pattern(pattern))
+        return Selection(self, self.pattern_of(pattern))
+
+    def pattern_of(self, text: str) -> Pattern:
+        """Returns the pattern that a text is."""
+        made = Pattern(text)
+        ask_patterns(self.application, [text])
+        return made
 
     def count(self) -> int:
         """Returns how many lines there are."""
@@ -135,9 +147,10 @@ class Lines(ABC):
         found = {name: Signal([], []) for name in names}
         wanted: dict[str, list[tuple[str, Signal]]] = {}
         for name, signal in found.items():
-            instance, dot, variable = name.upper().rpartition(".")
-            if not dot:
+            instance, _, variable = name.upper().rpartition(".")
+            if not PORT.fullmatch(name.upper()):
                 raise InputFault(f"{name} is no signal: it is INSTANCE.VARIABLE, as GATE.TAKEN")
+            ask_signal(self.application, instance, variable)
             wanted.setdefault(instance, []).append((variable, signal))
         for line in self:
             for variable, signal in wanted.get(line.instance, ()):
@@ -153,7 +166,7 @@ class Lines(ABC):
         `pair` is `queue`: the k-th first with the k-th second; `next`: each first with the next second after it; or the
         name of a variable: a first with the second that has the same value of it.
         """
-        return paired(self, Pattern(first), Pattern(second), pair)
+        return paired(self, self.pattern_of(first), self.pattern_of(second), pair)
 
     def frame(self) -> Any:
         """Returns a pandas data frame: a row for each line, a column for each part and for each variable."""
@@ -168,7 +181,10 @@ class Selection(Lines):
     """The lines that match a pattern."""
 
     def __init__(self, lines: Lines, pattern: Pattern) -> None:
-        self.lines, self.pattern = lines, pattern
+        self.lines, self.pattern, self.application = lines, pattern, lines.application
+
+    def __repr__(self) -> str:
+        return f"<lines of {self.lines!r} that match {self.pattern.text}>"
 
     def __iter__(self) -> Iterator[Line]:
         return filter(self.pattern.matches, self.lines)
