@@ -9,17 +9,20 @@ import contextlib
 import functools
 import os
 import sys
+from collections import Counter
 from collections.abc import Sequence
 
 from fbsim.faults import ProgramMissing
 from .blocks import Library
 from .common import Faults, FileFault, Refused
-from .document import read_document
+from .document import Node, read_document
+from .files import TypeFiles
 from .given_names import GivenNames
-from .mapping import mapping_of
+from .lint import Rest, lint
+from .mapping import mapping_of, read_mapping
 from .network import System, system_of
 from .project_names import ProjectNames
-from .report import ACCEPTED, REFUSED, add_options, finish
+from .report import ACCEPTED, ALL, NUMBERS, REFUSED, add_options, finish
 from .store import earlier_latencies, write
 from .stubs import Stubs, stub_names
 from .writing import Latencies, Types, texts_of
@@ -37,6 +40,7 @@ def arguments(words: Sequence[str] | None) -> argparse.Namespace:
     modes.add_argument("--out", metavar="DIR", help="the folder to write: new, empty, or of an earlier import")
     modes.add_argument("--trace", metavar="DIR", help="write a trace, or what run --why, inspect or coverage says, in the project's names")
     modes.add_argument("--names", metavar="DIR", help="write stimuli or rules, which have the project's names, in those of an import")
+    modes.add_argument("--lint", action="store_true", help="print warnings about a project, also about one that is refused in part")
     parser.add_argument("--lib", action="append", default=[], metavar="DIR", help="a folder with types, at any depth")
     parser.add_argument("--latency", type=int, default=1, metavar="N", help="the latency of each link, in ms (1)")
     parser.add_argument("--overflow", choices=("stop", "wrap"), default="stop",
@@ -49,39 +53,69 @@ def arguments(words: Sequence[str] | None) -> argparse.Namespace:
         given = parser.parse_args(words)
         if not 1 <= given.latency <= 1_000_000:
             parser.error("--latency is 1 to 1,000,000")
-        if given.out is not None and not given.files:
+        is_filter = given.trace is not None or given.names is not None
+        if not is_filter and not given.files:
             parser.error("a file to import is missing")
-        if given.out is None and len(given.files) > 1:
+        if is_filter and len(given.files) > 1:
             parser.error("--trace and --names take one file")
+        if not given.lint and any(one != ALL and not one <= set(NUMBERS) for one in given.deny):
+            parser.error("--deny with a number of the simulator needs --lint")
     except SystemExit as end:
         sys.exit(COMMAND_LINE if end.code else ACCEPTED)
     return given
 
 
-def convert(given: argparse.Namespace, faults: Faults) -> tuple[System, Types]:
-    """Read all files, and return their system, or one with their types, and the types that it has."""
-    library, roots = Library(given.lib, Stubs(frozenset(given.stub)), faults), []
-    library.overflow = given.overflow
+def read_files(given: argparse.Namespace, files: TypeFiles, faults: Faults, ignored: Counter[str]) -> list[Node]:
+    """Return the roots of the files on the command line, of which types can be found by their names."""
+    roots = []
     for path in given.files:
         with contextlib.suppress(Refused):
-            roots.append(read_document(path, faults, library.ignored))
+            roots.append(read_document(path, faults, ignored))
             if roots[-1].tag != "System":
-                library.files.give(roots[-1], faults)
+                files.give(roots[-1], faults)
+    return roots
+
+
+def system_in(roots: Sequence[Node], library: Library) -> System:
+    """Return the system among the roots of files, or one with an instance of each type."""
     systems = [it for it in roots if it.tag == "System"]
     for it in systems[1:]:
-        faults.refuse(it.place, "there is more than one system: import them one by one")
+        library.faults.refuse(it.place, "there is more than one system: import them one by one")
     if not roots:
         raise Refused
-    return System(systems[0] if systems else system_of(roots, faults), library), Types(library)
+    return System(systems[0] if systems else system_of(roots, library.faults), library)
+
+
+def library_of(given: argparse.Namespace, files: TypeFiles, faults: Faults) -> Library:
+    """Return the types of an import."""
+    library = Library(files, Stubs(frozenset(given.stub)), faults)
+    library.overflow = given.overflow
+    return library
 
 
 def import_files(given: argparse.Namespace, faults: Faults) -> None:
     """Import files into a folder."""
     latencies = Latencies(given.latency, earlier_latencies(given.out, given.force))
-    system, types = convert(given, faults)
+    library = library_of(given, TypeFiles(given.lib), faults)
+    system = system_in(read_files(given, library.files, faults, library.ignored), library)
+    types = Types(library)
     texts = texts_of(system, types, latencies)
     if not faults:
         write(given.out, texts, functools.partial(mapping_of, system, types, texts, given.latency), faults)
+
+
+def lint_files(given: argparse.Namespace) -> int:
+    """Lint files, without what is refused of them."""
+    rest = Rest({}, TypeFiles(given.lib))
+    roots = read_files(given, rest.files, rest.refused, Counter())
+    rest.roots = {it.source.path: it for it in roots}
+
+    def make(rest: Rest, faults: Faults) -> System:
+        library = library_of(given, rest.files, faults)
+        library.left_out = rest.left_out
+        return system_in([it for it in roots if it.source.path not in rest.left_out], library)
+
+    return lint(rest, make, given.deny)
 
 
 def rename(given: argparse.Namespace, faults: Faults) -> int:
@@ -91,7 +125,7 @@ def rename(given: argparse.Namespace, faults: Faults) -> int:
         file = sys.stdin if path == "-" else open(path, encoding="utf-8", errors="surrogateescape", newline="")
         with file:
             if given.trace is not None:
-                for line in ProjectNames(given.trace).lines(file):
+                for line in ProjectNames(given.trace, read_mapping(given.trace)).lines(file):
                     print(line)
             else:
                 text = GivenNames(given.names, path, faults).convert(file.read())
@@ -108,6 +142,8 @@ def main(words: Sequence[str] | None = None) -> int:
     """Import files, and return the status: 0 accepted, 1 with a denied warning, 2 refused, 3 for files, 5 for the command line."""
     given, faults = arguments(words), Faults()
     try:
+        if given.lint:
+            return lint_files(given)
         if given.out is None:
             return rename(given, faults)
         import_files(given, faults)

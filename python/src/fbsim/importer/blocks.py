@@ -5,7 +5,6 @@ from __future__ import annotations
 import copy
 import re
 from collections import Counter
-from collections.abc import Iterable
 from dataclasses import dataclass, field, replace
 from pathlib import Path
 
@@ -92,14 +91,17 @@ def packaged(name: str) -> dict[str, Block]:
 class Library:
     """All types of an import: those of the files and folders, of Annex A, and the built-in ones."""
 
-    def __init__(self, folders: Iterable[str], stubs: Stubs, faults: Faults) -> None:
+    def __init__(self, files: TypeFiles, stubs: Stubs, faults: Faults) -> None:
         self.faults, self.stubs = faults, stubs
         self.ignored: Counter[str] = Counter()
         self.notes: list[str] = []
         # What a number does that does not fit: the run stops, or it loses its upper bits (wrap).
         self.overflow = "stop"
         self.built_in, self.annex = packaged("event_blocks.iec"), packaged("annex_a.iec")
-        self.files = TypeFiles(folders)
+        self.files = files
+        # The files of types that are left out, and of types that have an adapter of those (lint.py).
+        self.left_out: set[str] = set()
+        self.hanging: set[str] = set()
         self.blocks: dict[tuple[str, ...], Block | None] = {}
         self.of_files: dict[TypeFile, Block | None] = {}
         self.made: dict[str, Block] = {}
@@ -134,6 +136,8 @@ class Library:
 
     def read(self, file: TypeFile, name: str, usual: Block | None) -> Block | None:
         """Return the type of a file with its interface, or that of the simulator which the file stands for."""
+        if file.path in self.left_out:
+            return None
         if file not in self.of_files:
             trial = copy.copy(self)
             trial.faults, trial.ignored, root = Faults(), Counter(), file.read()
@@ -238,6 +242,7 @@ def adapter_ports(node: Node, is_plug: bool, library: Library) -> list[Port]:
     if adapter and adapter.kind != "adapter":
         library.faults.refuse(node.at("Type"), f"{adapter.name} is no adapter type")
     if adapter is None or adapter.kind != "adapter":
+        library.hanging.add(node.source.path)
         return []
     return [Port(name, "adapter", is_plug, place, adapter.name, adapter=adapter),
             *(replace(it, name=f"{name}.{it.name}", is_output=it.is_output == is_plug, place=place,

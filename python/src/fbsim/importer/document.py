@@ -90,10 +90,12 @@ class Code:
 
 
 class Node:
-    """An element with the attributes and children that are used. If it is not used itself, it hangs on no parent."""
+    """An element with the attributes and children that are used. If it is not used itself, it hangs on no parent.
+
+    One that is left out was refused, and the rest is looked at without it (lint.py)."""
 
     def __init__(self, tag: str, source: Source, offset: int) -> None:
-        self.tag, self.source, self.offset, self.is_used = tag, source, offset, True
+        self.tag, self.source, self.offset, self.is_used, self.is_left_out = tag, source, offset, True, False
         self.attributes: dict[str, Code] = {}
         self.text = Code(source, offset)
         self.children: list[Node] = []

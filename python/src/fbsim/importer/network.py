@@ -49,6 +49,8 @@ class Network:
         self.parameters: dict[Key, Code] = {}
         # The inputs that are TRUE from the start, with the place that says so.
         self.constants: dict[Key, Place] = {}
+        # The ports that a connection or a parameter which is left out would lead to.
+        self.open_ends: set[Key] = set()
         self.wires: list[Wire] = []
         self.notes: list[str] = []
         self.visits = 0
@@ -69,6 +71,9 @@ class Network:
 
     def add_instance(self, node: Node, path: str, types: tuple[str, ...]) -> None:
         """Add an instance, or the inside of a subapplication, whose ports only hand on what comes to them."""
+        if node.is_left_out:
+            self.blocks[path] = None
+            return
         place = node.at("Name")
         block = communication(node.get("Type"), place) or function_block(full_type(node), place, self.library)
         if block is None and (node.get("Type") or node.tag == "FB"):
@@ -99,8 +104,9 @@ class Network:
             return
         for it in node.all("Parameter"):
             name, code = it.get("Name"), it.code("Value")
-            rows = [(name, code, it.at("Name"))]
-            if block.ports.find(f"{name}0") and not block.ports.find(name):
+            rows = [(name, code, it.at("Name"))] if not it.is_left_out else []
+            self.open_ends |= {(path, name)} if it.is_left_out else set()
+            if rows and block.ports.find(f"{name}0") and not block.ports.find(name):
                 parts = [it.span() for it in re.finditer(r"[^\[\],\s]+", code.text)]
                 rows = [(f"{name}{number}", Code(code.source, code.end, code.text[begin:end], code.offsets[begin:end]),
                          code.place(begin)) for number, (begin, end) in enumerate(parts)]
@@ -122,8 +128,11 @@ class Network:
 
     def connect(self, node: Node, kind: str, path: str) -> None:
         """Add a connection, or those that an adapter connection stands for."""
+        faults, self.faults = self.faults, Faults() if node.is_left_out else self.faults
         begin, end = self.find(node, "Source", kind, path), self.find(node, "Destination", kind, path)
-        if begin is None or end is None:
+        self.faults = faults
+        if begin is None or end is None or node.is_left_out:
+            self.open_ends |= {it[0] for it in (begin, end) if it}
             return
         (source, plug), (target, socket), rows = begin, end, []
         if plug.lacking or socket.lacking:

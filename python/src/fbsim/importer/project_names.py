@@ -10,7 +10,7 @@ from typing import Any
 
 from .common import FileFault, Faults, Place, Refused
 from .document import Source, read_source
-from .mapping import PACKAGED, read_mapping
+from .mapping import PACKAGED
 
 SIGNS = ("<", ">")
 PLACE = re.compile(r"(?:[^\s:]*/)?(types\.iec|application\.iec|deploy\.toml):(\d+):(\d+)(?::\s)?")
@@ -24,10 +24,9 @@ MOST_SHOWN = 200
 
 
 class ProjectNames:
-    """The names and places of an import, read from its map.json."""
+    """The names and places of an import, by the content of its map.json, which is for a folder."""
 
-    def __init__(self, folder: str) -> None:
-        content = read_mapping(folder)
+    def __init__(self, folder: str, content: Mapping[str, Any]) -> None:
         self.folder, self.content = folder, content
         self.sources: list[str] = content["sources"]
         self.types: Mapping[str, Mapping[str, Any]] = content["types"]

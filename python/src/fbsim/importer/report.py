@@ -8,6 +8,9 @@ import sys
 from .common import TABLES, Faults
 
 NUMBERS: dict[str, str] = TABLES["warnings"]
+# The warnings of the simulator (docs/FORMATS.md, "Warnings"), and all numbers.
+LINTS = [f"L{number:02}" for number in range(1, TABLES["lints"]["last"] + 1)]
+ALL = frozenset({*NUMBERS, *LINTS})
 STRICT = frozenset({"I01", "I02"})
 ACCEPTED, DENIED, REFUSED = 0, 1, 2
 
@@ -23,11 +26,11 @@ def add_options(parser: argparse.ArgumentParser) -> None:
 def numbers(text: str) -> frozenset[str]:
     """Return the numbers of warnings in a value of --deny: all of them, or those between commas."""
     named = [it.strip().upper() for it in text.split(",")]
-    unknown = [it for it in named if it not in NUMBERS]
+    unknown = [it for it in named if it not in ALL]
     if named == ["ALL"]:
-        return frozenset(NUMBERS)
+        return ALL
     if unknown:
-        raise argparse.ArgumentTypeError(f"there is no warning {unknown[0] or 'without a number'}: there are {', '.join(NUMBERS)}, and all")
+        raise argparse.ArgumentTypeError(f"there is no warning {unknown[0] or 'without a number'}: there are {', '.join(NUMBERS)}, with --lint {LINTS[0]} to {LINTS[-1]}, and all")
     return frozenset(named)
 
 
