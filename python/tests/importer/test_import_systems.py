@@ -365,6 +365,58 @@ def test_too_many_instances_are_refused(tmp_path):
     ], done.lines
 
 
+# 41 composite types with 99 components each are 4,100 instances: the limit is passed at the last one.
+def test_instances_in_composite_types_count(tmp_path):
+    inside = "".join(f'<FB Name="M{it}" Type="E_MERGE"/>' for it in range(99))
+    box = f'<FBType Name="Box"><InterfaceList/><FBNetwork>{inside}</FBNetwork></FBType>'
+    text = system("".join(f'<FB Name="B{it}" Type="Box"/>' for it in range(41)))
+    done = import_all(tmp_path, {"lib/Box.fbt": box, "A.sys": text})
+    assert done.status == 2 and done.lines == [
+        f"A.sys:{place_of(text, 'B40')}: with B40 (composite type Box), which is 100 instances with its components, "
+        "there are more than 4,096 instances"
+    ]
+    # A timer of the event library is four instances.
+    text = system("".join(f'<FB Name="T{it}" Type="E_TON"/>' for it in range(1025)))
+    done = import_all(tmp_path / "two", {"A.sys": text})
+    assert done.lines == [
+        f"A.sys:{place_of(text, 'T1024')}: with T1024 (declared type E_TON), which is 4 instances with its components, "
+        "there are more than 4,096 instances"
+    ]
+
+
+# Each type has 2,800 variables with lines of 200 bytes, so two of them are over 1 MiB.
+def test_texts_that_get_too_long_are_refused_with_the_type(tmp_path):
+    rows = "".join(f'<VarDeclaration Name="V{it:04}{"_LONG" * 36}" Type="INT"/>' for it in range(2_800))
+    long = basic().replace("<InternalVars>", f"<InternalVars>{rows}")
+    files = {f"lib/{it}.fbt": long.replace('"Adder"', f'"{it}"') for it in ("T0", "T1")}
+    text = system('<FB Name="A" Type="T0"/><FB Name="B" Type="T1"/><FB Name="C" Type="T0"/>')
+    done = import_all(tmp_path, {**files, "A.sys": text})
+    assert done.status == 2 and len(done.lines) == 1, done.lines[:3]
+    place = place_of(files["lib/T1.fbt"], "T1")
+    assert done.lines[0].startswith(f"lib/T1.fbt:{place}: with the basic type T1, which has 5"), done.lines
+    assert done.lines[0].endswith("bytes after its expansion, the texts have more than 1,048,576 bytes")
+
+
+# A relay: the event; 4 transitions, each tried at most twice; two actions, IND and CNF; and the statement of the copy.
+def test_the_report_has_the_steps_of_expansions(tmp_path):
+    network = "".join(
+        f'<FB Name="{name}" Type="{kind}"><Parameter Name="ID" Value="&quot;1&quot;"/></FB>'
+        for name, kind in (("P", "PUBLISH_1"), ("S", "SUBSCRIBE_1"))
+    )
+    network += THREE + connections("Event", "A.EO P.REQ", "S.IND C.CLK") + connections("Data", "A.Q P.SD_1", "S.RD_1 C.D")
+    done = import_all(tmp_path, {"A.sys": system(network)})
+    assert done.status == 0, done.lines
+    report = done.text("import.txt")
+    assert "PUBLISH_1__BOOL: at most 12 steps for an event" in report
+    assert "if the application needs at most 10,000 steps in a tick without its expansions: --steps 130000" in report
+    # REQ takes 9: the event; INIT and REQ tried; two actions and a statement; the way back; INIT and REQ tried in vain. C takes one.
+    words = "run application.iec --types types.iec --deploy deploy.toml --stim s.csv --horizon 1 --steps".split()
+    (done.out / "s.csv").write_text("tick,event,values\n0,P.REQ,\n")
+    for steps, end in ((10, "end 1"), (9, "stop 0 MAIN steps")):
+        ran = subprocess.run([find_program(), *words, str(steps)], cwd=done.out, capture_output=True, text=True)
+        assert ran.stdout.splitlines()[-1] == end
+
+
 def test_a_basic_type_in_two_devices(tmp_path):
     network = (
         '<FB Name="A" Type="Adder"/><FB Name="B" Type="Adder"/>'

@@ -105,6 +105,8 @@ class Library:
         self.blocks: dict[tuple[str, ...], Block | None] = {}
         self.of_files: dict[TypeFile, Block | None] = {}
         self.made: dict[str, Block] = {}
+        # The steps that an expansion takes more in an event, by its name.
+        self.steps: dict[str, int] = {}
         self.taken = {*self.built_in, *self.annex}
 
     def get(self, text: str, place: Place, tag: str = "FB") -> Block | None:

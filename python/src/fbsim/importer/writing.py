@@ -15,6 +15,7 @@ from .blocks import Block, Library, Port, variable
 from .common import KEYWORDS, MARK, Faults, Folded, Names, Place, shown
 from .document import Code, Node
 from .expressions import UNSIGNED, Variable
+from .limits import refuse_sizes, step_lines
 from .lowering import Lowering
 from .network import Network, System
 from .structured_text import Algorithm, Find, Found, condition, constant, whole
@@ -172,6 +173,7 @@ class Types:
         self.written: dict[Block, None] = {}
         self.charts: dict[Block, Chart] = {}
         self.networks: dict[Block, Network] = {}
+        self.sizes: list[tuple[Block, str]] = []
         self.depth, self.constant = 0, functools.partial(value, faults=library.faults)
 
     def need(self, block: Block, place: Place) -> None:
@@ -186,14 +188,16 @@ class Types:
             for it in self.library.annex.values():
                 if f": {it.out};" in block.text:
                     self.need(it, place)
-            self.texts.append(f"{block.place.mark}{block.text}\n\n")
+            text = f"{block.place.mark}{block.text}\n\n"
         elif block.kind == "composite":
-            self.texts.append(TEXTS.block(block, None, self.network(block), self.constant))
+            text = TEXTS.block(block, None, self.network(block), self.constant)
         else:
             chart = block.made or Chart(block, self.library)
             if isinstance(chart, Chart):
                 self.charts[block] = chart
-            self.texts.append(TEXTS.block(block, chart, None, self.constant))
+            text = TEXTS.block(block, chart, None, self.constant)
+        self.texts.append(text)
+        self.sizes.append((block, text))
         self.depth -= 1
 
     def network(self, block: Block) -> Network:
@@ -231,5 +235,6 @@ def texts_of(system: System, types: Types, latencies: Latencies) -> dict[str, st
     for it in system.instances.values():
         types.need(it.block, it.place)
     application, deployment = TEXTS.application(system, types.constant), TEXTS.deployment(system, latencies)
+    refuse_sizes(system, types, types.sizes, application, types.faults)
     return {"types.iec": "".join(types.texts), "application.iec": application, "deploy.toml": deployment,
-            "import.txt": TEXTS.report(system, types, latencies)}
+            "import.txt": TEXTS.report(system, types, latencies, step_lines(types))}
