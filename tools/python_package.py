@@ -48,7 +48,7 @@ class Copy:
         self.drop = rt.drop_to_nobody()
         if self.drop is None:
             sys.exit("as root, programs are called only as nobody, and setpriv failed here")
-        without = shutil.ignore_patterns("crates", "cases", "bench", "out", ".*", "__pycache__", "env", "wheel")
+        without = shutil.ignore_patterns("crates", "bench", "out", ".*", "__pycache__", "env", "wheel")
         shutil.copytree(TOP, self.top, ignore=without)
         for name in ("bin", "home", "tmp", "page"):
             os.mkdir(f"{room}/{name}")
