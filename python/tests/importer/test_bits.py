@@ -209,5 +209,34 @@ def test_what_is_wrong_with_bits_is_refused_at_its_place(body, part, says, tmp_p
 def test_a_guard_on_bits_that_gets_too_long_is_refused(tmp_path):
     text = basic("", "REQ[((A AND B) XOR (A OR B)) = 0]").replace('Type="INT"', 'Type="DWORD"')
     done = import_all(tmp_path, {"Adder.fbt": text})
-    assert done.lines == [f"Adder.fbt:{place_of(text, '[((A')}: a guard has at most 4,000 characters when it is expanded: "
-                          "compute it in an algorithm"]
+    assert done.lines == [f"Adder.fbt:{place_of(text, '[((A')}: a guard has at most 4,000 characters when it is expanded "
+                          "(AND, OR, XOR): compute it in an algorithm"]
+
+
+def test_an_algorithm_that_gets_too_long_is_refused(tmp_path):
+    # each of these has two ANDs of 32 bits, which is some 5,000 characters
+    text = basic("A := (A AND B) XOR (A OR B);\n" * 300).replace('Type="INT"', 'Type="DWORD"')
+    done = import_all(tmp_path, {"Adder.fbt": text})
+    assert done.lines == [f"Adder.fbt:{place_of(text, 'A := (A')}: an algorithm has at most 1,048,576 characters when it is expanded: "
+                          "split what has strings of bits or conversions"]
+
+
+# A body, and the most steps that one of its statements takes more: a variable for each deep operand, or what CONTINUE takes.
+STEPS = [
+    ("SUM := A AND B;", 0),
+    ("SUM := (A OR B) AND (A XOR B);", 2),
+    ("IF A = B THEN SUM := 1; ELSIF ((A OR B) AND B) = 3 THEN SUM := 2; END_IF;", 2),
+    ("IF A = 1 THEN SUM := 1; ELSIF ((A OR B) AND B) = 3 THEN SUM := 2; ELSIF ((A OR 1) AND B) = 3 THEN SUM := 3; END_IF;", 4),
+    ("WHILE ((SUM OR B) AND B) <> 0 DO SUM := 0; END_WHILE;", 4),
+    ("FOR B := 1 TO 3 DO IF A > B THEN CONTINUE; END_IF; SUM := A; END_FOR;", 4),
+]
+
+
+@pytest.mark.parametrize("body, more", STEPS, ids=[it[0] for it in STEPS])
+def test_the_report_says_how_many_steps_more_a_statement_takes(body, more, tmp_path):
+    text = basic(body).replace('Type="INT"', 'Type="WORD"')
+    done = import_all(tmp_path, {"Adder.fbt": text})
+    assert done.status == 0, done.lines
+    line = f"  Adder.fbt:{place_of(text, body)}: a statement or a round of a loop of ADD: at most {more} more steps\n"
+    assert (line in done.text("import.txt")) == bool(more)
+    assert (f"--steps {(more + 1) * 10_000}\n" in done.text("import.txt")) == bool(more)

@@ -153,8 +153,8 @@ def test_a_guard_that_gets_too_long_is_refused(tmp_path):
     text = basic(condition=f"REQ[{guard}]")
     done = import_all(tmp_path, {"Adder.fbt": text})
     assert done.status == 2
-    assert done.lines == [f"Adder.fbt:{place_of(text, '[A')}: a guard has at most 4,000 characters when it is expanded: "
-                          "compute it in an algorithm"]
+    assert done.lines == [f"Adder.fbt:{place_of(text, '[A')}: a guard has at most 4,000 characters when it is expanded "
+                          "(DINT_TO_SINT): compute it in an algorithm"]
 
 
 @pytest.mark.parametrize("depth", [64, 5_000])
@@ -174,8 +174,8 @@ def test_an_expression_that_is_too_deep_when_it_is_expanded_is_refused_at_its_pl
     text = basic("SUM := " + "DINT_TO_UINT(A + " * 30 + "A" + ")" * 30 + ";")
     done = import_all(tmp_path, {"Adder.fbt": text}, out="other")
     assert done.status == 2
-    assert done.lines == [f"Adder.fbt:{place_of(text, 'DINT_TO')}: this nests deeper than 64 when it is expanded: "
-                          "assign a part of it to a variable"]
+    assert done.lines == [f"Adder.fbt:{place_of(text, 'DINT_TO')}: this nests deeper than 64 when it is expanded "
+                          "(DINT_TO_UINT): assign a part of it to a variable"]
 
 
 def test_another_overflow_is_a_wrong_command_line(tmp_path):

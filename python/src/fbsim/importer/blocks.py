@@ -105,7 +105,7 @@ class Library:
         self.blocks: dict[tuple[str, ...], Block | None] = {}
         self.of_files: dict[TypeFile, Block | None] = {}
         self.made: dict[str, Block] = {}
-        # The steps that an expansion takes more in an event, by its name.
+        # The most steps that a statement of an algorithm takes more, by what import.txt calls it.
         self.steps: dict[str, int] = {}
         self.taken = {*self.built_in, *self.annex}
 

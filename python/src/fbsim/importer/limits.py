@@ -109,7 +109,7 @@ def step_lines(types: Types) -> list[str]:
     sizes = Sizes(types)
     made = {it.out: sizes.steps(it) for it in types.written if it.made or it.kind == "declared"}
     rows = [f"{name}: at most {count} steps for an event" for name, count in made.items()]
-    rows += [f"{name}: at most {count} more steps for an event" for name, count in types.library.steps.items()]
+    rows += [f"{name}: at most {count} more steps" for name, count in types.library.steps.items()]
     most = max([*made.values(), *types.library.steps.values()], default=0)
     safe = min(USUAL_STEPS * (1 + most), MOST_STEPS)
     return [*rows, f"if the application needs at most {USUAL_STEPS:,} steps in a tick without its expansions: --steps {safe}"] if most else []

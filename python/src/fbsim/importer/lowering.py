@@ -7,7 +7,7 @@ from collections.abc import Callable
 from dataclasses import replace
 
 from .bits import combined, complement, field, replaced, shifted
-from .common import Faults
+from .common import Faults, shown
 from .conversions import checked, conversion_of, converted, fitted, of_truth, to_truth
 from .document import Code
 from .expressions import BITS, MOST_NESTED, RANGES, Binary, Call, Expression, Group, Literal, Part, Range, Unary, Variable, bare, join, nesting, number, value_of
@@ -21,6 +21,10 @@ ABOUT = {"stop": "a value that does not fit stops the run", "wrap": "a value tha
          "bits": "the bits are read as those of the other type"}
 # The type of what is needed more than once, if it is a string of bits.
 WIDEST = "ULINT"
+# What is a step: the beginnings of statements that expansions add.
+STATEMENTS = frozenset((":=", "IF", "WHILE", "REPEAT", "EXIT"))
+# In a round of a loop: REPEAT and its round, and a flag that is set and tested.
+OF_CONTINUE = 4
 
 
 class Lowering:
@@ -33,6 +37,9 @@ class Lowering:
         # What is assigned before the statement; nothing may be in a guard.
         self.before: list[Segment] | None = None
         self.count: Counter[str] = Counter()
+        # The names of what was expanded in the last expression, and the most steps that a statement takes more.
+        self.expanded: list[str] = []
+        self.steps = 0
 
     def note(self, it: Expression, text: str) -> None:
         """Keep a line for import.txt."""
@@ -45,7 +52,11 @@ class Lowering:
     def statements(self, segments: list[Segment]) -> list[Segment]:
         """Return the segments of an algorithm in the profile. What ELSIF and WHILE need before their conditions goes inside."""
         result: list[Segment] = []
+        # For each IF that is open, how many it has to close, and what it takes more; at last that of a statement outside.
         opened: list[int] = []
+        taken = [0]
+        if any(it.kind == "CONTINUE" for it in segments):
+            self.steps = OF_CONTINUE
         for it in continued(segments, self.fresh, self.refuse):
             before, new = self.segment(it)
             if it.kind == "IF":
@@ -59,6 +70,14 @@ class Lowering:
                 new = self.tested_inside(it, before, new[0])
             else:
                 new = [*before, *new]
+            more = sum(one.kind in STATEMENTS for one in new) - (it.kind in STATEMENTS) + (it.kind == "WHILE" and bool(before))
+            at = -2 if it.kind == "ELSIF" and len(taken) > 1 else -1
+            taken[at] = more + (taken[at] if at == -2 else 0)
+            self.steps = max(self.steps, *taken)
+            if it.kind == "IF":
+                taken.append(0)
+            elif it.kind == "END_IF" and len(taken) > 1:
+                taken.pop()
             result += new
         return result
 
@@ -100,10 +119,16 @@ class Lowering:
         """Return an expression of the profile, whose result is then kept in a range. One that nests too deep then is refused."""
         for one in narrow(it, kept):
             self.faults.warn(self.code.place(one.at), "I01", str(one))
+        self.expanded.clear()
         result = self.lowered(it)
         if nesting(result) > MOST_NESTED:
-            self.refuse(it.start, f"this nests deeper than {MOST_NESTED} when it is expanded: assign a part of it to a variable")
+            self.refuse(it.start, f"this nests deeper than {MOST_NESTED} {self.about()}: assign a part of it to a variable")
         return result
+
+    def about(self) -> str:
+        """Return what was expanded in the last expression, for a message."""
+        names = ", ".join(dict.fromkeys(self.expanded))
+        return f"when it is expanded ({shown(names)})" if names else "as it is written here"
 
     def again(self, it: Expression, kind: str = WIDEST) -> Expression:
         """Return what stands for an expression that is needed more than once: a variable, unless it is short or in a guard."""
@@ -119,15 +144,18 @@ class Lowering:
         if isinstance(it, Group):
             return replace(it, inside=self.lowered(it.inside))
         if isinstance(it, Part):
+            self.expanded.append(f"{it.base.name}.%")
             bits = field(it.base, it.begin, it.count, BITS[it.base.type])
             return Group(it.start, it.type, join("=", bits, number(1, it.start)) if it.type == "BOOL" else bits)
         size = BITS.get(it.type, 0)
         if isinstance(it, Unary):
             operand = self.lowered(it.operand)
+            self.expanded += [it.operator] if it.operator == "NOT" and size else []
             return complement(operand, size) if it.operator == "NOT" and size else replace(it, operand=operand)
         if isinstance(it, Binary):
             left, right = self.lowered(it.left), self.lowered(it.right)
             if size and it.operator in LOGICAL:
+                self.expanded.append(it.operator)
                 return combined(it.operator, left, right, size, self.again)
             return replace(it, left=left, right=right)
         return self.call(it, size) if isinstance(it, Call) else it
@@ -135,6 +163,7 @@ class Lowering:
     def call(self, it: Call, size: int) -> Expression:
         """Return a function of the profile, or what stands for one."""
         conversion = conversion_of(it.name)
+        self.expanded += [it.name] if conversion or it.name in (*SHIFTS, "MUX") else []
         if conversion:
             return self.conversion(it, *conversion)
         values = [self.lowered(one) for one in it.arguments]

@@ -31,7 +31,7 @@ AND OR XOR NOT MOD TRUE FALSE""".split())
 TIME = re.compile(r"T(?:IME)?#(-?)(?=\d)" + "".join(rf"(?:(\d[\d_]*+(?:\.\d++)?){it}(?!S)_?)?" for it in TABLES["units"]), re.ASCII)
 REASONS = TABLES["refused"]
 ENDS = ("END_IF", "END_CASE", "END_FOR", "END_WHILE", "END_REPEAT")
-MOST_CHARACTERS, MOST_IN_A_GUARD = 200_000, 4_000
+MOST_CHARACTERS, MOST_IN_A_GUARD, MOST_WRITTEN = 200_000, 4_000, 2**20
 
 
 def time_literal(text: str) -> str:
@@ -301,7 +301,12 @@ class Algorithm(Reader):
                 segments += self.read(begin, end, "segment") or []
                 segments += [Segment(";", [token])] if token == ";" else []
                 begin = end + 1
-        return laid_out((piece for it in lowering.statements(segments) for piece in it.pieces()), self.code)
+        row = [piece for it in lowering.statements(segments) for piece in it.pieces()]
+        if sum(len(it.text) + 1 for it in row) > MOST_WRITTEN:
+            self.faults.refuse(self.code.place(0), f"an algorithm has at most {MOST_WRITTEN:,} characters when it is expanded: "
+                               "split what has strings of bits or conversions")
+            return ""
+        return laid_out(row, self.code)
 
 
 def condition(code: Code, find: Find, find_event: Callable[[str], str | None], lowering: Lowering) -> str:
@@ -327,7 +332,7 @@ def condition(code: Code, find: Find, find_event: Callable[[str], str | None], l
     guard = reader.read(0, len(tokens) - 1, rule, hint)
     row = list(pieces(lowering.expression(truth(guard)))) if guard else []
     if sum(len(it.text) + 1 for it in row) > MOST_IN_A_GUARD:
-        reader.faults.refuse(first, f"a guard has at most {MOST_IN_A_GUARD:,} characters when it is expanded: compute it in an algorithm")
+        reader.faults.refuse(first, f"a guard has at most {MOST_IN_A_GUARD:,} characters {lowering.about()}: compute it in an algorithm")
     return f"{mark}{event or ''}{first.mark if is_guard else ''}[{laid_out(row, code).lstrip()}]"
 
 

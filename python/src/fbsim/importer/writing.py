@@ -71,6 +71,8 @@ class Chart:
             body = code.body(lowering := self.lowering(code.code))
             self.algorithms.append(f"{mark}ALGORITHM {self.bodies[name]} IN ST:{body}{end}\nEND_ALGORITHM\n")
             library.notes += lowering.notes
+            if lowering.steps:
+                library.steps[f"{code.code.place(0)}: a statement or a round of a loop of {name}"] = lowering.steps
         library.notes += [f"type {block.out}: {it}" for one in (names, self.bodies, self.state_names) for it in one.renamed]
 
     def code_of(self, node: Node) -> Code:
