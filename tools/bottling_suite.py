@@ -314,6 +314,15 @@ def faults_of_places(room):
     status, out, err = bench.call("./suite")
     if status or not out.endswith("\n# skipped: .emergency, since its name begins with a dot\n# 2 scenarios, 12 rules\n1..39\n") or ".cache" in out:
         yield f"a hidden scenario: {status}, {out}{err}"
+    bench = Bench(room, "late")
+    bench.copy("rejects", "night", "trace")
+    bench.edit("night/args", "12000", "9000")
+    late = sum(int(row.split(",")[0]) >= 9000 for row in content(f"{bench.folder}/night/stimuli.csv").splitlines()[1:])
+    blessed(bench)
+    for words in ((), ("--report",)):
+        status, out, err = bench.call("./suite", *words)
+        if status or not late or f"ok 2 - night\n# stimuli: rows at or beyond the horizon 9000: {late} of " not in out:
+            yield f"stimuli beyond the horizon: {status}, {out}{err}"
     bench = Bench(room, "into")
     status, out, err = bench.call("./suite", out="shift")
     if status != 3 or "shift: this folder is for results" not in err or content(f"{bench.folder}/shift/trace") != content(f"{EXAMPLE}/shift/trace"):
