@@ -64,7 +64,8 @@ def application(folder, text, name="plant.iec", deploy=None):
 
 def program(folder, text):
     """Writes a shell script, which takes the place of the program."""
-    (folder / "program").write_text(f"#!/bin/sh\n{text}\n")
+    version = f'[ "$1" = --version ] && echo "fbsim {fbsim.__version__}" && exit'
+    (folder / "program").write_text(f"#!/bin/sh\n{version}\n{text}\n")
     (folder / "program").chmod(0o755)
     return str(folder / "program")
 

@@ -363,3 +363,50 @@ def test_values_of_numpy_are_values_and_a_time_is_in_ticks(tmp_path):
     assert plant.run(rows, horizon=5).text() == lines
     with pytest.raises(fbsim.InputFault, match="^'T#250ms' is no value of a row: .*, and a time is in ticks$"):
         plant.run([(2, "D.START", {"DT": "T#250ms"})], horizon=5)
+
+
+def test_types_may_be_one_file(tmp_path):
+    block = "FUNCTION_BLOCK F EVENT_INPUT GO; END_EVENT EC_STATES S; END_STATES END_FUNCTION_BLOCK"
+    (tmp_path / "a.iec").write_text(block)
+    declaration = application(tmp_path, CYCLE).declaration
+    for types in (str(tmp_path / "a.iec"), tmp_path / "a.iec", [tmp_path / "a.iec"]):
+        assert fbsim.Application(declaration, types=types).words[2] == str(tmp_path / "a.iec")
+        assert fbsim.Application(declaration, types=types).check() is None
+
+
+def test_coverage_lint_and_inspect(tmp_path, conveyor):
+    plant = example_in(EXAMPLES / "conveyor")
+    assert "\nstates 6 of 6, transitions 6 of 6, " in plant.application.coverage(conveyor, least=100)
+    short = plant.application.run(plant.stimuli, horizon=150)
+    with pytest.raises(fbsim.Fault, match="^less than 90 percent are covered:"):
+        plant.application.coverage(short, least=90)
+    assert plant.application.coverage(short, conveyor) == plant.application.coverage(conveyor)
+    assert plant.application.lint(plant.stimuli) == ""
+    unused = application(tmp_path, CYCLE.replace("END_FBS", "D : E_MERGE; END_FBS"))
+    said = unused.lint()
+    assert "L15" in said and unused.lint(allow=["all"]) == ""
+    with pytest.raises(fbsim.Fault, match="L15"):
+        unused.lint(deny=["all"])
+    assert "GATE" in plant.application.inspect(conveyor, only="GATE") and plant.application.inspect(conveyor, lost=True)
+
+
+@pytest.mark.parametrize("said", ["fbsim 0.9.0", "fbsim 1.999.0", "fbsim", "", "other 1.2.0"])
+def test_a_program_of_another_version_is_not_used(tmp_path, monkeypatch, said):
+    (tmp_path / "program").write_text(f"#!/bin/sh\n[ $1 = --version ] && echo '{said}' && exit\necho end 5\n")
+    (tmp_path / "program").chmod(0o755)
+    monkeypatch.setenv("FBSIM", str(tmp_path / "program"))
+    plant = fbsim.Application("plant.iec")
+    for call in (lambda: plant.run(horizon=5), lambda: plant.session(), lambda: list(plant.stream(horizon=5))):
+        with pytest.raises(fbsim.ProgramMissing, match=f"says '{said}', and this package is fbsim .*ANY_VERSION=1"):
+            call()
+    monkeypatch.setenv("FBSIM_ANY_VERSION", "1")
+    assert plant.run(horizon=5).end == 5
+
+
+def test_a_program_of_another_patch_version_is_used(tmp_path, monkeypatch):
+    major, minor, _ = fbsim.__version__.split(".")
+    text = f"#!/bin/sh\n[ $1 = --version ] && echo 'fbsim {major}.{minor}.77 (unproved)' && exit\necho end 5\n"
+    (tmp_path / "program").write_text(text)
+    (tmp_path / "program").chmod(0o755)
+    monkeypatch.setenv("FBSIM", str(tmp_path / "program"))
+    assert fbsim.Application("plant.iec").run(horizon=5).end == 5

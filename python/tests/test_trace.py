@@ -51,7 +51,7 @@ def test_a_file_that_is_no_trace_is_named_with_the_line(tmp_path, number, text):
 
 
 def test_a_trace_that_is_cut_off_has_no_end(tmp_path):
-    for lines in ([], ["0 MAIN < S.COLD"], ["end x"], ["stop 3 MAIN"]):
+    for lines in ([], ["0 MAIN < S.COLD"], ["end x"], ["stop 3 MAIN"], ["end 0"], ["end 08"], ["stop 3 MAIN wrong"]):
         with pytest.raises(fbsim.InputFault, match="the last line is neither end nor stop"):
             trace_in(tmp_path, *lines).end
 
@@ -208,3 +208,97 @@ def test_the_rules_of_the_bottling_line():
         example = example_in(EXAMPLES / "bottling" / name)
         trace = fbsim.Trace(example.folder / "trace", example.application)
         assert len(trace.expect(EXAMPLES / "bottling" / "bottling.rules").verdicts) == 12
+
+
+GO = "5 MAIN < S.GO"
+
+
+@pytest.mark.parametrize("text, number", [
+    # Not the form of a line: words, signs, spaces, no line feed.
+    (f"{GO}\n{GO} X=1  Y=2\nend 8\n", 2),
+    (f"{GO} \nend 8\n", 1),
+    (f" {GO}\nend 8\n", 1),
+    ("5  MAIN < S.GO\nend 8\n", 1),
+    ("5 MAIN < S.GO X\nend 8\n", 1),
+    ("5 MAIN < S.GO X=1;\nend 8\n", 1),
+    ("5 MAIN < S\nend 8\n", 1),
+    ("5 MAIN = S.GO\nend 8\n", 1),
+    (f"{GO}\r\nend 8\r\n", 1),
+    (f"{GO}\n\nend 8\n", 2),
+    (f"{GO}\nend 16", 2),
+    (f"{GO}\nend 8 \n", 2),
+    # Names in lower case, needless zeros, numbers out of range.
+    ("5 main < S.GO\nend 8\n", 1),
+    ("5 MAIN < s.GO\nend 8\n", 1),
+    ("05 MAIN < S.GO\nend 8\n", 1),
+    ("5 MAIN < S.GO X=01\nend 8\n", 1),
+    ("5 MAIN < S.GO X=-0\nend 8\n", 1),
+    ("5 MAIN < S.GO X=true\nend 8\n", 1),
+    (f"5 MAIN < S.GO X={2**64}\nend 8\n", 1),
+    (f"{2**64} MAIN < S.GO\nend 8\n", 1),
+    ("256 0 0 5 MAIN < S.GO\nend 8\n", 1),
+    (f"1 {2**128} 0 5 MAIN < S.GO\nend 8\n", 1),
+    ("1 0 00 5 MAIN < S.GO\nend 8\n", 1),
+    (f"1 0 0 {GO}\n{GO}\nend 8\n", 2),
+    # Ticks that fall, an end that is not after the last line, a stop before it.
+    (f"{GO}\n4 MAIN < S.GO\nend 8\n", 2),
+    (f"{GO}\nend 5\n", 2),
+    ("end 0\n", 1),
+    (f"{GO}\nstop 4 MAIN steps\n", 2),
+    (f"{GO}\nstop 5 MAIN range divide\n", 2),
+    # No last line, and something after it.
+    ("", 1),
+    (f"{GO}\n", 2),
+    (f"end 8\n{GO}\n", 2),
+    ("end 8\nend 8\n", 2),
+    ("end 8\n\n", 2),
+])
+def test_what_is_no_trace_is_refused_here_and_by_the_program(tmp_path, text, number):
+    (tmp_path / "some.trace").write_bytes(text.encode())
+    trace = fbsim.Trace(tmp_path / "some.trace")
+    with pytest.raises(fbsim.InputFault, match=f"some.trace: line {number} is "):
+        trace.count()
+    (tmp_path / "some.rules").write_text('[[rule]]\nname = "x"\nnever = "* < *"\n')
+    with pytest.raises(fbsim.Refused) as caught:
+        trace.expect(tmp_path / "some.rules")
+    assert (caught.value.number, caught.value.line) == (None, number)
+
+
+def test_a_last_line_that_is_cut_is_no_end(tmp_path):
+    (tmp_path / "some.trace").write_text("0 MAIN < S.COLD\nend 16")
+    for call in (lambda it: it.end, lambda it: it.stop, lambda it: it.last):
+        with pytest.raises(fbsim.InputFault, match="no line feed at its end"):
+            call(fbsim.Trace(tmp_path / "some.trace"))
+
+
+def test_the_greatest_numbers_of_a_trace_are_read(tmp_path):
+    most = 2**64 - 1
+    trace = trace_in(tmp_path, f"255 {2**128 - 1} 0 {most - 1} R > A.B X={most} Y=-{most}", f"end {most}")
+    assert [it.values for it in trace] == [{"X": most, "Y": -most}] and trace.end == most
+    assert trace_in(tmp_path, "5 R > A.B", "stop 5 R divide").count() == 1
+
+
+def test_a_file_that_is_missing_is_a_file_fault(tmp_path):
+    nope = fbsim.Trace(tmp_path / "nope")
+    tries = [
+        nope.count, lambda: nope.end, lambda: nope.stop, lambda: nope.last, nope.text, nope.where("* * *").count,
+        lambda: nope.signal("A.B"), lambda: nope == trace_in(tmp_path, "end 8"),
+        lambda: trace_in(tmp_path, "end 8") == nope,
+    ]
+    for call in tries:
+        with pytest.raises(fbsim.FileFault, match="file fault: trace .*/nope: "):
+            call()
+
+
+def test_wrong_arguments_are_input_faults(tmp_path, conveyor):
+    tries = [
+        lambda: conveyor.where(None), lambda: conveyor.diff("x"), lambda: conveyor.expect(None),
+        lambda: fbsim.Trace(None),
+        lambda: conveyor.latencies("* * *", "* * *", "next").histogram(-1),
+        lambda: conveyor.latencies("* * *", "* * *", "next").histogram(0),
+        lambda: fbsim.Application(None), lambda: fbsim.Application("a.iec", types=[None]),
+        lambda: fbsim.Application("a.iec", deploy=5),
+    ]
+    for call in tries:
+        with pytest.raises(fbsim.InputFault):
+            call()

@@ -1,5 +1,7 @@
 """Benches in pytest, sweeps and figures for applications of IEC 61499. All traces come from the simulator `fbsim`."""
 
+__version__ = "1.2.0"
+
 from fbsim.application import Application, Stream
 from fbsim.faults import (
     Fault, FileFault, InputFault, Location, OutOfMemory, ProgramFault, ProgramMissing, ReferenceDiffers, Refused,
@@ -13,8 +15,6 @@ from fbsim.session import Session
 from fbsim.sweep import Jitter, Sweep, jitter
 from fbsim.trace import Line, Lines, Report, Signal, Trace, Verdict
 from fbsim.variant import Variant
-
-__version__ = "1.2.0"
 
 __all__ = [
     "Application", "Fault", "FileFault", "InputFault", "Jitter", "Latencies", "Line", "Lines", "Location",

@@ -11,10 +11,10 @@ from itertools import takewhile
 from pathlib import Path
 from typing import IO, TYPE_CHECKING, Any, Literal
 
-from fbsim.faults import InputFault, Stop, Stopped, fault_of
+from fbsim.faults import Fault, InputFault, Stop, Stopped, fault_of
 from fbsim.program import call, started
 from fbsim.session import Session
-from fbsim.stimuli import FileName, Stimuli, stimuli_text
+from fbsim.stimuli import FileName, Stimuli, file_name, stimuli_text
 from fbsim.texts import whole
 from fbsim.trace import Line, Lines, Trace, ending, lines_of, temporary
 
@@ -32,6 +32,14 @@ class Application:
     declaration: FileName
     types: Sequence[FileName] = ()
     deploy: FileName | None = None
+
+    def __post_init__(self) -> None:
+        types = [self.types] if isinstance(self.types, (str, os.PathLike)) else self.types
+        for it, what in [(self.declaration, "a declaration"), *((it, "a file of types") for it in types)]:
+            file_name(it, what)
+        if self.deploy is not None:
+            file_name(self.deploy, "a deployment")
+        object.__setattr__(self, "types", tuple(types))
 
     @property
     def words(self) -> list[str]:
@@ -92,6 +100,28 @@ class Application:
         """Runs the application, and returns its lines as they come, to be read once. Reading them raises its faults."""
         options = {"horizon": horizon, "steps": steps, "workers": workers, "trace": 2 if keys else None}
         return Stream(*self.call_words("run", stimuli, options), stop, self)
+
+    def coverage(self, *traces: Trace, least: int | None = None) -> str:
+        """Returns the report of `fbsim coverage` on traces. Below `least` percent it is raised as a `Fault`."""
+        words = ["coverage", *self.words, *(os.fspath(it.path) for it in traces), "--why"]
+        made = call(words + ([] if least is None else ["--least", str(whole(least, "least"))]), statuses=(0, 1))
+        if made.returncode:
+            raise Fault(f"less than {least} percent are covered:\n{made.stdout.rstrip()}")
+        return made.stdout
+
+    def lint(self, stimuli: Stimuli = None, *, allow: Sequence[str] = (), deny: Sequence[str] = ()) -> str:
+        """Returns the warnings of `check --lint`. One that is denied, as `all` or `L04:GATE`, is raised as `Fault`."""
+        words, given = self.call_words("check", stimuli, {})
+        options = [*(f"--allow={it}" for it in allow), *(f"--deny={it}" for it in deny)]
+        made = call([*words, "--lint", *options], given, statuses=(0, 1))
+        if made.returncode:
+            raise Fault(made.stderr.rstrip())
+        return made.stderr
+
+    def inspect(self, trace: Trace, *, only: str | None = None, lost: bool = False) -> str:
+        """Returns what `fbsim inspect` says of the inside of a trace: of an instance, or of lost events alone."""
+        words = ["inspect", *self.words, os.fspath(trace.path), "--why"]
+        return call(words + ([] if only is None else ["--only", only]) + ["--lost"] * lost).stdout
 
     def session(
         self, stimuli: Stimuli = None, *, steps: int | None = None, timeout: float | None = None

@@ -12,6 +12,7 @@ from typing import TYPE_CHECKING, Any
 from fbsim import figures
 from fbsim.faults import Fault, InputFault
 from fbsim.patterns import Pattern
+from fbsim.texts import whole
 
 if TYPE_CHECKING:
     from fbsim.trace import Line
@@ -82,6 +83,8 @@ class Latencies:
         Without a width, it is such that there are at most ten rows.
         """
         least, most = self.least, self.most
+        if width is not None and whole(width, "width") < 1:
+            raise InputFault(f"width is {width}, and not at least 1")
         width = width or -(-(most - least + 1) // 10)
         counts = [0] * ((most - least) // width + 1)
         for ticks in self.ticks:

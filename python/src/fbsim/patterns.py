@@ -57,6 +57,18 @@ class Condition(NamedTuple):
         return value is not None and other is not None and self.compares(value, other)
 
 
+def is_possible(conditions: list[Condition]) -> bool:
+    """Whether some number or truth value meets all these conditions on one variable."""
+    def suits(value: Value) -> bool:
+        own = [it for it in conditions if it.value is not None or it.other == it.name]
+        return all(it.compares(value, value if it.value is None else it.value) for it in own)
+
+    # (the least number that suits is the least of all, or one that a condition names, or the next one)
+    numbers = [it.value for it in conditions if it.value is not None and not isinstance(it.value, bool)]
+    tried = [-MOST, *numbers, *(it + 1 for it in numbers)]
+    return suits(True) or suits(False) or any(suits(it) for it in tried if abs(it) <= MOST)
+
+
 def port_of(word: str) -> Callable[[str], bool] | None:
     """Returns a call that says whether a port is one of a pattern, or None if the word is no port."""
     if opened := OPEN_PORT.fullmatch(word):
@@ -96,6 +108,9 @@ class Pattern:
             raise self.fault(f"{words[2]} is no port: two names or more, with a full stop between")
         self.is_port = port
         self.conditions = [self.condition(it) for it in words[3:]]
+        for name in {it.name: None for it in self.conditions}:
+            if not is_possible([it for it in self.conditions if it.name == name]):
+                raise self.fault(f"no value of {name} meets all conditions on it")
 
     def __repr__(self) -> str:
         return f"<pattern {self.text}>"

@@ -8,9 +8,11 @@ import signal
 import subprocess
 from collections.abc import Iterator, Sequence
 from contextlib import contextmanager
+from functools import lru_cache
 from pathlib import Path
 from typing import IO, Any
 
+import fbsim
 from fbsim.faults import InputFault, ProgramMissing, TimedOut, fault_of
 
 # Where ./simulate builds the program, with proofs and without, below the top of the repository.
@@ -38,6 +40,28 @@ def find_program() -> str:
     )
 
 
+@lru_cache(maxsize=8)
+def said_version(path: str, *_: object) -> str:
+    """Returns what a program says of its version."""
+    try:
+        how: dict[str, Any] = {"stdin": subprocess.DEVNULL, "capture_output": True, "encoding": "utf-8"}
+        return str(subprocess.run([path, "--version"], **how).stdout).strip()
+    except (OSError, ValueError) as it:
+        raise ProgramMissing(f"{path} can't be started: {it}") from it
+
+
+def program() -> str:
+    """Returns the path of the program, if its major and minor version are those of this package."""
+    path, known = find_program(), fbsim.__version__
+    if os.environ.get("FBSIM_ANY_VERSION") != "1":
+        about = os.stat(path)
+        said = said_version(path, about.st_mtime_ns, about.st_size)
+        if f"{said}.".split(".")[:2] != f"fbsim {known}".split(".")[:2]:
+            what = f"the program {path} says {said!r}, and this package is fbsim {known}"
+            raise ProgramMissing(f"{what}: install both from one version; FBSIM_ANY_VERSION=1 uses them together")
+    return path
+
+
 def seconds(timeout: float | None) -> float | None:
     """Returns a time limit in seconds, which is over 0, or None if there is none."""
     if timeout is not None and (isinstance(timeout, (bool, str)) or not timeout > 0):
@@ -55,7 +79,7 @@ def kill(process: subprocess.Popen[Any], owner: int) -> None:
 @contextmanager
 def started(words: Sequence[str], **how: Any) -> Iterator[subprocess.Popen[Any]]:
     """Starts the program in a process group of its own, and ends the group if the body raises an exception."""
-    with subprocess.Popen([find_program(), *words], process_group=0, **how) as process:
+    with subprocess.Popen([program(), *words], process_group=0, **how) as process:
         try:
             yield process
         except BaseException:
@@ -87,7 +111,5 @@ def call(
 def version(of_package: bool = False) -> str:
     """Returns what the program says of its version, or the version of this package."""
     if of_package:
-        import fbsim
-
         return fbsim.__version__
     return call(["--version"]).stdout.strip()

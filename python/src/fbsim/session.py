@@ -16,7 +16,7 @@ from types import TracebackType
 from typing import IO, TYPE_CHECKING
 
 from fbsim.faults import Fault, InputFault, Location, ProgramFault, Refused, Stop, Stopped, TimedOut, fault_of
-from fbsim.program import find_program, kill, seconds
+from fbsim.program import kill, program, seconds
 from fbsim.stimuli import MOST_BYTES, MOST_ROWS, FileName, Row, Stimuli, Value, row_of, stimuli_text, words_of
 from fbsim.texts import whole, write, write_script
 from fbsim.trace import Line, Lines, Trace, ending, lines_of, temporary
@@ -45,7 +45,7 @@ class Talk:
         self.said = tempfile.TemporaryFile("w+", errors="replace")
         pipes = {"stdin": subprocess.PIPE, "stdout": subprocess.PIPE, "stderr": self.said}
         try:
-            self.process = subprocess.Popen([find_program(), *words], process_group=0, **pipes)  # type: ignore
+            self.process = subprocess.Popen([program(), *words], process_group=0, **pipes)  # type: ignore
         except BaseException:
             self.said.close()
             raise
@@ -147,7 +147,7 @@ class Session(Lines):
         if not self._file.closed:
             self._file.flush()
         with open(self._trace.path, encoding="ascii", errors="replace", newline="\n") as texts:
-            yield from lines_of(texts)
+            yield from lines_of(texts, is_whole=False)
 
     @property
     def trace(self) -> Trace:
@@ -180,7 +180,7 @@ class Session(Lines):
         if self.answer.startswith("! "):
             is_over = self.stop is not None and self.answer == "! the run has stopped"
             raise Stopped(self.stop, self) if self.stop and is_over else InputFault(self.answer[2:])
-        return list(lines_of(iter(texts)))
+        return list(lines_of((f"{it}\n" for it in texts), is_whole=False))
 
     def give(self, tick: int, event: str, values: Mapping[str, Value] = {}) -> None:
         """Gives a stimulus at a tick that has not begun: `give(100, "PROBE.PLANT", {"RAW": 2432})`."""

@@ -18,6 +18,13 @@ Stimuli = FileName | Iterable[Row] | None
 MOST_ROWS, MOST_BYTES = 100_000, 16 * 1024 * 1024
 
 
+def file_name(given: object, what: str) -> str:
+    """Returns the name of a file as a text."""
+    if not isinstance(given, (str, os.PathLike)):
+        raise InputFault(f"{what} is named by a text or a path, and not by {given!r}")
+    return os.fsdecode(given)
+
+
 def row_of(given: object) -> tuple[int, str, Mapping[str, Value]]:
     """Returns a row (tick, INSTANCE.EVENT, {VARIABLE: value}), which may have no values."""
     if isinstance(given, (tuple, list)) and len(given) in (2, 3):

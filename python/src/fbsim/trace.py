@@ -11,15 +11,16 @@ import tempfile
 import weakref
 from abc import ABC, abstractmethod
 from collections.abc import Generator, Iterable, Iterator, Sequence
+from io import TextIOWrapper
 from pathlib import Path
 from typing import IO, TYPE_CHECKING, Any, NamedTuple
 
 from fbsim import figures
-from fbsim.faults import InputFault, RulesBroken, Stop
+from fbsim.faults import FileFault, InputFault, RulesBroken, Stop
 from fbsim.latencies import Latencies, paired
-from fbsim.patterns import PORT, Pattern, ask_patterns, ask_signal
+from fbsim.patterns import NAME, PORT, Pattern, ask_patterns, ask_signal
 from fbsim.program import call
-from fbsim.stimuli import Value
+from fbsim.stimuli import Value, file_name
 
 if TYPE_CHECKING:
     from fbsim.application import Application
@@ -66,49 +67,84 @@ class Signal(NamedTuple):
     values: list[Value]
 
 
+# What a line has after its tick, and its last line (docs/FORMATS.md, "What is no trace").
+HEAD = re.compile(
+    rf"({NAME}) ([<>]) ({NAME}(?:\.{NAME})*)\.({NAME})((?: {NAME}=(?:TRUE|FALSE|0|-?[1-9][0-9]*))*)\n", re.ASCII
+)
+NUMBER = re.compile(r"0|[1-9][0-9]*", re.ASCII)
+LAST = re.compile(rf"(?:end ([1-9][0-9]*)|stop (0|[1-9][0-9]*) ({NAME}) (steps|divide|range))\n?", re.ASCII)
+
+
 def head_of(text: str) -> tuple[str, str, str, str, str]:
     """Returns what a line has after its tick: resource, sign, instance, event and the values as they are written."""
-    resource, sign, port, *words = text.split(None, 3)
-    instance, dot, event = port.rpartition(".")
-    if sign not in ("<", ">") or not dot:
+    parts = HEAD.fullmatch(text)
+    if parts is None or any(abs(int(it)) >= 2**64 for it in re.findall("-?[0-9]{20,}", parts[5])):
         raise ValueError(text)
-    return resource, sign, instance, event, words[0].rstrip() if words else ""
+    return parts[1], parts[2], parts[3], parts[4], parts[5][1:]
 
 
-def lines_of(texts: Iterator[str]) -> Generator[Line, None, str]:
-    """Parses lines of either form, and returns the text of the last one, `end` or `stop`."""
-    first = last = next(texts, "")
+def number_of(text: str, bits: int) -> int:
+    """Returns a number of at most so many bits, without needless zeros."""
+    if not NUMBER.fullmatch(text) or int(text) >= 2**bits:
+        raise ValueError(text)
+    return int(text)
+
+
+def lines_of(texts: Iterator[str], name: str = "", is_whole: bool = True) -> Generator[Line, None, str]:
+    """Parses lines of either form, and returns the text of the last one, `end` or `stop`.
+
+    What is no trace is refused, but a part of one, that is not whole, needs no last line.
+    """
+    first = next(texts, "")
+    last, before, least = "", "", 0
     has_keys = not first.startswith(("end", "stop")) and first.partition(" ")[2][:1].isdigit()
     # (most traces have few different ends of lines, all after the tick; so many are kept in parsed form)
     heads: dict[str, tuple[str, str, str, str, str]] = {}
     new, key, number, text = tuple.__new__, None, 0, first
     try:
         for number, text in enumerate(itertools.chain([first] if first else [], texts), 1):
+            if last:
+                raise ValueError(text)
             if has_keys and text[0].isdigit():
                 *parts, text = text.split(" ", 3)
-                key = (int(parts[0]), int(parts[1]), int(parts[2]))
+                key = (number_of(parts[0], 8), number_of(parts[1], 128), number_of(parts[2], 128))
             tick, _, rest = text.partition(" ")
             head = heads.get(rest)
             if head is None:
                 if tick in ("end", "stop"):
-                    last = text
+                    last = last_of(text, least, number > 1)
                     continue
                 head = head_of(rest)
                 if len(heads) < 4096:
                     heads[rest] = head
-            yield new(Line, (int(tick), *head, key))
+            if tick != before:
+                before, at = tick, number_of(tick, 64)
+                if at < least:
+                    raise ValueError(text)
+                least = at
+            yield new(Line, (least, *head, key))
     except (ValueError, IndexError) as it:
-        raise InputFault(f"line {number} is no line of a trace: {text[:80].rstrip()}") from it
+        where = f"{name}: line" if name else "line"
+        raise InputFault(f"{where} {number} is no line of a trace: {text[:80].rstrip()}") from it
+    if is_whole and not last:
+        where = f"{name}: line" if name else "line"
+        raise InputFault(f"{where} {number + 1} is missing: the last line is neither end nor stop")
     return last
+
+
+def last_of(text: str, least: int, has_lines: bool) -> str:
+    """Returns a last line, if it is one and does not come before the tick of the last event."""
+    parts = LAST.fullmatch(text)
+    at = int((parts[1] or parts[2]) if parts else -1)
+    if parts is None or not text.endswith("\n") or at < least or parts[1] and has_lines and at == least:
+        raise ValueError(text)
+    return text
 
 
 def ending(text: str) -> tuple[int | None, Stop | None]:
     """Returns the horizon or the stop of a last line."""
-    match text.split():
-        case ["end", horizon] if horizon.isdigit():
-            return int(horizon), None
-        case ["stop", tick, resource, reason] if tick.isdigit():
-            return None, Stop(int(tick), resource, reason)
+    if parts := LAST.fullmatch(text):
+        return (int(parts[1]), None) if parts[1] else (None, Stop(int(parts[2]), parts[3], parts[4]))
     raise InputFault(f"the last line is neither end nor stop: {text[:80].rstrip()}")
 
 
@@ -198,7 +234,7 @@ class Trace(Lines):
     """
 
     def __init__(self, path: str | os.PathLike[str], application: Application | None = None) -> None:
-        self.path, self.application, self.where_stopped = Path(path), application, ""
+        self.path, self.application, self.where_stopped = Path(file_name(path, "a trace")), application, ""
         #: What the program warned of in the run: rows of stimuli at or beyond the horizon.
         self.warnings: tuple[str, ...] = ()
 
@@ -206,13 +242,22 @@ class Trace(Lines):
         return f"<trace {self.path}>"
 
     def __iter__(self) -> Iterator[Line]:
-        with open(self.path, encoding="ascii", errors="replace", newline="\n") as texts:
-            yield from lines_of(texts)
+        with self.opened() as texts:
+            yield from lines_of(texts, str(self.path))
+
+    def opened(self) -> TextIOWrapper:
+        """Opens the file, or raises the FileFault of one that can't be read."""
+        try:
+            return open(self.path, encoding="ascii", errors="replace", newline="\n")
+        except OSError as it:
+            raise FileFault(it.strerror or "it can't be read", "trace", str(self.path)) from it
 
     def __eq__(self, other: object) -> bool:
         if not isinstance(other, Trace):
             return NotImplemented
         filecmp.clear_cache()
+        for it in (self, other):
+            it.opened().close()
         return filecmp.cmp(self.path, other.path, shallow=False)
 
     __hash__ = None  # type: ignore[assignment]
@@ -231,13 +276,17 @@ class Trace(Lines):
     @property
     def last(self) -> str:
         """The text of the last line."""
-        with open(self.path, "rb") as it:
-            it.seek(max(0, os.path.getsize(self.path) - 1000))
-            return (it.read().splitlines() or [b""])[-1].decode("ascii", "replace")
+        with self.opened() as it:
+            it.buffer.seek(max(0, os.path.getsize(self.path) - 1000))
+            text = it.buffer.read().decode("ascii", "replace")
+        if not text.endswith("\n"):
+            raise InputFault(f"{self.path}: the last line is neither end nor stop, or has no line feed at its end")
+        return text.splitlines()[-1]
 
     def text(self) -> str:
         """Returns the whole trace as one text."""
-        return self.path.read_text(encoding="ascii")
+        with self.opened() as it:
+            return it.read()
 
     def save(self, path: str | os.PathLike[str]) -> None:
         """Copies the trace into a file."""
@@ -255,6 +304,8 @@ class Trace(Lines):
 
     def diff(self, other: Trace) -> str:
         """Returns what `fbsim diff` says of this trace and another one: nothing if they are the same."""
+        if not isinstance(other, Trace):
+            raise InputFault(f"a trace is compared with a trace, and not with {other!r}")
         return call(["diff", os.fspath(self.path), os.fspath(other.path)], statuses=(0, 1)).stdout
 
 
@@ -332,7 +383,7 @@ def check_rules(
     trace: Trace, rules: str | os.PathLike[str], strict: bool = False, folder: Path | None = None
 ) -> Report:
     """Returns what the rules, a file in a folder, come to on a trace. They may name only what its application has."""
-    words = ["expect", os.fspath(rules), os.fspath(trace.path), "--why", *["--strict"] * strict]
+    words = ["expect", file_name(rules, "a file of rules"), os.fspath(trace.path), "--why", *["--strict"] * strict]
     if trace.application is not None:
         words += ["--decl", *trace.application.words]
     return read_report(call(words, statuses=(0, 1), folder=folder).stdout, trace)
