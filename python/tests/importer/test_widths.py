@@ -2,6 +2,8 @@
 
 from __future__ import annotations
 
+import re
+
 import pytest
 from importing import TOP, basic, import_all, place_of
 
@@ -79,9 +81,9 @@ def test_a_guard_is_looked_at(tmp_path):
 
 def test_the_scaling_example_of_the_page_has_no_warning(tmp_path):
     page = (TOP / "docs" / "FROM_4DIAC.md").read_text()
-    line = next(it for it in page.splitlines() if it.startswith("MBAR := "))
-    text = widened(line.replace("MBAR", "SUM").replace("RAW", "A"))
+    [formula] = re.findall(r"`([^`]*INT_TO_DINT\(RAW\)[^`]*)`", page)
+    text = widened(f"SUM := {formula};".replace("RAW", "A"))
     done = import_all(tmp_path, {"Adder.fbt": text}, "--deny", "all")
-    assert done.status == 0 and "INT_TO_DINT" in line, done.lines
+    assert done.status == 0, done.lines
     # 0 to 27648 is 0 to 10000: 9000 is 3255.2
     assert "SUM=3255" in done.run(1, "tick,event,values\n0,ADDER.REQ,A=9000\n")
