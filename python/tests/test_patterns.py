@@ -84,7 +84,7 @@ def test_five_thousand_random_patterns_are_those_of_the_program(tmp_path):
     trace = trace_in(tmp_path, *lines, "end 100")
     read, patterns = list(trace), [random_pattern(chance) for _ in range(5000)]
     right = [it for it in patterns if is_pattern(it)]
-    assert 3500 < len(right) < 4750
+    assert 3000 < len(right) < 4500
     with application(tmp_path, CYCLE).session() as s:
         for number, it in enumerate(patterns, 1):
             try:
