@@ -145,8 +145,8 @@ def test_a_million_lines_in_seconds_and_little_memory(tmp_path, top):
     said = subprocess.run([sys.executable, "-c", READS, path], stdout=subprocess.PIPE, text=True, check=True,
                           env={**os.environ, "PYTHONPATH": str(top / "python" / "src")}).stdout.split()
     assert said[:3] == ["1000000", "499999", "500000"]
-    # It takes 0.9 to 2.4 s, as the machine is; 2 s are the aim. Twice as much would be a fault.
-    assert float(said[3]) < 4
+    # It takes 1.4 to 3.4 s, as the machine is: each line is compared with the form. Twice as much is a fault.
+    assert float(said[3]) < 6
     # (in KB; the trace has 26 MB)
     assert int(said[4]) < 10_000
 

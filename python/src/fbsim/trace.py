@@ -78,9 +78,13 @@ LAST = re.compile(rf"(?:end ([1-9][0-9]*)|stop (0|[1-9][0-9]*) ({NAME}) (steps|d
 def head_of(text: str) -> tuple[str, str, str, str, str]:
     """Returns what a line has after its tick: resource, sign, instance, event and the values as they are written."""
     parts = HEAD.fullmatch(text)
-    if parts is None or any(abs(int(it)) >= 2**64 for it in re.findall("-?[0-9]{20,}", parts[5])):
+    if parts is None:
         raise ValueError(text)
-    return parts[1], parts[2], parts[3], parts[4], parts[5][1:]
+    resource, sign, instance, event, words = parts.groups()
+    # (a number of more than 64 bits has twenty digits, behind a blank, a name and a sign)
+    if len(words) > 22 and any(abs(int(it)) >= 2**64 for it in re.findall("-?[0-9]{20,}", words)):
+        raise ValueError(text)
+    return resource, sign, instance, event, words[1:]
 
 
 def number_of(text: str, bits: int) -> int:
