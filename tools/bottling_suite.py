@@ -355,7 +355,8 @@ def faults_of_stops(room):
     if said[:2] != (1, "not blessed: five steps\n") or os.path.exists(f"{bench.folder}/five steps/trace"):
         yield f"bless of a run that stops: {said}"
     bench.write("five steps/status", "1\n")
-    if (said := bench.call("./suite", "bless")) != (0, "added five steps/trace\n", ""):
+    said = bench.call("./suite", "bless")
+    if said[:2] != (0, "added five steps/trace\n") or not said[2].startswith("../bottling.iec:") or ": stop: " not in said[2]:
         yield f"bless of a run that is expected to stop: {said}"
     if "stop 0 PACKING steps" not in (text := content(f"{bench.folder}/five steps/trace")) and not re.search(r"^stop \d+ \w+ steps$", text, re.M):
         yield f"the trace of a run that stops: {text}"
