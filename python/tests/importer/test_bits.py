@@ -149,6 +149,45 @@ def test_conversions_keep_the_bits(body, row, name, result, tmp_path):
         assert done.stop(1, f"tick,event,values\n0,BITS.E0,{row}\n").endswith("stop 0 MAIN range\n")
 
 
+# A body over A (a BYTE) whose operand of an operator on bits leaves its 8 bits, a value of A, and the result with `wrap`,
+# by hand in 8 bits; `stop` stops. The result is a LINT, so that upper bits would show.
+LEAVING = [
+    ("I := BYTE_TO_LINT((A + 1) AND 16#FF);", 255, 0),
+    ("I := BYTE_TO_LINT((A + 2) AND 16#81);", 255, 1),
+    ("I := BYTE_TO_LINT((A + C) AND C);", 255, 0),
+    ("I := BYTE_TO_LINT((A - 1) AND 16#F0);", 0, 0xF0),
+    ("I := BYTE_TO_LINT((A + 1) OR 16#0F);", 255, 0x0F),
+    ("I := BYTE_TO_LINT((A - 1) XOR C);", 0, 0xFE),
+    ("I := BYTE_TO_LINT(NOT (A - 1));", 0, 0),
+    ("I := BYTE_TO_LINT(NOT (A * 3));", 0x56, 0xFD),
+    ("I := BYTE_TO_LINT(SHR(A + 1, 7));", 255, 0),
+    ("I := BYTE_TO_LINT(SHL(A + 1, 3));", 255, 0),
+    ("I := BYTE_TO_LINT(SHL(A + 2, N));", 255, 1),
+    ("I := BYTE_TO_LINT(ROL(A + 2, 4));", 255, 16),
+    ("I := BYTE_TO_LINT(ROR(A + 2, 4));", 255, 16),
+    ("I := BYTE_TO_LINT(ROR(SEL(P, A + 2, A - 2), 4));", 255, 16),
+    ("IF ((A + 1) AND 16#80) = 0 THEN I := 7; ELSE I := 8; END_IF;", 255, 7),
+    ("IF NOT (A - 1) = 0 THEN I := 7; ELSE I := 8; END_IF;", 0, 7),
+]
+
+
+@pytest.mark.parametrize("body, value, result", LEAVING, ids=[it[0] for it in LEAVING])
+def test_operands_on_bits_keep_to_their_width(body, value, result, tmp_path):
+    row = {"A": value, "C": 1}
+    assert computed(tmp_path / "wrap", "BYTE", [body], [row], "I", "--overflow", "wrap", "--strict") == [[str(result)]]
+    done = import_all(tmp_path / "stop", {"Bits.fbt": typed("BYTE", [body])}, "--strict")
+    assert done.status == 0 and done.stop(1, f"tick,event,values\n0,BITS.E0,A={value} C=1\n").endswith("stop 0 MAIN range\n")
+
+
+@pytest.mark.parametrize("words", [(), ("--overflow", "wrap")], ids=["stop", "wrap"])
+def test_operands_on_bits_that_fit_stay_as_they_are(words, tmp_path):
+    # a literal that is longer than A is a longer string, so NOT has its 16 bits
+    bodies = ["I := BYTE_TO_LINT((A + 1) AND 16#FE);", "I := BYTE_TO_LINT(SHR(A - 1, 1));", "I := BYTE_TO_LINT(NOT (A / C));",
+              "I := WORD_TO_LINT(NOT (A OR 16#100));", "I := WORD_TO_LINT(A OR 16#1F0);", "I := BYTE_TO_LINT(A AND -2);"]
+    found = computed(tmp_path, "BYTE", bodies, [{"A": 5, "C": 2}], "I", *words)
+    assert found == [["6"], ["2"], ["253"], [str(65535 - 0x105)], [str(0x1F5)], ["4"]]
+
+
 def test_bits_in_conditions_and_loops(tmp_path):
     # counts the ones of A AND C, by taking the lowest off until none is left; the deep operands need variables
     count = "I := 0; R := A AND C; WHILE ((R AND C) AND 16#FFFF) <> 0 DO R := R AND (R - 1); I := I + 1; END_WHILE;"

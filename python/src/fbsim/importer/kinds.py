@@ -38,12 +38,18 @@ def common_type(values: Sequence[Expression]) -> str:
     return next((it for it, numbers in RANGES.items() if numbers.has(whole)), "LINT")
 
 
+def string_type(kind: str, *operands: Expression) -> str:
+    """Return the type in which strings of bits meet: a literal that names no type and does not fit is a longer string."""
+    most = max(value_of(it) or 0 for it in operands if it.type == NUMBER) if NUMBER in [it.type for it in operands] else 0
+    return next((it for it in BITS if RANGES[it].most >= max(most, RANGES[kind].most)), kind)
+
+
 def binary(left: Expression, operator: str, right: Expression, at: int) -> Binary:
     """Return an operator between two operands, with the type that it has."""
     types = {left.type, right.type}
     kind = common_type([left, right])
     if operator in LOGICAL:
-        kind = kind if kind in BITS else "BOOL"
+        kind = string_type(kind, left, right) if kind in BITS else "BOOL"
     elif operator in ("=", "<>", "<", ">", "<=", ">="):
         kind = "BOOL"
     if "BOOL" in types and operator in ("=", "<>") or operator in LOGICAL and kind == "BOOL":
@@ -93,7 +99,7 @@ def of_operator(operator: str, left: Range, right: Range) -> Range:
     if operator == "MOD":
         size = min(size, max(abs(right.least), abs(right.most)) or size)
         return Range(0 if left.least >= 0 else -size, size)
-    return Range(-size, size) if operator == "/" else ALL
+    return Range(0 if left.least >= 0 <= right.least else -size, size) if operator == "/" else ALL
 
 
 def of_call(it: Call, parts: list[Range]) -> Range:

@@ -149,16 +149,24 @@ class Lowering:
             return Group(it.start, it.type, join("=", bits, number(1, it.start)) if it.type == "BOOL" else bits)
         size = BITS.get(it.type, 0)
         if isinstance(it, Unary):
-            operand = self.lowered(it.operand)
-            self.expanded += [it.operator] if it.operator == "NOT" and size else []
-            return complement(operand, size) if it.operator == "NOT" and size else replace(it, operand=operand)
+            if it.operator == "NOT" and size:
+                self.expanded.append(it.operator)
+                return complement(self.string(it.operand, it.type), size)
+            return replace(it, operand=self.lowered(it.operand))
         if isinstance(it, Binary):
-            left, right = self.lowered(it.left), self.lowered(it.right)
             if size and it.operator in LOGICAL:
+                left, right = self.string(it.left, it.type), self.string(it.right, it.type)
                 self.expanded.append(it.operator)
                 return combined(it.operator, left, right, size, self.again)
-            return replace(it, left=left, right=right)
+            return replace(it, left=self.lowered(it.left), right=self.lowered(it.right))
         return self.call(it, size) if isinstance(it, Call) else it
+
+    def string(self, it: Expression, kind: str) -> Expression:
+        """Return an operand of an operator on strings of bits of a kind, which keeps to its own width as on a controller."""
+        kept, value = RANGES[it.type if it.type in BITS else kind], value_of(it)
+        if value is not None:
+            return it if kept.has(Range(value, value)) else number(value % (kept.most + 1), it.start)
+        return fitted(self.lowered(it), numbers(it), kept, self.overflow)[0]
 
     def call(self, it: Call, size: int) -> Expression:
         """Return a function of the profile, or what stands for one."""
@@ -166,9 +174,9 @@ class Lowering:
         self.expanded += [it.name] if conversion or it.name in (*SHIFTS, "MUX") else []
         if conversion:
             return self.conversion(it, *conversion)
-        values = [self.lowered(one) for one in it.arguments]
         if it.name in SHIFTS:
-            return self.shift(it, values, size)
+            return self.shift(it, [self.string(it.arguments[0], it.type), self.lowered(it.arguments[1])], size)
+        values = [self.lowered(one) for one in it.arguments]
         return self.choice(it, values) if it.name == "MUX" else replace(it, arguments=values)
 
     def shift(self, it: Call, values: list[Expression], size: int) -> Expression:

@@ -1,7 +1,8 @@
 """The warning I01: operators that a controller computes in the width of their operands, where the simulator has 128 bits.
 
 What is said of controllers is knowledge: none was run. An operator is not reported if its overflow shows anyway: if only +, - and *
-come after it, and then an assignment or a conversion to a type that is no wider, which stops the run or wraps as a controller does."""
+come after it, and then an assignment, a conversion to a type that is no wider, or an operator on strings of bits, which stops the run
+or wraps as a controller does."""
 
 from __future__ import annotations
 
@@ -9,8 +10,9 @@ from collections.abc import Iterator
 from typing import NamedTuple
 
 from .conversions import conversion_of, converted
-from .expressions import RANGES, Binary, Call, Expression, Group, Range, Unary, value_of
-from .kinds import ALL, numbers, of_call, of_operator
+from .expressions import BITS, RANGES, Binary, Call, Expression, Group, Range, Unary, value_of
+from .functions import SHIFTS
+from .kinds import ALL, LOGICAL, numbers, of_call, of_operator
 
 KEEPING = ("+", "-", "*")
 
@@ -49,7 +51,8 @@ class Widths:
         if isinstance(it, Call):
             return self.call(it, kept)
         sign = it.operator if isinstance(it, (Unary, Binary)) else ""
-        parts = [self.visit(one, kept if sign in KEEPING else None) for one in it.parts()]
+        is_string = sign in LOGICAL and it.type in BITS
+        parts = [self.visit(one, RANGES.get(one.type) if is_string else kept if sign in KEEPING else None) for one in it.parts()]
         if value_of(it) is not None or sign not in (*KEEPING, "/", "MOD"):
             return numbers(it)
         exact = of_operator(sign, *parts) if len(parts) == 2 else Range(-parts[0].most, -parts[0].least)
@@ -67,7 +70,8 @@ class Widths:
             found = self.visit(it.arguments[0], RANGES.get(source))
             is_number = "BOOL" not in (source, conversion[1])
             return converted(it.arguments[0], found, source, conversion[1], "stop")[1] if is_number else Range(0, 1)
-        return of_call(it, [self.visit(one, kept if it.name in ("SEL", "MUX") else None) for one in it.arguments])
+        kept = RANGES.get(it.type) if it.name in SHIFTS else kept if it.name in ("SEL", "MUX") else None
+        return of_call(it, [self.visit(one, None if at and it.name in SHIFTS else kept) for at, one in enumerate(it.arguments)])
 
 
 def narrow(it: Expression, kept: Range | None = None) -> Iterator[Narrow]:
