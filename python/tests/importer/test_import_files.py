@@ -208,11 +208,36 @@ def test_a_block_of_the_simulator_is_in_a_package_of_the_standards(package, stat
     assert done.status == status, done.lines
 
 
-def test_an_event_block_of_another_package_does_not_replace_the_built_in_one(tmp_path):
-    text = f'<FBType Name="E_SR"><CompilerInfo packageName="cell"/>{STORED["E_SR"].replace("TRUE", "FALSE")}</FBType>'
-    done = import_all(tmp_path, {"lib/E_SR.fbt": text, "P.sys": system('<FB Name="F" Type="E_SR"/><FB Name="G" Type="cell::E_SR"/>')})
+def in_package(text, package):
+    return text.replace(">", f'><CompilerInfo packageName="{package}"/>', 1)
+
+
+@pytest.mark.parametrize("name, text", [
+    ("SR", BISTABLE), ("FB_TON", BISTABLE.replace('"SR"', '"FB_TON"')), ("E_SPLIT_3", BISTABLE.replace('"SR"', '"E_SPLIT_3"')),
+    ("E_SR", f'<FBType Name="E_SR">{STORED["E_SR"].replace("TRUE", "FALSE")}</FBType>'),
+], ids=["SR", "FB_TON", "E_SPLIT_3", "E_SR"])
+def test_the_only_file_of_a_name_is_used_by_its_plain_name(name, text, tmp_path):
+    inside = f'<FB Name="F" Type="{name}"/><FB Name="G" Type="cell::{name}"/><FB Name="H" Type="iec61499::{name}"/>'
+    done = import_all(tmp_path, {f"lib/{name}.fbt": in_package(text, "cell"), "P.sys": system(inside)})
     assert done.status == 0, done.lines
-    assert "F : E_SR; G : E_SR_1;" in done.declaration()
+    usual = name.removeprefix("FB_")
+    own = name if name != usual else f"{name}_1"
+    assert f"F : {own}; G : {own}; H : {usual};" in done.declaration()
+    assert f"lib/{name}.fbt:1:15: {name} is not the simulator's {usual}: this file is used" in done.text("import.txt")
+
+
+def test_a_file_of_the_standards_comes_before_one_of_another_package(tmp_path):
+    files = {"lib/a/SR.fbt": in_package(BISTABLE, "cell"), "lib/b/SR.fbt": in_package(BISTABLE, "iec61131::bistable").replace("R AND NOT S1", "R")}
+    done = import_all(tmp_path, {**files, "P.sys": system('<FB Name="F" Type="SR"/>')})
+    assert done.status == 0 and "lib/b/SR.fbt:1:15: SR is not the simulator's SR: this file is used" in done.text("import.txt"), done.lines
+
+
+def test_two_files_with_other_packages_are_refused_by_their_plain_name(tmp_path):
+    files = {f"lib/{it}/SR.fbt": in_package(BISTABLE, it).replace("R AND NOT S1", f"R OR {it}") for it in ("S1", "R")}
+    text = system('<FB Name="F" Type="SR"/>')
+    done = import_all(tmp_path, {**files, "P.sys": text})
+    place = f"P.sys:{place_of(text, 'SR')}: SR is in 2 files, lib/R/SR.fbt and lib/S1/SR.fbt: give its package"
+    assert done.status == 2 and done.lines[0].startswith(place), done.lines
 
 
 BODIES = declared()

@@ -82,13 +82,13 @@ class TypeFiles:
     def find(self, name: str, package: str, tag: str, is_usual: bool) -> list[TypeFile]:
         """Return the file that has a type, none, or several that the package does not tell apart.
 
-        A usual type, which the simulator has, is in a package of the standard or in none."""
+        A usual type, which the simulator has, is in a package of the standard or in none, else under its plain name in any."""
         rows = self.rows.get(name.upper(), [])
         rows = [it for it in rows if it.path.lower().endswith(ENDINGS[tag])] or rows
         if len(rows) == 1 and not package and not is_usual:
             return rows
         if is_usual and is_standard(package):
-            rows = [it for it in rows if is_standard(it.package)]
+            rows = [it for it in rows if is_standard(it.package)] or (rows if not package else [])
         exact = [it for it in rows if it.package.upper() == package.upper()]
         rows = exact or [it for it in rows if not package or not it.package]
         return rows[:1] if len({it.root.source.text if it.root else it.path for it in rows}) == 1 else rows
