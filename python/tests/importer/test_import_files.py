@@ -9,7 +9,7 @@ import pytest
 from fbsim.importer.bodies import declared
 from fbsim.importer.blocks import packaged
 from fbsim.program import find_program
-from importing import connections, import_all, place_of, service, system
+from importing import basic, connections, import_all, place_of, service, system
 
 
 def valve(value, package=""):
@@ -94,6 +94,35 @@ def test_a_file_that_is_not_imported_is_named(end, says, tmp_path):
     done = import_all(tmp_path, {f"lib/x/Clamp{end}": "<any/>", "P.sys": text})
     assert done.status == 2
     assert done.lines[0].startswith(f"P.sys:{place_of(text, 'Clamp')}: Clamp is {says}, ")
+
+
+FUNCTION = '<FunctionFBType Name="Clamp"><CompilerInfo packageName="plant"/></FunctionFBType>'
+GLOBALS = '<GlobalConstants Name="{}"><GlobalConstants><VarDeclaration Name="{}" Type="INT" InitialValue="5"/></GlobalConstants></GlobalConstants>'
+# A body or a guard, the part at which it is refused, and what the line says of the file of --lib.
+OF_FILES = [
+    ("SUM := clamp(A);", "REQ", "clamp(", "clamp is a function (lib/x/Clamp.fct), and functions are not in the profile: write its formula"),
+    ("", "REQ[Clamp(A) &gt; 3]", "Clamp(", "Clamp is a function (lib/x/Clamp.fct), and functions are not in the profile: write its formula"),
+    ("SUM := MAXV;", "REQ", "MAXV", "there is no variable MAXV: it is in a set of global constants (lib/H.gcf), which are not imported: declare"),
+    ("", "REQ[A &gt; maxv]", "maxv", "there is no variable maxv: it is in a set of global constants (lib/H.gcf), which are not imported: declare"),
+    ("SUM := H.MAXV;", "REQ", "H.MAXV", "there is no variable H.MAXV: it is in a set of global constants (lib/H.gcf), which are not"),
+    ("CASE A OF MAXV: SUM := 1; END_CASE;", "REQ", "MAXV", "MAXV is no constant: it is in a set of global constants (lib/H.gcf), which are not"),
+    ("SUM := LOWV;", "REQ", "LOWV", "there is no variable LOWV: it may be in a set of global constants (lib/G.gcf, lib/H.gcf), which are not"),
+]
+
+
+@pytest.mark.parametrize("body, condition, part, says", OF_FILES, ids=[f"{it[0]} {it[1]}" for it in OF_FILES])
+def test_a_function_or_a_global_constant_is_refused_with_its_file(body, condition, part, says, tmp_path):
+    text = basic(body, condition)
+    files = {"lib/x/Clamp.fct": FUNCTION, "lib/G.gcf": GLOBALS.format("G", "MAXVAL"), "lib/H.gcf": GLOBALS.format("H", "MAXV")}
+    done = import_all(tmp_path, {**files, "Adder.fbt": text})
+    assert done.status == 2 and done.lines[0].startswith(f"Adder.fbt:{place_of(text, part)}: {says}"), done.lines
+
+
+@pytest.mark.parametrize("text", [b"\xff\xfe\x00", b"<!-- ", b"x" * (2**22 + 1), "<a Name='MAXV'/>".encode("utf-16")], ids=["odd", "open", "long", "utf-16"])
+def test_a_file_of_constants_that_can_not_be_read_may_have_the_name(text, tmp_path):
+    done = import_all(tmp_path, {"lib/G.gcf": text, "Adder.fbt": basic("SUM := MAXV;")})
+    verb = "is" if len(text) == 34 else "may be"
+    assert done.status == 2 and f"there is no variable MAXV: it {verb} in a set of global constants (lib/G.gcf), which" in done.lines[0], done.lines
 
 
 # ---- Types that the simulator has too

@@ -3,12 +3,13 @@
 from __future__ import annotations
 
 import os
+import re
 from collections import Counter
 from collections.abc import Iterable, Iterator
 from dataclasses import dataclass, field
 
 from .common import TABLES, FileFault, Faults, Place, Refused, shown
-from .document import Node, read_document
+from .document import Node, read_document, read_source
 
 MOST_FILES = 20_000
 # The endings of files of types, by the element that names a type, and what files with other endings have.
@@ -105,6 +106,21 @@ class TypeFiles:
         """Return what a file that is not imported has under a name, and what to do; or nothing."""
         path = self.others.get(name.upper(), "")
         return f"{OTHERS[os.path.splitext(path)[1].lower()].format(path)}" if path else ""
+
+    def constants(self, name: str) -> str:
+        """Return which files of global constants have a name, or may have it, and what to do; or nothing."""
+        paths = [it for it in self.others.values() if it.lower().endswith(".gcf")]
+        found = [it for it in paths if name.upper() in words_of(it)]
+        about = OTHERS[".gcf"].format(", ".join((found or paths)[:3]))
+        return f": it {'is' if found else 'may be'} in {about}" if paths else ""
+
+
+def words_of(path: str) -> list[str]:
+    """Return the words of a file in upper case, or none if it can't be read."""
+    try:
+        return re.findall(r"\w+", read_source(path, Faults()).text.upper())
+    except (FileFault, Refused):
+        return []
 
 
 def files_below(folder: str) -> Iterator[str]:

@@ -17,6 +17,7 @@ from .common import TABLES, TYPES, Faults, Place, shown
 from .document import Code
 from .bits import SIZES
 from .expressions import BITS, MOST_NESTED, NUMBER, RANGES, UNSIGNED, Expression, Group, Literal, Part, Range, Unary, Variable, laid_out, number, pieces
+from .files import TypeFiles
 from .functions import ARGUMENTS, SHIFTS, Named, call_of, in_order, is_function
 from .kinds import TRUTHS, binary, truth
 from .lowering import Lowering
@@ -68,9 +69,9 @@ class Reader(Transformer_NonRecursive):
 
     The methods with the names of rules return what is read by these."""
 
-    def __init__(self, code: Code, find: Find, faults: Faults) -> None:
+    def __init__(self, code: Code, find: Find, faults: Faults, files: TypeFiles | None = None) -> None:
         super().__init__(visit_tokens=False)
-        self.code, self.find, self.faults = code, find, faults
+        self.code, self.find, self.faults, self.files = code, find, faults, files or TypeFiles(())
         self.tokens: list[Token] = []
         if len(code.text) > MOST_CHARACTERS:
             raise faults.refuse(code.place(0), f"an algorithm has at most {MOST_CHARACTERS:,} characters")
@@ -155,7 +156,7 @@ class Reader(Transformer_NonRecursive):
         whole_name = f"{name}.{part}" if dot else str(name)
         found = self.find(whole_name)
         if found is None:
-            about = " (structures and parts are not in the profile)" if dot else ""
+            about = self.files.constants(str(part if dot else name)) or (" (structures and parts are not in the profile)" if dot else "")
             self.faults.refuse(self.place(name), f"there is no variable {shown(whole_name)}{about}")
         for it in rest:
             if it == "[":
@@ -200,7 +201,8 @@ class Reader(Transformer_NonRecursive):
         name, given = row[0].upper(), [it for it in row[2:-1] if isinstance(it, (Named, Expression))]
         start, values = row[0].start_pos or 0, in_order(name, given)
         if not is_function(name):
-            self.refuse(row[0], f"is no function of the profile (it has {', '.join(ARGUMENTS)} and conversions of whole types)")
+            other = self.files.other(name) or f"no function of the profile (it has {', '.join(ARGUMENTS)} and conversions of whole types)"
+            self.refuse(row[0], f"is {other}")
         elif isinstance(values, str):
             self.refuse(row[0], values)
         elif name in SHIFTS and values[0].type not in BITS:
@@ -225,7 +227,8 @@ class Reader(Transformer_NonRecursive):
         """Read a label that is the name of a constant."""
         found = self.find(row[0])
         if found is None or found.value is None:
-            self.refuse(row[0], "is no constant: a label of CASE is a number, or the name of a constant with a number")
+            about = self.files.constants(row[0]) or ": a label of CASE is a number, or the name of a constant with a number"
+            self.refuse(row[0], f"is no constant{about}")
         return number(found.value or 0 if found else 0, row[0].start_pos or 0)
 
     def assignment(self, row: list[Any]) -> Segment:
@@ -256,8 +259,8 @@ class Reader(Transformer_NonRecursive):
 class Algorithm(Reader):
     """Reads an algorithm, with or without ALGORITHM .. END_ALGORITHM and with temporary variables, which are assigned first."""
 
-    def __init__(self, code: Code, find: Find, faults: Faults) -> None:
-        super().__init__(code, find, faults)
+    def __init__(self, code: Code, find: Find, faults: Faults, files: TypeFiles) -> None:
+        super().__init__(code, find, faults, files)
         self.temporaries: list[tuple[Token, str]] = []
         self.constants: dict[str, int] = {}
         tokens, self.tokens, is_inside, is_constant = self.tokens, [], False, False
@@ -309,9 +312,9 @@ class Algorithm(Reader):
         return laid_out(row, self.code)
 
 
-def condition(code: Code, find: Find, find_event: Callable[[str], str | None], lowering: Lowering) -> str:
+def condition(code: Code, find: Find, find_event: Callable[[str], str | None], lowering: Lowering, files: TypeFiles) -> str:
     """Convert the condition of a transition: 1, EVENT, EVENT[GUARD], EVENT & GUARD, [GUARD] or GUARD."""
-    reader = Reader(code, find, lowering.faults)
+    reader = Reader(code, find, lowering.faults, files)
     tokens, mark = reader.tokens, reader.place(reader.tokens[0]).mark
     if len(tokens) == 2 and TRUTHS.get(tokens[0].value) == "TRUE":
         return f"{mark}1"

@@ -42,7 +42,7 @@ class Chart:
         self.block, self.library, self.faults, inside = block, library, library.faults, inside_of(block, library)
         nodes = list(inside.all("Algorithm"))
         self.bodies = Names("algorithm", [(it.get("Name"), it.at("Name")) for it in nodes], self.faults)
-        codes = {name: Algorithm(self.code_of(it), self.finder(name), self.faults) for it in nodes if (name := it.get("Name"))}
+        codes = {name: Algorithm(self.code_of(it), self.finder(name), self.faults, library.files) for it in nodes if (name := it.get("Name"))}
         self.variables = [variable(it, False, library)
                           for part in inside.all("InternalVars", "InternalConstVars") for it in part.children]
         self.variables += [Port(f"{name}.{it}", "data", False, code.place(it), UNSIGNED.get(kind, kind), declared=kind)
@@ -123,7 +123,7 @@ class Chart:
             if found is None:
                 self.faults.refuse(node.at(end), f"there is no state {shown(node.get(end))}")
         lowering = self.lowering(node.code("Condition"))
-        text = condition(lowering.code, self.found.find, self.inputs.find, lowering)
+        text = condition(lowering.code, self.found.find, self.inputs.find, lowering, self.library.files)
         self.library.notes += lowering.notes
         return f"{node.at('Source').mark}{ends[0]} TO {ends[1]} := {text}"
 
