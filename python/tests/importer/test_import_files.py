@@ -56,6 +56,16 @@ def test_a_type_that_two_files_have_is_refused_with_both(first, second, names, t
         f"P.sys:{place_of(text, names)}: Valve is in 2 files, lib/aa/Valve.fbt and lib/bb/Valve.fbt: give its package")
 
 
+@pytest.mark.parametrize("package, says", [("aa", "aa::Valve"), ("bb", "bb::Valve"), ("cc", "bb::Valve"), ("", "bb::Valve")])
+def test_the_advice_in_a_composite_is_its_own_package(package, says, tmp_path):
+    about = f'<CompilerInfo packageName="{package}"/>' if package else ""
+    box = f"""<FBType Name="Box">{about}<InterfaceList><EventInputs><Event Name="REQ"/></EventInputs></InterfaceList>
+<FBNetwork><FB Name="V" Type="Valve"/></FBNetwork></FBType>"""
+    files = {"lib/aa/Valve.fbt": valve(1, "aa"), "lib/bb/Valve.fbt": valve(2, "bb"), "lib/Box.fbt": box, "P.sys": system('<FB Name="A" Type="Box"/>')}
+    done = import_all(tmp_path, files)
+    assert done.status == 2 and f"give its package, as {says}, or keep one of the files" in done.lines[0], done.lines
+
+
 def test_a_type_of_another_package_is_none(tmp_path):
     done = import_all(tmp_path, {"lib/Valve.fbt": valve(1, "bb"), "P.sys": system('<FB Name="A" Type="aa::Valve"/>')})
     assert done.status == 2

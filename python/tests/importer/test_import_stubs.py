@@ -228,3 +228,18 @@ end 1
     box = files["lib/Box.fbt"].replace('Type="IX"', 'Type="Adder"').replace("I.PARAMS", "I.A").replace("I.IN", "I.SUM")
     done = import_all(tmp_path / "two", {"lib/Box.fbt": box, "lib/Adder.fbt": basic(), "A.sys": system('<FB Name="B" Type="Box"/>')})
     assert f"lib/Box.fbt:{place_of(box, 'WHERE', 3)}: WHERE (STRING) and I.A (INT): STRING is no type" in done.lines[0], done.lines
+
+
+def test_names_of_stubs_that_stand_for_nothing_are_listed(tmp_path):
+    files = {"lib/Panel.fbt": service(), "lib/Adder.fbt": basic(), "lib/Other.fbt": service("Other")}
+    network = system('<FB Name="P" Type="Panel"/><FB Name="A" Type="Adder"/>')
+    done = import_all(tmp_path, {**files, "P.sys": network}, "--stub", "Zzz,Panel", "--stub", "Adder,other")
+    assert done.status == 0, done.lines
+    listed = [it.strip() for it in done.text("import.txt").splitlines() if "--stub" in it]
+    # (Adder has a chart, Other is in a file that nothing uses, and there is no Zzz)
+    assert listed == [f"--stub {it}: no service interface type of this name is used" for it in ("ADDER", "OTHER", "ZZZ")]
+
+
+def test_stubs_for_all_list_no_name(tmp_path):
+    done = import_all(tmp_path, {"lib/Panel.fbt": service(), "P.sys": system('<FB Name="P" Type="Panel"/>')}, "--stub", "all")
+    assert done.status == 0 and "--stub" not in done.text("import.txt"), done.lines

@@ -128,9 +128,10 @@ class Library:
             self.taken.add(usual.out)
         found = self.files.find(name, package, tag, usual is not None)
         if len(found) > 1:
-            paths, example = " and ".join(it.path for it in found[:5]), found[-1].package or "PACKAGE"
-            self.faults.refuse(place, f"{name} is in {len(found)} files, {paths}: give its package, as {example}::{name},"
-                               " or keep one of the files")
+            own = self.files.known.get(str(Path(place.path).resolve()))
+            example = next((it.package for it in found if own and it.package == own.package), found[-1].package) or "PACKAGE"
+            paths = " and ".join(it.path for it in found[:5])
+            self.faults.refuse(place, f"{name} is in {len(found)} files, {paths}: give its package, as {example}::{name}, or keep one of the files")
             return None
         if not found and (usual is None or not is_standard(package)):
             self.faults.refuse(place, self.files.missing(name, package))

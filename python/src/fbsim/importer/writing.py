@@ -236,6 +236,8 @@ def texts_of(system: System, types: Types, latencies: Latencies) -> dict[str, st
     """Return all texts by their names, with marks of places."""
     for it in system.instances.values():
         types.need(it.block, it.place)
+    unused = types.library.stubs.names - {"ALL"} - {it.name.upper() for it in types.written if it.kind == "service"}
+    types.library.notes += [f"--stub {it}: no service interface type of this name is used" for it in sorted(unused)]
     application, deployment = TEXTS.application(system, types.constant), TEXTS.deployment(system, latencies)
     refuse_sizes(system, types, types.sizes, application, types.faults)
     return {"types.iec": "".join(types.texts), "application.iec": application, "deploy.toml": deployment,
