@@ -183,6 +183,15 @@ SEQUENCES = {
         ["REQ IN=FALSE", "CNF Q=FALSE"],
         ["wait 9"],
         ["REQ IN=TRUE", "CNF Q=FALSE"],
+        # With PT = 0 the time has passed at once. A new PT does not change a time that runs.
+        ["REQ IN=FALSE PT=0", "CNF Q=FALSE"],
+        ["REQ IN=TRUE", "CNF Q=TRUE"],
+        ["REQ IN=FALSE PT=-1", "CNF Q=FALSE"],
+        ["REQ IN=TRUE", "CNF Q=TRUE"],
+        ["REQ IN=FALSE PT=2", "CNF Q=FALSE"],
+        ["REQ IN=TRUE", "CNF Q=FALSE"],
+        ["REQ IN=TRUE PT=50", "CNF Q=FALSE"],
+        ["REQ IN=TRUE", "CNF Q=TRUE"],
     ],
     "TOF": [
         ["REQ IN=FALSE PT=3", "CNF Q=FALSE"],
@@ -199,6 +208,11 @@ SEQUENCES = {
         ["REQ IN=FALSE", "CNF Q=TRUE"],
         ["wait 9"],
         ["REQ IN=FALSE", "CNF Q=FALSE"],
+        ["REQ IN=TRUE PT=0", "CNF Q=TRUE"],
+        ["REQ IN=TRUE", "CNF Q=TRUE"],
+        ["REQ IN=FALSE", "CNF Q=FALSE"],
+        ["REQ IN=TRUE PT=1", "CNF Q=TRUE"],
+        ["REQ IN=FALSE", "CNF Q=TRUE"],
     ],
     # The first pulse ends with the input TRUE, so there is none until it has been FALSE. The second ends with it FALSE, and the input
     # rises at the next REQ: that is the third pulse.
@@ -217,6 +231,16 @@ SEQUENCES = {
         ["wait 9"],
         ["REQ IN=FALSE", "CNF Q=FALSE"],
         ["REQ IN=TRUE", "CNF Q=TRUE"],
+        # A pulse of no time is none, and also spends the rise of the input.
+        ["wait 9"],
+        ["REQ IN=FALSE PT=0", "CNF Q=FALSE"],
+        ["REQ IN=TRUE", "CNF Q=FALSE"],
+        ["REQ IN=TRUE PT=4", "CNF Q=FALSE"],
+        ["REQ IN=FALSE", "CNF Q=FALSE"],
+        ["REQ IN=TRUE", "CNF Q=TRUE"],
+        ["REQ IN=FALSE PT=0", "CNF Q=TRUE"],
+        ["wait 9"],
+        ["REQ IN=TRUE", "CNF Q=FALSE"],
     ],
     "CTU": [
         ["REQ CU=FALSE PV=2", "CNF Q=FALSE CV=0"],
