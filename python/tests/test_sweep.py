@@ -1,5 +1,6 @@
 """Tests of sweeps, by several executors."""
 
+import json
 import os
 import signal
 import subprocess
@@ -457,6 +458,13 @@ def test_a_cache_asks_for_all_that_a_variant_depends_on(tmp_path, monkeypatch):
     assert (count(), count()) == (2, 0)
     for it in (tmp_path / "cache").iterdir():
         it.write_bytes(it.read_bytes()[:-9])
+    assert (count(), count()) == (2, 0)
+    # Files that lack the verdicts.
+    for it in (tmp_path / "cache").iterdir():
+        it.unlink()
+    assert (count(), count()) == (2, 0)
+    for it in (tmp_path / "cache").iterdir():
+        it.write_text(json.dumps(json.loads(it.read_text()) | {"verdicts": []}))
     assert (count(), count()) == (2, 0)
 
 

@@ -6,10 +6,11 @@ import sys
 
 import pandas
 import pytest
-from common import ALL, CYCLE, EXAMPLES, application, example_in, trace_in
+from common import ALL, CYCLE, EXAMPLES, application, example_in, program, trace_in
 
 import fbsim
 from fbsim import Line
+from fbsim.program import find_program
 
 
 def test_a_line_has_its_parts(tmp_path):
@@ -302,3 +303,25 @@ def test_wrong_arguments_are_input_faults(tmp_path, conveyor):
     for call in tries:
         with pytest.raises(fbsim.InputFault):
             call()
+
+
+@pytest.mark.parametrize("change", ["s/# decided /# decided: /", "/^ok 2 /d", "/^1\\.\\./d", "s/^1\\.\\..*/1..5/"])
+def test_a_report_that_lacks_a_rule_is_a_fault(conveyor, tmp_path, monkeypatch, change):
+    rules = EXAMPLES / "conveyor" / "conveyor.rules"
+    number = len(conveyor.expect(rules).verdicts)
+    assert number == rules.read_text().count("[[rule]]") == 2
+    right = find_program()
+    monkeypatch.setenv("FBSIM", program(tmp_path, f'"{right}" "$@" | sed "{change}"'))
+    with pytest.raises(fbsim.ProgramFault, match="points are read for 2 rules"):
+        conveyor.expect(rules)
+    found = example_in(EXAMPLES / "conveyor").application
+    with pytest.raises(fbsim.ProgramFault, match="the report has the plan"):
+        found.sweep({"horizon": [800]}, horizon=800, rules=rules)
+
+
+def test_a_report_of_fewer_rules_than_the_file_has_is_a_fault(conveyor, tmp_path, monkeypatch):
+    rules = EXAMPLES / "conveyor" / "conveyor.rules"
+    change = "/^ok 2 /,$ d; s/^1\\.\\..*/1..1/"
+    monkeypatch.setenv("FBSIM", program(tmp_path, f'"{find_program()}" "$@" | sed "{change}"'))
+    with pytest.raises(fbsim.ProgramFault, match="the plan 1..1, and 1 points are read for 2 rules"):
+        conveyor.expect(rules)

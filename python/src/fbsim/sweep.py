@@ -321,7 +321,8 @@ def run_all(plan: Plan, chosen: Sequence[Chosen], executor: Executor, cache: Cac
     for number, values in chosen:
         if cache is not None and (key := cache.key(plan, values)) is not None:
             keys[number] = key
-            if (row := cache.load(key, number, dict(zip(plan.names, values)))) is not None:
+            row = cache.load(key, number, dict(zip(plan.names, values)))
+            if row is not None and tuple(it.rule for it in row.report.verdicts) == plan.rules:
                 count += 1
                 yield row
                 continue

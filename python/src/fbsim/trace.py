@@ -8,6 +8,7 @@ import os
 import re
 import shutil
 import tempfile
+import tomllib
 import weakref
 from abc import ABC, abstractmethod
 from collections.abc import Generator, Iterable, Iterator, Sequence
@@ -16,7 +17,7 @@ from pathlib import Path
 from typing import IO, TYPE_CHECKING, Any, NamedTuple
 
 from fbsim import figures
-from fbsim.faults import FileFault, InputFault, RulesBroken, Stop
+from fbsim.faults import FileFault, InputFault, ProgramFault, RulesBroken, Stop
 from fbsim.latencies import Latencies, paired
 from fbsim.patterns import NAME, PORT, Pattern, ask_patterns, ask_signal
 from fbsim.program import call
@@ -364,9 +365,14 @@ class Report(NamedTuple):
         return self.of("broken")
 
 
-def read_report(text: str, trace: Trace) -> Report:
-    """Reads a report on a trace, and looks up the lines at which rules break."""
+def read_report(text: str, trace: Trace, number_of_rules: int | None = None) -> Report:
+    """Reads a report on a trace, and looks up the lines at which rules break. One that lacks a rule is a fault."""
     points = [*POINT.finditer(text)]
+    counts = {len(points), len(re.findall("^(?:not )?ok ", text, re.M)), number_of_rules or len(points)}
+    plans = re.findall(r"^1\.\.(\d+)$", text, re.M)
+    if plans != [str(it) for it in counts]:
+        rules = "" if number_of_rules is None else f" for {number_of_rules} rules"
+        raise ProgramFault(f"the report has the plan 1..{' '.join(plans)}, and {len(points)} points are read{rules}")
     wanted = {int(it[5]): "" for it in points if it[5]}
     with open(trace.path, encoding="ascii", errors="replace") as lines:
         for number, line in enumerate(itertools.islice(lines, max(wanted, default=0)), 1):
@@ -390,4 +396,13 @@ def check_rules(
     words = ["expect", file_name(rules, "a file of rules"), os.fspath(trace.path), "--why", *["--strict"] * strict]
     if trace.application is not None:
         words += ["--decl", *trace.application.words]
-    return read_report(call(words, statuses=(0, 1), folder=folder).stdout, trace)
+    said = call(words, statuses=(0, 1), folder=folder).stdout
+    return read_report(said, trace, number_of_rules(Path(folder or "", rules)))
+
+
+def number_of_rules(path: Path) -> int | None:
+    """Returns how many rules a file has, or None if that is not known: it is a pipe, or later than TOML 1.0."""
+    try:
+        return len(tomllib.loads(path.read_text("utf-8-sig"))["rule"]) if path.is_file() else None
+    except (ValueError, LookupError):
+        return None
