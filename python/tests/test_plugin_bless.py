@@ -64,6 +64,21 @@ def test_a_trace_that_breaks_a_rule_is_not_blessed(room, words):
     assert not has(room, kept)
 
 
+@pytest.mark.parametrize("unapplied, failed, skipped", [("", 3, 3), ('unapplied = ["unmet"]\n', 0, 4)])
+def test_a_strict_scenario_whose_rules_are_not_decided_is_not_blessed(room, unapplied, failed, skipped):
+    kept = changed(room)
+    never = '[[rule]]\nname = "unmet"\nnever = "STATION < WORK.EO"\nfrom = "STATION < GATE.LIFT TAKEN=77"\n'
+    room.write("some.rules", (room.path / "some.rules").read_text() + never)
+    bench = (room.path / "fbsim.toml").read_text().replace('stim =', 'strict = true\nstim =')
+    room.write("fbsim.toml", unapplied + bench)
+    result = room.run("--fbsim-bless")
+    # (the run, the rule, and whether it applied in any scenario)
+    result.assert_outcomes(passed=7 if failed else 8, failed=failed, skipped=skipped)
+    if failed:
+        result.stdout.fnmatch_lines([MISSED.format("the trace breaks rules: unmet")])
+    assert has(room, kept) == bool(failed)
+
+
 def test_rules_that_break_matter_also_if_only_the_run_is_selected(room):
     kept = broken(room)
     room.run("--fbsim-bless", "-k", "two and run").assert_outcomes(failed=1)

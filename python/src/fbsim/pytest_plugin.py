@@ -212,17 +212,25 @@ class ScenarioTests(pytest.Collector):
             text = f'status = 1 is any stop: write stop = "{stop.reason}" or stop = "{whole}"'
             item.warn(BenchWarning(f"{wanted.name}: {text}"))
         if wanted.reference is not None and found.difference:
-            broken = [str(found.report.fault)] if found.report.fault else [it.rule for it in found.report().broken]
+            broken = [str(found.report.fault)] if found.report.fault else self.failing(found.report())
             bless(wanted.reference, found.trace, item, found.difference, broken)
+
+    def as_judged(self, verdict: Verdict) -> Verdict:
+        """Returns a verdict, as a broken one if the scenario is strict and the rule must be decided."""
+        may_wait = verdict.verdict == "never applied" and verdict.rule in self.bench.unapplied
+        if verdict.verdict in ("kept", "broken") or may_wait or not self.scenario.strict:
+            return verdict
+        return verdict._replace(verdict="broken", message=reason_of(verdict))
+
+    def failing(self, report: Report) -> list[str]:
+        """Returns the names of the rules whose tests fail."""
+        return [it.rule for it in report.verdicts if self.as_judged(it).verdict == "broken"]
 
     def test_rule(self, at: int, item: pytest.Item) -> None:
         """Tests whether a rule holds. It is skipped if the trace does not decide it, unless the scenario is strict."""
-        verdict = self.found(item).report().verdicts[at]
-        may_wait = verdict.verdict == "never applied" and verdict.rule in self.bench.unapplied
+        verdict = self.as_judged(self.found(item).report().verdicts[at])
         if verdict.verdict == "broken":
             raise RulesBroken(Report((verdict,)))
-        if verdict.verdict != "kept" and self.scenario.strict and not may_wait:
-            raise RulesBroken(Report((verdict._replace(verdict="broken", message=reason_of(verdict)),)))
         if verdict.verdict != "kept":
             raise pytest.skip.Exception(reason_of(verdict), _use_item_location=True)
 
