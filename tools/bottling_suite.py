@@ -82,8 +82,8 @@ class Bench:
         self.write("wrapped", f'#!/bin/sh\nprogram={self.program}\ncase $1:$PWD in {case} esac\nexec "$program" "$@"\n')
         self.program = f"{self.folder}/wrapped"
 
-    def call(self, *words, out=None):
-        settings = [f"FBSIM={self.program}", *[f"OUT={out}"] * bool(out)]
+    def call(self, *words, out=None, ci=""):
+        settings = [f"FBSIM={self.program}", f"CI={ci}", *[f"OUT={out}"] * bool(out)]
         ran = self.room.run([*CALL, self.folder, *words], settings=settings)
         return ran.returncode, ran.stdout.decode(), ran.stderr.decode()
 
@@ -184,7 +184,8 @@ BREAKS = [
     Break("all runs end at once, and this is blessed", horizon_of_one, f"{EMERGENCY}: applied in 0 of 3 traces"),
     Break("a reference is a link to the trace of the run", link_to_result, "shift/trace: this is a link to the trace of the run"),
     Break("a scenario has the name of the folder for results", lambda it: it.copy("shift", "out"), "out: this folder is for results", 3),
-    Break("the program does nothing", program_that_does_nothing, "there are 0 points for 3 traces and 12 rules"),
+    Break("the program is another one", program_that_does_nothing, "/bin/true: this is no fbsim", 127),
+    Break("the commands do nothing", lambda it: it.wrap("*", "[ $1 = --version ] || exit 0"), "there are 0 points for 3 traces and 12 rules"),
     Break("a report lacks a point", lambda it: it.wrap("expect", '"$program" "$@" | sed "/^ok 7 /d"; exit 0'), "there are 47 points for 3 traces and 12 rules"),
     Break("args are cut off", lambda it: it.edit("shift/args", "--horizon\n48000\n", "--horizon\n"), "shift: the status of its run is 5, expected 0"),
     Break("args name no file", lambda it: it.edit("shift/args", "stimuli.csv", "nothing.csv"), "shift: the status of its run is 3, expected 0"),
@@ -304,6 +305,14 @@ def faults_of_one(room):
         yield f"a scenario alone that fails: {status}, {out}{err}, {results(bench)}"
     if (said := bench.call("./suite", "--report"))[0] != 1:
         yield f"a report on a scenario that failed: {said}"
+    for words in (["--one"], ["--one", "shift", "rejects"], ["--report", "shift"], ["shift"]):
+        if (said := bench.call("./suite", *words))[0] != 5 or not said[2].startswith("usage: suite [--one NAME"):
+            yield f"{words}: {said}"
+    bench.call("./suite", "--one", "rejects")
+    for bench.program in ("/bin/true", "/bin/echo", "/nowhere/fbsim"):
+        said = bench.call("./suite", "--one", "rejects")
+        if said[0] != 1 or f"{bench.program}: this is no fbsim" not in said[2] or {"rejects.passed", "rejects.trace"} & set(results(bench)):
+            yield f"a scenario alone with another program: {said}, {results(bench)}"
 
 
 def faults_of_places(room):
@@ -387,6 +396,31 @@ def faults_of_bless(room):
         yield f"bless of a run that stops: {said}"
 
 
+def faults_of_bless_with_names(room):
+    """Yields what is wrong where only some scenarios are blessed, a trace breaks a rule, or a CI engine runs the suite."""
+    bench = Bench(room, "some")
+    bench.edit("rejects/trace", "LEVEL=450", "LEVEL=451")
+    bench.edit("shift/trace", "LEVEL=1000", "LEVEL=1001")
+    if (said := bench.call("./suite", "bless", "night"))[0] != 5 or "there is no scenario night" not in said[2]:
+        yield f"bless of no scenario: {said}"
+    said = bench.call("./suite", "bless", "shift", ci="true")
+    if said != (1, "", "not blessed, since the variable CI is set, and --force is not given\n") or "LEVEL=1001" not in content(f"{bench.folder}/shift/trace"):
+        yield f"bless in a CI engine: {said}"
+    if (said := bench.call("./suite", "bless", "shift/")) != (0, "changed shift/trace\n", "") or "LEVEL=451" not in content(f"{bench.folder}/rejects/trace"):
+        yield f"bless of one scenario: {said}"
+    if (said := bench.call("./suite", "bless", "--force", ci="true")) != (0, "changed rejects/trace\n", ""):
+        yield f"bless by force in a CI engine: {said}"
+    # (the valve is open for exactly two seconds)
+    bench.edit("bottling.rules", "within = 2000", "within = 1999")
+    bench.edit("shift/trace", "LEVEL=1000", "LEVEL=1001")
+    said = bench.call("./suite", "bless")
+    expected = "not blessed: shift: the status of `fbsim expect` is 1, and --force is not given\n# broken: the valve is open for two seconds at most\n"
+    if said[:2] != (1, expected) or "LEVEL=1001" not in content(f"{bench.folder}/shift/trace"):
+        yield f"bless of a trace that breaks a rule: {said}"
+    if (said := bench.call("./suite", "bless", "--force", "shift", "rejects")) != (0, "changed shift/trace\n", ""):
+        yield f"bless by force of a trace that breaks a rule: {said}"
+
+
 def faults_of_shell():
     """Returns what shellcheck finds in the suite."""
     ran = subprocess.run(["shellcheck", "--shell=sh", f"{EXAMPLE}/suite"], capture_output=True, text=True)
@@ -404,7 +438,7 @@ def try_all(program):
         faults = faults_of_shell() + [f"make does not pass: {said}"] * (said[0] != 0)
         faults += [it for it in side_by_side(lambda at: fault_of(room, passed, at), range(len(BREAKS))) if it]
         faults += faults_of_times(room, passed)
-        for call in (faults_of_green, faults_of_one, faults_of_places, faults_of_stops, faults_of_bless):
+        for call in (faults_of_green, faults_of_one, faults_of_places, faults_of_stops, faults_of_bless, faults_of_bless_with_names):
             faults += call(room)
     for it in faults:
         print(f"examples/bottling/suite: {it}", file=sys.stderr)
