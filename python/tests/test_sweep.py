@@ -271,10 +271,10 @@ def stopping(folder, **options):
 def test_a_variant_that_stops_is_broken_unless_it_may(tmp_path):
     found, other = stopping(tmp_path), stopping(tmp_path, stops=True)
     for it in (found, other):
-        assert [row.number for row in it.stopped] == [0, 2] and it.broken("it starts") == []
+        assert [row.number for row in it.stopped] == [0, 2]
         assert list(it.frame().stop.isna()) == [False, True, False] and it.failed == []
-    assert found.broken() == found.stopped and found.first_broken == found[0]
-    assert other.broken() == [] and other.first_broken is None
+    assert found.broken() == found.broken("it starts") == found.stopped and found.first_broken == found[0]
+    assert other.broken() == other.broken("it starts") == [] and other.first_broken is None
     assert repr(found) == "<sweep over D.DT, variants: 3, broken: 2, stopped: 2, failed: 0>"
     assert len(found) == 3 and list(found) == found.rows
     kept, stopped = found.plot(y="D.DT").axes[0].lines
@@ -293,6 +293,23 @@ def test_a_kept_variant_that_stops_has_its_status(tmp_path):
     made = subprocess.run(["kept/run.sh"], cwd=tmp_path, env=env, capture_output=True, text=True)
     assert made.returncode == 1 and "\nok 1 - it starts\n" in made.stdout
     assert (tmp_path / "kept" / "trace").read_text().endswith("\nstop 1 MAIN steps\n")
+
+
+def test_rules_that_apply_in_no_variant_are_named():
+    # (the first parcel comes at 100: README.md of the example)
+    gate = "the gate is not lifted while the station works"
+    with pytest.warns(fbsim.RuleWarning, match=f"^rules that applied in none of 2 variants: '{STOPS}', '{gate}'$"):
+        found = sweep({THERE: [4, 9]}, horizon=50, rules=RULES)
+    assert found.unapplied == [STOPS, gate] and found.broken() == []
+    assert [it.state for it in found] == ["no rule applied"] * 2
+    assert repr(found).endswith(" failed: 0, rules that never applied: 2>")
+    assert [it.get_label() for it in found.plot(y="end").axes[0].lines] == ["no rule applied"]
+
+
+def test_a_rule_that_applies_in_one_variant_has_applied(recwarn):
+    found = sweep({"horizon": [50, 800]}, rules=RULES)
+    assert found.unapplied == [] and [it.state for it in found] == ["no rule applied", "all rules hold"]
+    assert [*recwarn] == [] and "never" not in repr(found)
 
 
 def test_a_rule_that_there_is_not_is_a_fault(tmp_path):
@@ -381,7 +398,7 @@ def test_faults_can_be_kept(tmp_path):
     assert [it.number for it in found.failed] == [1] and [it.state for it in found][1] == "it failed"
     fault = found[1].fault
     assert (fault.number, found[1].end, found[1].latencies) == ("E12", None, {})
-    assert found.broken() == [found[1]] and found.broken(STOPS) == []
+    assert found.broken() == found.broken(STOPS) == [found[1]]
     frame = found.frame()
     assert list(frame.columns)[-1] == "fault" and list(frame.fault.isna()) == [True, False, True]
     assert frame[STOPS].tolist()[::2] == ["kept", "kept"]

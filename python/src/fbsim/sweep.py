@@ -9,6 +9,7 @@ import re
 import shlex
 import sys
 import tempfile
+import warnings
 from collections.abc import Callable, Iterable, Iterator, Mapping, Sequence
 from concurrent.futures import Executor, Future, ProcessPoolExecutor, as_completed
 from concurrent.futures.process import BrokenProcessPool
@@ -64,6 +65,10 @@ class Jitter:
 
 
 jitter = Jitter
+
+
+class RuleWarning(UserWarning):
+    """Rules that applied in no variant of a sweep."""
 
 
 class Plan(NamedTuple):
@@ -167,6 +172,9 @@ class Sweep:
 
     def __init__(self, plan: Plan, rows: Iterable[Variant]) -> None:
         self.plan, self.rows = plan, sorted(rows, key=lambda it: it.number)
+        if self.unapplied:
+            said = f"rules that applied in none of {len(self)} variants: {', '.join(map(repr, self.unapplied))}"
+            warnings.warn(said, RuleWarning, stacklevel=3)
 
     def __len__(self) -> int:
         return len(self.rows)
@@ -179,19 +187,25 @@ class Sweep:
 
     def __repr__(self) -> str:
         counts = f"broken: {len(self.broken())}, stopped: {len(self.stopped)}, failed: {len(self.failed)}"
+        counts += f", rules that never applied: {len(self.unapplied)}" * bool(self.unapplied)
         return f"<sweep over {', '.join(self.plan.names)}, variants: {len(self)}, {counts}>"
 
     def broken(self, rule: str | None = None) -> list[Variant]:
-        """Returns the variants in which a rule does not hold.
-
-        Without a rule it is those in which any does not hold, or that failed, or that stopped, unless these may.
-        """
-        if rule is None:
-            return [it for it in self.rows if it.broken or it.fault or it.stop and not self.plan.may_stop]
-        if rule not in self.plan.rules:
+        """Returns the variants in which a rule, or any rule, does not hold, or that failed, or that stopped, unless
+        these may: their runs do not show that it holds."""
+        if rule is not None and rule not in self.plan.rules:
             names = ", ".join(map(repr, self.plan.rules)) or "none"
             raise InputFault(f"there is no rule {rule!r}; the rules are {names}")
-        return [it for it in self.rows if rule in it.broken]
+        return [
+            it for it in self.rows
+            if it.fault or it.stop and not self.plan.may_stop or (it.broken if rule is None else rule in it.broken)
+        ]
+
+    @property
+    def unapplied(self) -> list[str]:
+        """The rules that no variant decides: they checked nothing."""
+        applied = {verdict.rule for it in self.rows for verdict in it.report.verdicts if verdict.applied}
+        return [it for it in self.plan.rules if it not in applied]
 
     @property
     def first_broken(self) -> Variant | None:

@@ -38,4 +38,7 @@ class Variant(NamedTuple):
         """What it came to, in words."""
         if self.fault:
             return "it failed"
-        return "a rule is broken" if self.broken else "the run stopped" if self.stop else "all rules hold"
+        if self.broken or self.stop:
+            return "a rule is broken" if self.broken else "the run stopped"
+        rules = self.report.verdicts
+        return "no rule applied" if rules and not any(it.applied for it in rules) else "all rules hold"
