@@ -57,6 +57,27 @@ def test_a_trace_that_is_cut_off_has_no_end(tmp_path):
             trace_in(tmp_path, *lines).end
 
 
+@pytest.mark.parametrize("text", [
+    "0 R < A.P\r\nend 10\n", "junk\nend 10\n", "end 5\nend 10\n", "x\x0bend 10\n", "x\x85end 10\n", "x\x1cend 10\n",
+    "5 R < A.P\n4 R < A.P\nend 10\n", "5 R < A.P\nend 5\n", "5 R < A.P\nstop 4 R steps\n", f"end {2**64}\n",
+    f"stop {2**64} R steps\n", "0 R < A.P X=01\nstop 3 R range\n",
+])
+def test_what_is_no_trace_has_neither_end_nor_stop(tmp_path, text):
+    (tmp_path / "some.trace").write_bytes(text.encode())
+    trace = fbsim.Trace(tmp_path / "some.trace")
+    for ask in (lambda: trace.end, lambda: trace.stop, trace.count):
+        with pytest.raises(fbsim.InputFault):
+            ask()
+
+
+def test_a_trace_is_read_again_when_its_file_has_changed(tmp_path):
+    trace = trace_in(tmp_path, "0 R < A.P", f"end {2**64 - 1}")
+    assert trace.end == 2**64 - 1 and trace.count() == 1 and trace.stop is None
+    trace_in(tmp_path, "junk", "0 R < A.P", "end 7")
+    with pytest.raises(fbsim.InputFault, match="line 1 is no line of a trace: junk"):
+        trace.end
+
+
 def test_where_is_read_any_number_of_times(conveyor):
     found = conveyor.where("STATION < GATE.*")
     last = found.where("* * GATE.LIFT").where("* * * TAKEN>1")

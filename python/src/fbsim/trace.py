@@ -141,7 +141,8 @@ def last_of(text: str, least: int, has_lines: bool) -> str:
     """Returns a last line, if it is one and does not come before the tick of the last event."""
     parts = LAST.fullmatch(text)
     at = int((parts[1] or parts[2]) if parts else -1)
-    if parts is None or not text.endswith("\n") or at < least or parts[1] and has_lines and at == least:
+    is_in_order = least <= at < 2**64 and not (parts and parts[1] and has_lines and at == least)
+    if parts is None or not text.endswith("\n") or not is_in_order:
         raise ValueError(text)
     return text
 
@@ -240,6 +241,8 @@ class Trace(Lines):
 
     def __init__(self, path: str | os.PathLike[str], application: Application | None = None) -> None:
         self.path, self.application, self.where_stopped = Path(file_name(path, "a trace")), application, ""
+        # Whether the program wrote the file for this trace, and else its state when it was last read to its end.
+        self.is_own, self.known = False, (0, 0, 0)
         #: What the program warned of in the run: rows of stimuli at or beyond the horizon.
         self.warnings: tuple[str, ...] = ()
 
@@ -248,7 +251,9 @@ class Trace(Lines):
 
     def __iter__(self) -> Iterator[Line]:
         with self.opened() as texts:
+            about = os.fstat(texts.fileno())
             yield from lines_of(texts, str(self.path))
+        self.known = about.st_ino, about.st_mtime_ns, about.st_size
 
     def opened(self) -> TextIOWrapper:
         """Opens the file, or raises the FileFault of one that can't be read."""
@@ -280,13 +285,18 @@ class Trace(Lines):
 
     @property
     def last(self) -> str:
-        """The text of the last line."""
+        """The text of the last line. The file is read to its end before, unless that was done: it must be a trace."""
         with self.opened() as it:
-            it.buffer.seek(max(0, os.path.getsize(self.path) - 1000))
+            about = os.fstat(it.fileno())
+            it.buffer.seek(max(0, about.st_size - 1000))
             text = it.buffer.read().decode("ascii", "replace")
         if not text.endswith("\n"):
             raise InputFault(f"{self.path}: the last line is neither end nor stop, or has no line feed at its end")
-        return text.splitlines()[-1]
+        last = text.split("\n")[-2]
+        ending(last)
+        if not self.is_own and self.known != (about.st_ino, about.st_mtime_ns, about.st_size):
+            self.count()
+        return last
 
     def text(self) -> str:
         """Returns the whole trace as one text."""
@@ -324,6 +334,7 @@ def temporary(application: Application | None) -> tuple[Trace, IO[bytes]]:
     """Returns a trace whose temporary file is removed with it, and the open file, in which its lines will be."""
     number, path = tempfile.mkstemp(prefix="fbsim-", suffix=".trace")
     trace = Trace(path, application)
+    trace.is_own = True
     weakref.finalize(trace, remove_own, path, os.getpid())
     return trace, open(number, "wb")
 
