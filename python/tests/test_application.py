@@ -304,6 +304,17 @@ def test_a_run_that_takes_too_long_is_ended_with_all_that_it_started(tmp_path, m
     assert has_ended(int((tmp_path / "pid").read_text()))
 
 
+def test_what_a_program_started_is_ended_also_if_the_program_has_ended_before(tmp_path, monkeypatch):
+    text = f"[ $1 = session ] && echo '= nothing waits'; sleep 1000 & echo $! > {tmp_path}/pid; exit 0"
+    monkeypatch.setenv("FBSIM", program(tmp_path, text))
+    with pytest.raises(fbsim.TimedOut):
+        fbsim.Application("plant.iec").run(horizon=5, timeout=0.5)
+    assert has_ended(int((tmp_path / "pid").read_text()))
+    with fbsim.Application("plant.iec").session(timeout=0.5) as s, pytest.raises(fbsim.TimedOut):
+        s.until(5)
+    assert has_ended(int((tmp_path / "pid").read_text()))
+
+
 def test_an_exception_in_a_run_ends_all_that_it_started(tmp_path, monkeypatch):
     """As the interrupt of a terminal, which only Python gets, or a time limit of pytest."""
     monkeypatch.setenv("FBSIM", program(tmp_path, f"sh -c 'echo $$ > {tmp_path}/pid; sleep 1000; true'; true"))

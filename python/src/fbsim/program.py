@@ -7,7 +7,7 @@ import shutil
 import signal
 import subprocess
 from collections.abc import Iterator, Sequence
-from contextlib import contextmanager
+from contextlib import contextmanager, suppress
 from functools import lru_cache
 from pathlib import Path
 from typing import IO, Any
@@ -70,9 +70,14 @@ def seconds(timeout: float | None) -> float | None:
 
 
 def kill(process: subprocess.Popen[Any], owner: int) -> None:
-    """Ends a program with all that it started, but not in a process that was forked from the one that started it."""
-    if os.getpid() == owner and process.poll() is None:
-        os.killpg(process.pid, signal.SIGKILL)
+    """Ends a program with all that it started, but not in a process that was forked from the one that started it.
+
+    What it started may go on when it has ended itself. Once somebody has waited for it, its number may be that of
+    another group, so that nothing can be ended any more.
+    """
+    if os.getpid() == owner and process.returncode is None:
+        with suppress(ProcessLookupError, PermissionError):  # (macOS, of a group that has ended)
+            os.killpg(process.pid, signal.SIGKILL)
         process.wait()
 
 
