@@ -284,6 +284,17 @@ def test_a_stream_that_nobody_reads_on_ends_its_run(tmp_path):
     assert time.monotonic() - start < 5
 
 
+def test_a_stream_that_is_not_read_to_its_end_has_no_end(tmp_path):
+    stream = application(tmp_path, CYCLE).stream(horizon=30)
+    lines = iter(stream)
+    for _ in range(2):
+        for ask in (lambda: stream.end, lambda: stream.stop):
+            with pytest.raises(fbsim.InputFault, match="the lines of the stream are not read to their end"):
+                ask()
+        assert next(lines).tick == 0 and "not read to its end" in repr(stream)
+    assert len(list(lines)) > 2 and (stream.end, stream.stop) == (30, None) and repr(stream).endswith(", read>")
+
+
 def test_a_run_takes_little_longer_than_the_program(tmp_path, monkeypatch):
     monkeypatch.setenv("FBSIM", program(tmp_path, "echo end 8"))
     plant = fbsim.Application("plant.iec")

@@ -241,3 +241,10 @@ def test_a_fault_of_the_package_itself_shows_its_lines(room):
     result = room.run()
     result.assert_outcomes(failed=1)
     result.stdout.fnmatch_lines(["*src/fbsim/trace.py:[0-9]*"])
+
+
+def test_a_reference_that_is_compared_with_nothing_is_a_failure(room):
+    in_python(room, 'def test_the_shift(reference):\n    assert reference("trace")\n')
+    result = room.run()
+    result.assert_outcomes(failed=1)
+    result.stdout.fnmatch_lines(["E*InputFault: <reference */trace> is neither true nor false: use reference('trace').*"])

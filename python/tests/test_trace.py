@@ -87,6 +87,15 @@ def test_where_is_read_any_number_of_times(conveyor):
     assert [it.tick for it in last] == [434] and found.count() == 6
 
 
+def test_what_has_no_line_is_not_true(conveyor):
+    # (`assert trace.where(..)` was true also without a line)
+    lift = conveyor.where("* < GATE.LIFT")
+    assert lift and conveyor.signal("GATE.TAKEN") and conveyor.latencies("* < GATE.LIFT", "* < GATE.DROP")
+    assert not lift.where("* < * TAKEN=77") and not conveyor.where("* < GATE.LIFT TAKEN>2")
+    assert not lift.where("* < * TAKEN=77").latencies("* < GATE.LIFT", "* < GATE.DROP")
+    assert not lift.where("* < * TAKEN=77").signal("GATE.TAKEN")
+
+
 def test_signals_are_the_values_of_a_variable(conveyor):
     # (README.md of the example)
     assert conveyor.signal("GATE.TAKEN") == ([104, 434], [1, 2])

@@ -168,15 +168,35 @@ class Application:
 
 
 class Stream(Lines):
-    """The lines of a run, read from its pipe while it runs. `end` and `stop` are known when all have been read."""
+    """The lines of a run, read from its pipe while it runs. `end` and `stop` are known when all have been read: before
+    that they are an InputFault."""
 
     def __init__(
         self, words: Sequence[str], given: str, may_stop: bool, application: Application | None = None
     ) -> None:
         self.words, self.given, self.may_stop, self.application = words, given, may_stop, application
-        self.end: int | None = None
-        self.stop: Stop | None = None
+        self.ended: tuple[int | None, Stop | None] | None = None
         self.was_read = False
+
+    def __repr__(self) -> str:
+        state = "read" if self.ended else "not read to its end"
+        return f"<stream of {' '.join(self.words)}, {state}>"
+
+    def how_it_ended(self) -> tuple[int | None, Stop | None]:
+        """Returns the horizon or the stop."""
+        if self.ended is None:
+            raise InputFault("nobody knows how the run ends: the lines of the stream are not read to their end")
+        return self.ended
+
+    @property
+    def end(self) -> int | None:
+        """The horizon, or None if the run stopped before it."""
+        return self.how_it_ended()[0]
+
+    @property
+    def stop(self) -> Stop | None:
+        """Why the run stopped before its horizon, or None."""
+        return self.how_it_ended()[1]
 
     def __iter__(self) -> Iterator[Line]:
         if self.was_read:
@@ -187,8 +207,8 @@ class Stream(Lines):
             given.seek(0)
             with tempfile.TemporaryFile("w+", errors="replace") as said:
                 last, where = yield from self.lines(given, said)
-        self.end, stop = ending(last)
-        self.stop = stop and stop._replace(where=where)
+        end, stop = ending(last)
+        self.ended = end, stop and stop._replace(where=where)
         if self.stop and not self.may_stop:
             raise Stopped(self.stop)
 

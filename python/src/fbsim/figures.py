@@ -106,7 +106,9 @@ def bars(latencies: Latencies, width: int | None) -> Figure:
     return made
 
 
-MARKS = {"all rules hold": "o", "a rule is broken": "x", "the run stopped": "s", "it failed": "^", "no rule applied": "v"}
+MARKS = {
+    "all rules hold": "o", "no rule applied": "v", "a rule is broken": "x", "the run stopped": "s", "it failed": "^"
+}
 
 
 def points(frame: DataFrame, states: Sequence[str], x: str, y: str) -> Figure:

@@ -35,6 +35,10 @@ class Latencies:
     def __eq__(self, other: object) -> bool:
         return isinstance(other, Latencies) and vars(self) == vars(other)
 
+    def __bool__(self) -> bool:
+        """Whether there is one."""
+        return bool(self.ticks)
+
     def add(self, first: Line, second: Line) -> None:
         """Adds the latency between two lines."""
         self.ticks.append(second.tick - first.tick)

@@ -10,7 +10,7 @@ from typing import Any, cast
 
 import pytest
 
-from fbsim.faults import ReferenceDiffers
+from fbsim.faults import InputFault, ReferenceDiffers
 from fbsim.trace import Trace
 
 # References that were changed in this process. (A test that is interrupted has no report to name them.)
@@ -68,6 +68,9 @@ class Reference:
         return f"<reference {self.path}>"
 
     __hash__ = None  # type: ignore[assignment]
+
+    def __bool__(self) -> bool:
+        raise InputFault(f"{self!r} is neither true nor false: use reference({self.path.name!r}).check(trace)")
 
     def check(self, trace: Trace) -> None:
         """Raises `ReferenceDiffers` if a trace differs. With --fbsim-bless the trace becomes the reference instead."""

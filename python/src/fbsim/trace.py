@@ -67,6 +67,10 @@ class Signal(NamedTuple):
     ticks: list[int]
     values: list[Value]
 
+    def __bool__(self) -> bool:
+        """Whether there is a value."""
+        return bool(self.ticks)
+
 
 # What a line has after its tick, and its last line (docs/FORMATS.md, "What is no trace").
 HEAD = re.compile(
@@ -230,6 +234,10 @@ class Selection(Lines):
 
     def __iter__(self) -> Iterator[Line]:
         return filter(self.pattern.matches, self.lines)
+
+    def __bool__(self) -> bool:
+        """Whether a line matches."""
+        return next(iter(self), None) is not None
 
 
 class Trace(Lines):
