@@ -11,7 +11,7 @@ from itertools import takewhile
 from pathlib import Path
 from typing import IO, TYPE_CHECKING, Any, Literal
 
-from fbsim.faults import Fault, InputFault, Stop, Stopped, fault_of
+from fbsim.faults import Fault, InputFault, Stop, Stopped, encoded, fault_of, needs, texts_of
 from fbsim.program import call, started
 from fbsim.session import Session
 from fbsim.stimuli import FileName, Stimuli, file_name, stimuli_text
@@ -35,6 +35,7 @@ class Application:
 
     def __post_init__(self) -> None:
         types = [self.types] if isinstance(self.types, (str, os.PathLike)) else self.types
+        needs(types, Iterable, "a list of files of types")
         for it, what in [(self.declaration, "a declaration"), *((it, "a file of types") for it in types)]:
             file_name(it, what)
         if self.deploy is not None:
@@ -61,7 +62,7 @@ class Application:
         """Returns the words of a call and its standard input, which has stimuli that are given as rows."""
         words, given = [command, *self.words, "--why"], ""
         if isinstance(stimuli, (str, os.PathLike)):
-            words += ["--stim", os.fspath(stimuli)]
+            words += ["--stim", file_name(stimuli, "stimuli")]
         elif stimuli is not None:
             words, given = [*words, "--stim", "-"], stimuli_text(stimuli)
         for option, number in options.items():
@@ -103,6 +104,8 @@ class Application:
 
     def coverage(self, *traces: Trace, least: int | None = None) -> str:
         """Returns the report of `fbsim coverage` on traces. Below `least` percent it is raised as a `Fault`."""
+        for it in traces or [None]:
+            needs(it, Trace, "a trace, and there is at least one")
         words = ["coverage", *self.words, *(os.fspath(it.path) for it in traces), "--why"]
         made = call(words + ([] if least is None else ["--least", str(whole(least, "least"))]), statuses=(0, 1))
         if made.returncode:
@@ -112,7 +115,8 @@ class Application:
     def lint(self, stimuli: Stimuli = None, *, allow: Sequence[str] = (), deny: Sequence[str] = ()) -> str:
         """Returns the warnings of `check --lint`. One that is denied, as `all` or `L04:GATE`, is raised as `Fault`."""
         words, given = self.call_words("check", stimuli, {})
-        options = [*(f"--allow={it}" for it in allow), *(f"--deny={it}" for it in deny)]
+        given_lints = (("allow", allow), ("deny", deny))
+        options = [f"--{key}={it}" for key, them in given_lints for it in texts_of(them, "lints")]
         made = call([*words, "--lint", *options], given, statuses=(0, 1))
         if made.returncode:
             raise Fault(made.stderr.rstrip())
@@ -120,6 +124,8 @@ class Application:
 
     def inspect(self, trace: Trace, *, only: str | None = None, lost: bool = False) -> str:
         """Returns what `fbsim inspect` says of the inside of a trace: of an instance, or of lost events alone."""
+        needs(trace, Trace, "a trace")
+        needs("" if only is None else only, str, "the name of an instance")
         words = ["inspect", *self.words, os.fspath(trace.path), "--why"]
         return call(words + ([] if only is None else ["--only", only]) + ["--lost"] * lost).stdout
 
@@ -203,7 +209,7 @@ class Stream(Lines):
             raise InputFault("the lines of a stream are read once: use run, whose trace is read any number of times")
         self.was_read = True
         with tempfile.TemporaryFile() as given:
-            given.write(self.given.encode())
+            given.write(encoded(self.given))
             given.seek(0)
             with tempfile.TemporaryFile("w+", errors="replace") as said:
                 last, where = yield from self.lines(given, said)

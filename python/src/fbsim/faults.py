@@ -3,8 +3,8 @@
 from __future__ import annotations
 
 import re
-from collections.abc import Sequence
-from typing import TYPE_CHECKING, NamedTuple
+from collections.abc import Iterable, Sequence
+from typing import TYPE_CHECKING, NamedTuple, cast
 
 if TYPE_CHECKING:
     from fbsim.trace import Lines, Report
@@ -49,6 +49,29 @@ class Fault(Exception):
 
 class InputFault(Fault, ValueError):
     """What was given is wrong: an argument out of range, a pattern, a text that is no trace, a file fbsim.toml."""
+
+
+def needs(given: object, kind: type | tuple[type, ...], what: str) -> None:
+    """Raises an InputFault if an argument is not of a kind."""
+    if not isinstance(given, kind):
+        raise InputFault(f"{given!r} is not {what}")
+
+
+def texts_of(given: object, what: str) -> list[str]:
+    """Returns texts that are given as a list, or one alone."""
+    needs(given, Iterable, f"a list of {what}")
+    found = [given] if isinstance(given, str) else list(cast(Iterable[str], given))
+    for it in found:
+        needs(it, str, f"{what}: it is a text")
+    return found
+
+
+def encoded(text: str) -> bytes:
+    """Returns the bytes of a text for the program, or raises an InputFault if a character of it has none."""
+    try:
+        return text.encode("utf-8", "surrogateescape")
+    except UnicodeEncodeError as it:
+        raise InputFault(f"the text has a character that is none: {text[it.start]!r}") from it
 
 
 class TimedOut(Fault, TimeoutError):

@@ -7,14 +7,17 @@ import statistics
 from array import array
 from collections import defaultdict, deque
 from collections.abc import Iterable
-from typing import TYPE_CHECKING, Any
+from numbers import Real
+from typing import TYPE_CHECKING
 
 from fbsim import figures
-from fbsim.faults import Fault, InputFault
+from fbsim.faults import Fault, InputFault, needs
 from fbsim.patterns import Pattern
 from fbsim.texts import whole
 
 if TYPE_CHECKING:
+    from matplotlib.figure import Figure
+
     from fbsim.trace import Line
 
 
@@ -74,6 +77,7 @@ class Latencies:
 
     def percentile(self, percent: float) -> int:
         """Returns the percentile by the nearest rank: the least latency that at least so many percent do not exceed."""
+        needs(percent, Real, "a number of percent")
         if not 0 <= percent <= 100:
             raise InputFault(f"a percentile is of 0 to 100 percent, and not of {percent}")
         rising = self.rising
@@ -95,13 +99,14 @@ class Latencies:
             counts[(ticks - least) // width] += 1
         return [(least + k * width, least + (k + 1) * width, count) for k, count in enumerate(counts)]
 
-    def plot(self, width: int | None = None) -> Any:
+    def plot(self, width: int | None = None) -> Figure:
         """Returns a figure of matplotlib with the histogram."""
         return figures.bars(self, width)
 
 
 def paired(lines: Iterable[Line], first: Pattern, second: Pattern, pair: str) -> Latencies:
     """Returns the latencies of lines that are paired as `Lines.latencies` says."""
+    needs(pair, str, "a pairing: it is queue, next or the name of a variable")
     found, is_plain = Latencies(), pair in ("queue", "next")
     waiting: defaultdict[object, deque[Line]] = defaultdict(deque)
     ahead: dict[object, Line] = {}

@@ -9,14 +9,17 @@ import subprocess
 from collections.abc import Iterator, Sequence
 from contextlib import contextmanager, suppress
 from functools import lru_cache
+from numbers import Real
 from pathlib import Path
 from typing import IO, Any
 
 import fbsim
-from fbsim.faults import InputFault, ProgramMissing, TimedOut, fault_of
+from fbsim.faults import InputFault, ProgramMissing, TimedOut, encoded, fault_of
 
 # Where ./simulate builds the program, with proofs and without, below the top of the repository.
 BUILT = ("crates/fbsim/out/fbsim", "crates/fbsim/out/fbsim.unproved")
+# The longest time limit, of thirty years: the clock of the system takes no much longer one.
+MOST_SECONDS = 1e9
 
 
 def find_program() -> str:
@@ -64,9 +67,11 @@ def program() -> str:
 
 def seconds(timeout: float | None) -> float | None:
     """Returns a time limit in seconds, which is over 0, or None if there is none."""
-    if timeout is not None and (isinstance(timeout, (bool, str)) or not timeout > 0):
+    if timeout is None:
+        return None
+    if isinstance(timeout, bool) or not isinstance(timeout, Real) or not 0 < timeout <= MOST_SECONDS:
         raise InputFault(f"timeout is {timeout!r}, and not a number of seconds over 0")
-    return timeout
+    return float(timeout)
 
 
 def kill(process: subprocess.Popen[Any], owner: int) -> None:
@@ -81,10 +86,19 @@ def kill(process: subprocess.Popen[Any], owner: int) -> None:
         process.wait()
 
 
+def begun(words: Sequence[str], **how: Any) -> subprocess.Popen[Any]:
+    """Starts the program in a process group of its own."""
+    path = program()
+    try:
+        return subprocess.Popen([path, *words], process_group=0, **how)
+    except (OSError, ValueError) as it:
+        raise ProgramMissing(f"{path} can't be started: {it}") from it
+
+
 @contextmanager
 def started(words: Sequence[str], **how: Any) -> Iterator[subprocess.Popen[Any]]:
     """Starts the program in a process group of its own, and ends the group if the body raises an exception."""
-    with subprocess.Popen([program(), *words], process_group=0, **how) as process:
+    with begun(words, **how) as process:
         try:
             yield process
         except BaseException:
@@ -101,13 +115,13 @@ def call(
     `given` is its standard input. Standard output goes into the file `to`, or is returned. After `timeout` seconds the
     program is ended, and `TimedOut` is raised. Names of files are names in `folder`, if there is one.
     """
-    limit, text = seconds(timeout), given.encode("utf-8", "surrogateescape")
+    limit, text = seconds(timeout), encoded(given)
     with started(words, stdin=subprocess.PIPE, stdout=to, stderr=subprocess.PIPE, cwd=folder) as process:
         try:
             parts = process.communicate(text, limit)
             out, said = (None if it is None else it.decode("utf-8", "replace") for it in parts)
         except subprocess.TimeoutExpired:
-            raise TimedOut(f"fbsim {words[0]} took over {timeout:g} seconds, and was ended") from None
+            raise TimedOut(f"fbsim {words[0]} took over {limit:g} seconds, and was ended") from None
     if process.returncode not in statuses:
         raise fault_of(process.returncode, said or "")
     return subprocess.CompletedProcess(words, process.returncode, out, said or "")

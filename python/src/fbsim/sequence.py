@@ -4,12 +4,12 @@ from __future__ import annotations
 
 import re
 import tempfile
-from collections.abc import Mapping, Sequence
+from collections.abc import Iterable, Mapping, Sequence
 from pathlib import Path
 from typing import NamedTuple
 
 from fbsim.application import Application
-from fbsim.faults import InputFault, SequenceBroken
+from fbsim.faults import InputFault, SequenceBroken, needs, texts_of
 from fbsim.stimuli import FileName, Row
 from fbsim.texts import constant, of_application, read, write
 from fbsim.trace import Line
@@ -44,7 +44,10 @@ def steps_of(given: Sequence[Sequence[str]]) -> list[Step]:
     """Returns the steps of a sequence. An event takes the next tick, and `wait N` the next N ticks."""
     steps: list[Step] = []
     tick = 0
+    needs(given, Iterable, "a list of steps")
     for number, texts in enumerate(given, 1):
+        needs(texts, (list, tuple), f"step {number}: a list of texts")
+        texts = texts_of(texts, f"the texts of step {number}")
         words = [it.upper().strip() for it in texts]
         wait = WAIT.fullmatch(words[0]) if words else None
         for it in words[1:] if wait else words or [""]:
@@ -76,6 +79,8 @@ def check_sequence(
     must follow in these ticks, in order, no more and no fewer. Values that are not given may be any. The types are
     event blocks, those of the files `types`, and those of a declaration, whose application is left out.
     """
+    needs(type_name, str, "the name of a block type")
+    needs(parameters or {}, Mapping, "the parameters of a block: {NAME: value}")
     sequence = steps_of(steps)
     given = ", ".join(f"{name} := {constant(value)}" for name, value in (parameters or {}).items())
     instance = f"{INSTANCE} : {type_name}{given and f'({given})'};"

@@ -11,13 +11,14 @@ import time
 import weakref
 from collections import deque
 from collections.abc import Iterator, Mapping, Sequence
-from pathlib import Path
 from types import TracebackType
 from typing import IO, TYPE_CHECKING
 
-from fbsim.faults import Fault, InputFault, Location, ProgramFault, Refused, Stop, Stopped, TimedOut, fault_of
-from fbsim.program import kill, program, seconds
-from fbsim.stimuli import MOST_BYTES, MOST_ROWS, FileName, Row, Stimuli, Value, row_of, stimuli_text, words_of
+from fbsim.faults import Fault, InputFault, Location, ProgramFault, Refused, Stop, Stopped, TimedOut, encoded, fault_of
+from fbsim.program import begun, kill, seconds
+from fbsim.stimuli import (
+    MOST_BYTES, MOST_ROWS, FileName, Row, Stimuli, Value, file_name, made_folder, row_of, stimuli_text, words_of
+)
 from fbsim.texts import whole, write, write_script
 from fbsim.trace import Line, Lines, Trace, ending, lines_of, temporary
 
@@ -45,7 +46,7 @@ class Talk:
         self.said = tempfile.TemporaryFile("w+", errors="replace")
         pipes = {"stdin": subprocess.PIPE, "stdout": subprocess.PIPE, "stderr": self.said}
         try:
-            self.process = subprocess.Popen([program(), *words], process_group=0, **pipes)  # type: ignore
+            self.process = begun(words, **pipes)
         except BaseException:
             self.said.close()
             raise
@@ -55,7 +56,7 @@ class Talk:
         """Sends a command. If the program has ended, its output says so."""
         assert self.process.stdin
         try:
-            self.process.stdin.write(command.encode("utf-8", "surrogateescape") + b"\n")
+            self.process.stdin.write(encoded(command) + b"\n")
             self.process.stdin.flush()
         except BrokenPipeError:
             pass
@@ -116,7 +117,7 @@ class Session(Lines):
         self._options = [] if steps is None else ["--steps", str(whole(steps, "steps"))]
         words = ["session", *application.words, *self._options]
         if isinstance(stimuli, (str, os.PathLike)):
-            words, stimuli = [*words, "--stim", os.fspath(stimuli)], ()
+            words, stimuli = [*words, "--stim", file_name(stimuli, "stimuli")], ()
         self._talk: Talk | None = Talk(words, timeout)
         self._trace, self._file = temporary(application)
         weakref.finalize(self, self._file.close)
@@ -161,6 +162,7 @@ class Session(Lines):
         """Sends any command, as `next` or `break * < BEAT.EO`, and returns the lines that it gives."""
         if not isinstance(command, str) or "\n" in command or "\r" in command:
             raise InputFault(f"{command!r} is no command: it is a text of one line")
+        encoded(command)
         if self._talk is None:
             state = "was broken off" if self.is_broken_off else "has ended"
             raise InputFault(f"the session {state}: {command!r} comes too late")
@@ -212,8 +214,7 @@ class Session(Lines):
         The command prints the trace again. It is `run` with stimuli.csv; if these are more rows than `run` takes, it is
         `session` with commands.
         """
-        path, trace = Path(folder), self.trace
-        path.mkdir(parents=True, exist_ok=True)
+        path, trace = made_folder(folder), self.trace
         trace.save(path / "trace")
         horizon = self.end if self.stop is None else self.stop.tick + 1
         text, words = stimuli_text(self.rows, is_limited=False), [*self.application.words_from(path), *self._options]

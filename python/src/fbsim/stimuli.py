@@ -6,8 +6,9 @@ import csv
 import io
 import os
 from collections.abc import Iterable, Mapping
+from pathlib import Path
 
-from fbsim.faults import InputFault
+from fbsim.faults import FileFault, InputFault, encoded, needs
 from fbsim.texts import value_text, whole
 
 Value = int | bool
@@ -22,7 +23,21 @@ def file_name(given: object, what: str) -> str:
     """Returns the name of a file as a text."""
     if not isinstance(given, (str, os.PathLike)):
         raise InputFault(f"{what} is named by a text or a path, and not by {given!r}")
-    return os.fsdecode(given)
+    name = os.fsdecode(given)
+    encoded(name)
+    if "\0" in name:
+        raise InputFault(f"{what} is named by {name!r}, in which no file can be: it has a NUL")
+    return name
+
+
+def made_folder(given: object) -> Path:
+    """Makes a folder, unless it is there, and returns its path."""
+    path = Path(file_name(given, "a folder"))
+    try:
+        path.mkdir(parents=True, exist_ok=True)
+    except OSError as it:
+        raise FileFault(it.strerror or "it can't be made", "file", str(path)) from it
+    return path
 
 
 def row_of(given: object) -> tuple[int, str, Mapping[str, Value]]:
@@ -37,6 +52,7 @@ def row_of(given: object) -> tuple[int, str, Mapping[str, Value]]:
 
 def words_of(values: Mapping[str, Value]) -> str:
     """Returns values as words of stimuli: `COVERED=TRUE COUNT=2`."""
+    needs(values, Mapping, "the values of an event: {VARIABLE: value}")
     return " ".join(f"{name}={value_text(it)}" for name, it in values.items())
 
 

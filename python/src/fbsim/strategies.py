@@ -4,12 +4,17 @@ from __future__ import annotations
 
 from collections.abc import Mapping
 from operator import itemgetter
-from typing import Any
 
 from hypothesis import strategies
+from hypothesis.strategies import SearchStrategy
+
+from fbsim.stimuli import Value
 
 
-def stimuli(events: Mapping[str, Mapping[str, Any]], ticks: Any, min_size: int = 0, max_size: int | None = None) -> Any:
+def stimuli(
+    events: Mapping[str, Mapping[str, SearchStrategy[Value]]], ticks: SearchStrategy[int], min_size: int = 0,
+    max_size: int | None = None
+) -> SearchStrategy[list[tuple[int, str, dict[str, Value]]]]:
     """Returns a strategy of stimuli, in the order of their ticks, which shrinks to few stimuli with small values.
 
     `events` has for each INSTANCE.EVENT the strategies of its variables: {"BEFORE.SENSE": {"COVERED": booleans()}}.

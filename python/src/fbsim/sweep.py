@@ -20,7 +20,7 @@ from typing import TYPE_CHECKING, Literal, NamedTuple
 from fbsim import figures
 from fbsim.application import Application
 from fbsim.cache import Cache
-from fbsim.faults import Fault, InputFault
+from fbsim.faults import Fault, InputFault, needs, texts_of
 from fbsim.patterns import Pattern, ask_patterns
 from fbsim.program import call, seconds
 from fbsim.stimuli import FileName, Stimuli, stimuli_text
@@ -54,6 +54,8 @@ class Jitter:
     seed: int = 0
 
     def __post_init__(self) -> None:
+        for name, it in vars(self).items():
+            whole(it, f"jitter: {name}")
         if not 1 <= self.least <= self.most <= 1_000_000 or not 0 <= self.changes <= 63:
             raise InputFault("jitter: latencies are within 1 to 1,000,000, and there are at most 63 changes")
 
@@ -295,6 +297,12 @@ def planned(
     stops: bool, on_error: Literal["raise", "keep"], timeout: float | None
 ) -> tuple[Plan, list[Chosen]]:
     """Returns what a sweep runs, or raises the fault of what all variants have in common."""
+    needs(parameters, Mapping, "a table of parameters: {NAME: values}")
+    needs(latencies, Mapping, "a table of latencies: {NAME: (pattern, pattern)}")
+    texts_of(parameters, "names of parameters")
+    whole(seed, "seed")
+    if sample is not None and whole(sample, "sample") < 1:
+        raise InputFault(f"sample is {sample!r}, and not at least 1")
     if on_error not in ("raise", "keep"):
         raise InputFault(f'on_error is {on_error!r}, and not "raise" or "keep"')
     names = names_of_rules(application, rules)
@@ -316,6 +324,8 @@ def variants(
     plan: Plan, chosen: Sequence[Chosen], executor: Executor | None, cache: FileName | None
 ) -> Iterator[Variant]:
     """Runs variants, and goes over them as they come, by an executor or by processes of this machine."""
+    if executor is not None and not hasattr(executor, "submit"):
+        raise InputFault(f"{executor!r} is not an executor, as of concurrent.futures")
     kept = None if cache is None else Cache(cache)
     if executor is not None:
         yield from run_all(plan, chosen, executor, kept)

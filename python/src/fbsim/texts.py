@@ -87,7 +87,10 @@ def whole(value: object, what: str) -> int:
     """Returns a whole number, which may be of numpy. A truth value and a text are none."""
     if is_truth(value) or not hasattr(value, "__index__"):
         raise InputFault(f"{what} is {value!r}, and not a whole number")
-    return index(value)
+    try:
+        return index(value)
+    except TypeError as it:  # (an array of numpy)
+        raise InputFault(f"{what} is {value!r}, and not a whole number") from it
 
 
 def with_parameter(declaration: str, instance: str, parameter: str, value: object) -> str:

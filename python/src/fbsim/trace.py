@@ -14,16 +14,19 @@ from abc import ABC, abstractmethod
 from collections.abc import Generator, Iterable, Iterator, Sequence
 from io import TextIOWrapper
 from pathlib import Path
-from typing import IO, TYPE_CHECKING, Any, NamedTuple
+from typing import IO, TYPE_CHECKING, NamedTuple
 
 from fbsim import figures
-from fbsim.faults import FileFault, InputFault, ProgramFault, RulesBroken, Stop
+from fbsim.faults import FileFault, InputFault, ProgramFault, RulesBroken, Stop, needs, texts_of
 from fbsim.latencies import Latencies, paired
 from fbsim.patterns import NAME, PORT, Pattern, ask_patterns, ask_signal
 from fbsim.program import call
 from fbsim.stimuli import Value, file_name
 
 if TYPE_CHECKING:
+    from matplotlib.figure import Figure
+    from pandas import DataFrame
+
     from fbsim.application import Application
 
 # A point of a report of `fbsim expect`, with the block and the comments after it.
@@ -186,11 +189,12 @@ class Lines(ABC):
 
     def signal(self, name: str) -> Signal:
         """Returns all values of a variable, as GATE.TAKEN, with their ticks."""
+        needs(name, str, "the name of a signal, as GATE.TAKEN")
         return self.signals([name])[name]
 
     def signals(self, names: Iterable[str]) -> dict[str, Signal]:
         """Returns the signals of several variables, in one pass."""
-        found = {name: Signal([], []) for name in names}
+        found = {name: Signal([], []) for name in texts_of(names, "signals")}
         wanted: dict[str, list[tuple[str, Signal]]] = {}
         for name, signal in found.items():
             instance, _, variable = name.upper().rpartition(".")
@@ -214,11 +218,11 @@ class Lines(ABC):
         """
         return paired(self, self.pattern_of(first), self.pattern_of(second), pair)
 
-    def frame(self) -> Any:
+    def frame(self) -> DataFrame:
         """Returns a pandas data frame: a row for each line, a column for each part and for each variable."""
         return figures.frame_of_lines(self)
 
-    def plot(self, names: Sequence[str]) -> Any:
+    def plot(self, names: Sequence[str]) -> Figure:
         """Returns a figure of matplotlib that draws variables as steps over ticks."""
         return figures.steps(self.signals(names), getattr(self, "end", None))
 
@@ -313,7 +317,10 @@ class Trace(Lines):
 
     def save(self, path: str | os.PathLike[str]) -> None:
         """Copies the trace into a file."""
-        shutil.copyfile(self.path, path)
+        try:
+            shutil.copyfile(self.path, file_name(path, "a trace"))
+        except OSError as it:
+            raise FileFault(it.strerror or "it can't be written", "file", str(it.filename2 or it.filename)) from it
 
     def expect(self, rules: str | os.PathLike[str], strict: bool = False) -> Report:
         """Checks the rules of a file by `fbsim expect`, and raises `RulesBroken` if one does not hold.
