@@ -53,7 +53,7 @@ class Copy:
         for name in ("bin", "home", "tmp", "page"):
             os.mkdir(f"{room}/{name}")
         for name in ("python", "examples"):
-            shutil.copytree(f"{self.top}/{name}", f"{self.page}/{name}")
+            shutil.copytree(f"{self.top}/{name}", f"{room}/fbsim/{name}")
         shutil.copy(f"{TOP}/python/.flake8", f"{self.top}/python")
         shutil.copyfile(program, f"{room}/bin/fbsim")
         for folder, _, _ in os.walk(room):
@@ -103,11 +103,13 @@ class Copy:
         return [f"tools/system_packages.txt lacks {it}" for it in named if it not in required()]
 
     def follow(self):
-        """Returns whether each command of the page prints what the page has."""
+        """Returns whether each command of the page prints what the page has, and the repository beside it is as it was but for what git ignores."""
         # (in a new home, matplotlib says once that it looks for fonts)
         self.run([PYTHON, "-c", "import matplotlib.font_manager"], self.page)
         with open(f"{TOP}/{PAGE}", encoding="utf-8") as it:
             count, faults = pages.follow(PAGE, it.read(), self)
+        left = [it for top in ("", "python") for it in os.listdir(f"{self.room}/fbsim/{top}") if it not in {"python", "examples", "build"}]
+        faults += [f"{PAGE}: the commands left {it} in the repository" for it in left if not os.path.exists(f"{self.top}/python/{it}")]
         print(*faults, sep="\n", end="\n" * bool(faults))
         print(f"{PAGE}: {count - len(faults)} of {count} commands print what the page has", flush=True)
         return count > 0 and not faults

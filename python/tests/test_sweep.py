@@ -2,6 +2,8 @@
 
 import json
 import os
+import re
+import shutil
 import signal
 import subprocess
 import sys
@@ -526,3 +528,26 @@ class Dies(str):
 
     def __reduce__(self):
         return os._exit, (3,)
+
+
+CHECKED = "\nimport multiprocessing\nassert multiprocessing.get_start_method() == 'forkserver'\n"
+PROGRAM_OF_A_PAGE = re.compile(r"^`(\w+\.py)`:\n\n```python\n(.*?)^```$", re.DOTALL | re.MULTILINE)
+
+
+def test_programs_of_the_page_run_with_the_start_method_forkserver(tmp_path, top):
+    """As from Python 3.14 on. It is set before a program begins, so that the processes of a sweep have it too."""
+    for it in (EXAMPLES / "conveyor").iterdir():
+        shutil.copy(it, tmp_path)
+    method = "import multiprocessing\nmultiprocessing.set_start_method('forkserver', force=True)\n"
+    (tmp_path / "sitecustomize.py").write_text(method)
+    env = {**os.environ, "PYTHONPATH": f"{tmp_path}:{top / 'python' / 'src'}"}
+    found = PROGRAM_OF_A_PAGE.findall((top / "docs" / "PYTHON.md").read_text())
+    programs = {name: text for name, text in found if "import pytest" not in text and not name.startswith("test_")}
+    assert {"first.py", "sweep.py", "cluster.py", "loop.py"} <= set(programs)
+    said = {}
+    for name, text in programs.items():
+        (tmp_path / name).write_text(text + CHECKED)
+        made = subprocess.run([sys.executable, name], cwd=tmp_path, env=env, capture_output=True, text=True, timeout=100)
+        assert made.returncode == 0, made.stderr
+        said[name] = made.stdout
+    assert "variants: 49, broken: 10, stopped: 0, failed: 0" in said["sweep.py"]
