@@ -80,6 +80,8 @@ def test_how_a_scenario_must_end(room, name, keys, said):
     (['stop = "steps"', 'refused = "E21"'], "a run is refused (status 2), or it stops (status 1), or it ends: *"),
     (['stop = "steps"', "status = 0"], "a run is refused (status 2), or it stops (status 1), or it ends: *"),
     (['refused = "E21"', "status = 1"], "a run is refused (status 2), or it stops (status 1), or it ends: *"),
+    (['refused = "E21"', 'reference = "trace"'], "a run that is refused has no trace, and so no reference"),
+    (["status = 2", 'reference = "trace"'], "a run that is refused has no trace, and so no reference"),
     (["timeout = 0"], "timeout is not a number of seconds"),
     (['timeout = "3"'], "timeout is not a number of seconds"),
 ])
@@ -133,7 +135,9 @@ def test_the_coverage_of_all_scenarios_is_a_test(room, text, said):
 
 
 @pytest.mark.parametrize("text, said", [
-    ("coverage = 101\n" + SHORT, "coverage is not a number from 0 to 100"),
+    ("coverage = 101\n" + SHORT, "coverage is not a number from 1 to 100"),
+    ("coverage = 0\n" + SHORT, "coverage is not a number from 1 to 100"),
+    ('lint = { allow = ["L04", "all"] }\n', "lint: what allows all warnings asks for nothing"),
     ("coverage = 90\n", "there is no scenario"),
     ("coverage = 90\n" + SHORT.replace("short", "coverage"), "there are two with the name coverage: *"),
     ('lint = { denied = ["all"] }\n', "lint: unknown key denied; the keys are deny, allow"),

@@ -97,7 +97,9 @@ def test_a_scenario_may_not_take_the_name_of_these_tests(room):
 
 def test_without_scenarios_there_is_nothing_to_apply_in(room):
     room.write("fbsim.toml", 'rules = "some.rules"\n' + BENCH[BENCH.rindex("[[sequence]]"):])
-    room.run().assert_outcomes(passed=1)
+    result = room.run()
+    result.assert_outcomes(passed=1, warnings=1)
+    result.stdout.fnmatch_lines(["*BenchWarning: rules are checked over the traces of scenarios, and there is no *"])
 
 
 def test_strict_wants_each_rule_decided_in_each_scenario(room):

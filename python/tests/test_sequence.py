@@ -86,3 +86,13 @@ def test_an_unknown_event_is_refused():
     assert caught.value.number == "E29" and "CX" in caught.value.text
     with pytest.raises(fbsim.Fault, match="'T 5' is no constant"):
         check_sequence("E_DELAY", [["START"]], parameters={"DT": "T 5"})
+
+
+@pytest.mark.parametrize("step, said", [
+    (["CU", "CUO CV=99 CV=1"], "step 1: 'CUO CV=99 CV=1' has CV twice"),
+    (["CU", "CUO cv=1 Q=FALSE CV=1"], "step 1: 'CUO CV=1 Q=FALSE CV=1' has CV twice"),
+    (["R PV=1 PV=1"], "step 1: 'R PV=1 PV=1' has PV twice"),
+])
+def test_an_event_has_each_variable_once(step, said):
+    with pytest.raises(fbsim.InputFault, match=f"^{said}$"):
+        fbsim.check_sequence("E_CTU", [step], parameters={"PV": 2})

@@ -547,7 +547,16 @@ def test_programs_of_the_page_run_with_the_start_method_forkserver(tmp_path, top
     said = {}
     for name, text in programs.items():
         (tmp_path / name).write_text(text + CHECKED)
-        made = subprocess.run([sys.executable, name], cwd=tmp_path, env=env, capture_output=True, text=True, timeout=100)
+        words = [sys.executable, name]
+        made = subprocess.run(words, cwd=tmp_path, env=env, capture_output=True, text=True, timeout=100)
         assert made.returncode == 0, made.stderr
         said[name] = made.stdout
     assert "variants: 49, broken: 10, stopped: 0, failed: 0" in said["sweep.py"]
+
+
+@pytest.mark.parametrize("one, other", [
+    (THERE, THERE.lower()), ("stimuli[0].tick", "stimuli[00].TICK"), ("WORK.DT", "work.dt"),
+])
+def test_two_names_of_one_parameter_are_a_fault(one, other):
+    with pytest.raises(fbsim.InputFault, match="are one parameter$"):
+        sweep({one: [4], other: [7]})

@@ -18,7 +18,7 @@ KINDS: dict[str, Callable[[Any], bool]] = {
     "a text": lambda it: isinstance(it, str),
     "a number": lambda it: isinstance(it, int) and not isinstance(it, bool),
     "a number of seconds": lambda it: isinstance(it, (int, float)) and not isinstance(it, bool) and it > 0,
-    "a number from 0 to 100": lambda it: KINDS["a number"](it) and 0 <= it <= 100,
+    "a number from 1 to 100": lambda it: KINDS["a number"](it) and 1 <= it <= 100,
     "true or false": lambda it: isinstance(it, bool),
     "a table": lambda it: isinstance(it, dict),
     "a list of texts": lambda it: isinstance(it, list) and all(map(KINDS["a text"], it)),
@@ -30,7 +30,7 @@ RUN_KEYS = {
 }
 KEYS = {
     "decl": "a text", "types": "a list of texts", "deploy": "a text", "rules": "a text", "unapplied": "a list of texts",
-    "coverage": "a number from 0 to 100", "lint": "a table",
+    "coverage": "a number from 1 to 100", "lint": "a table",
     "scenario": "a list of tables", "sequence": "a list of tables", **RUN_KEYS
 }
 LINT_KEYS = {"deny": "a list of texts", "allow": "a list of texts"}
@@ -127,6 +127,8 @@ def read_bench(path: Path) -> Bench:
             whose = f": tests of the whole file have it ({', '.join(made)})" if name in made else ""
             raise InputFault(f"{path}: there are two with the name {name}{whose}")
     lint = checked(top["lint"], LINT_KEYS, (), f"{path}: lint") if "lint" in top else None
+    if lint is not None and "all" in lint.get("allow", []):
+        raise InputFault(f"{path}: lint: what allows all warnings asks for nothing")
     return Bench(application, rules, top.get("unapplied", []), top.get("coverage"), lint, scenarios, sequences)
 
 
@@ -141,6 +143,8 @@ def scenario_of(given: Mapping[str, Any], top: Mapping[str, Any], here: Path, wh
     if stop is not None and not STOP.fullmatch(stop):
         raise InputFault(f'{what}: stop is neither steps, divide or range nor a whole stop, as "2600 SORTER range"')
     stimuli, reference = (here / table[key] if key in table else None for key in ("stim", "reference"))
+    if reference is not None and status_of(table, what) == 2:
+        raise InputFault(f"{what}: a run that is refused has no trace, and so no reference")
     return Scenario(
         table["name"], stimuli, reference, status_of(table, what), refused, stop, table["horizon"], table.get("steps"),
         table.get("strict", False), table.get("timeout"), line

@@ -115,6 +115,8 @@ class BenchFile(ByText, pytest.File):  # type: ignore[misc]
         """Goes over its scenarios, its sequences, and whether its rules applied."""
         self.bench = read_bench(self.path)
         rules = names_of_rules(self.bench, self.path)
+        if rules and self.bench.sequences and not self.bench.scenarios:
+            self.warn(BenchWarning("rules are checked over the traces of scenarios, and there is no scenario"))
         scenarios = [
             ScenarioTests.from_parent(self, name=it.name, file=self, scenario=it, rules=rules)
             for it in self.bench.scenarios

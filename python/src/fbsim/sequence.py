@@ -53,6 +53,9 @@ def steps_of(given: Sequence[Sequence[str]]) -> list[Step]:
         for it in words[1:] if wait else words or [""]:
             if not EVENT.fullmatch(it):
                 raise InputFault(f"step {number}: {it!r} is neither an event, as CUO CV=1, nor wait N, N over 0")
+            for name in (names := re.findall(r"(\w+)=", it)):
+                if names.count(name) > 1:
+                    raise InputFault(f"step {number}: {it!r} has {name} twice")
         first, *outputs = map(line_of, words)
         rows: list[Row] = [] if wait else [(tick, f"{INSTANCE}.{first.event}", first.values)]
         steps.append(Step(texts[0], rows, outputs, tick, tick + (int(wait[1]) if wait else 1) - 1))

@@ -315,8 +315,12 @@ def planned(
     chosen = list(choose(lists, sample, seed))
     if not parameters or not chosen:
         raise InputFault("a sweep has at least one parameter, and each has at least one value")
+    places: dict[tuple[str, ...], str] = {}
     for name in parameters:
-        name in ("horizon", "steps") or place_of(name)
+        file, _, parts = (name, None, ()) if name in ("horizon", "steps") else place_of(name)
+        place = file, *(str(int(it)) if it.isdecimal() else it.upper() for it in parts)
+        if places.setdefault(place, name) != name:
+            raise InputFault(f"{places[place]} and {name} are one parameter")
     return plan, chosen
 
 
