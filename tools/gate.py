@@ -5,7 +5,7 @@ First it installs the system packages of tools/system_packages.txt that are miss
 (tools/system_packages.py). Without a crate it is the whole gate. In order:
 
 - pages: each example's page explains its trace, docs/FORMATS.md shows the explanations of the refusals, and what the documents name
-  exists (tools/documents.py); NOTICE names each library of the program with its licence (tools/notice.py); the traces of the examples
+  exists (tools/documents.py); the way of one event is as long and as deep as docs/maintain/ARCHITECTURE.md says (tools/way.py); NOTICE names each library of the program with its licence (tools/notice.py); the traces of the examples
   and the stored sessions are those of a second simulator (tools/interpreter.py, tools/second_session.py), and they keep the rules of their page (tools/bottling.py); the syntax files of
   editors/ colour declarations right (tools/editors.py); each place that answers "out of memory" or "file fault" is listed with its
   cause (tools/memory_answers.py)
@@ -86,6 +86,7 @@ import system_packages_test
 import texts_test
 import traces
 import waves
+import way
 import wide
 from kit import EACH, KEEPS, TOP, rt, rtlib, toolchain_with
 from lanes import in_lanes
@@ -369,7 +370,7 @@ def main(words):
     if not system_packages.set_up():
         print("0 passed, 1 failed")
         return 1
-    failed = explained.main([]) or documents.main() or notice.main() or bottling.main() or interpreter.main([]) or second_session.main() or editors.main() or memory_answers.main()
+    failed = explained.main([]) or documents.main() or notice.main() or bottling.main() or interpreter.main([]) or second_session.main() or editors.main() or memory_answers.main() or way.main()
     if subprocess.run(["examples/check"]).returncode or failed or cases_test.main() or texts_test.main() or figures_test.main() or system_packages_test.main() or memory_answers_test.main():
         print("0 passed, 1 failed")
         return 1

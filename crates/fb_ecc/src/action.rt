@@ -97,8 +97,9 @@ pub(crate) fn perform_all(
         Ended result (Acts block.now actions meter.old.left) (index block.now state frame.old meter.old.left emits.old) (index block.now state frame.new meter.new.left emits.new) }
     ensures kept { AreKept block.now frame.old meter.old emits.old frame.new meter.new emits.new }
 {
-    let program = chart.program();
-    let shown = chart.shown();
+    let parts = chart.parts();
+    let program = &parts.program;
+    let shown = parts.chart.shown.as_slice();
     for act in acts {
         meter.step()?;
         if let Some(algorithm) = act.algorithm {

@@ -83,17 +83,18 @@ pub fn react(
     ensures well_formed { StillFit block.now emits.old emits.new }
 {
     let event = event as usize;
-    let slots = state.chart.sampled()[event].as_slice();
+    let sampled = state.chart.parts().chart.sampled.as_slice();
+    let slots = sampled[event].as_slice();
     sample(slots, values, &mut state.frame);
     let mut present = Some(event);
     'links: loop {
         let exits = state.chart.leaving(state.state);
-        let program = state.chart.program();
-        let frame = &state.frame;
-        match first_exit(block, program, exits, present, frame, meter)? {
+        let parts = state.chart.parts();
+        match first_exit(block, &parts.program, exits, present, &state.frame, meter)? {
             Some(exit) => {
                 state.state = exit.target;
-                let row = &state.chart.rows()[exit.target];
+                let rows = parts.chart.rows.as_slice();
+                let row = &rows[exit.target];
                 let acts = row.acts.as_slice();
                 perform_all(block, &state.chart, acts, &mut state.frame, meter, emits)?;
                 if !goes_on(row, meter)? {

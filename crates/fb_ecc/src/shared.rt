@@ -5,7 +5,7 @@ ghost use Rattle.fb_ecc.specs.Numbered.{exits_at};
 ghost use Rattle.fb_ecc.specs.Opened.{IsOfDeclaration};
 ghost use Rattle.fb_ecc.specs.Programs.{IsSharedOf};
 
-use crate::chart::{Chart, ChartState, Exit};
+use crate::chart::{Chart, Exit};
 use crate::program::Program;
 use fb_types::{BasicType, Items};
 use std::alloc::{AllocError, Global};
@@ -72,40 +72,19 @@ impl SharedChart {
         Ok(SharedChart { shared })
     }
 
-    /// The algorithms and guards.
+    /// The chart, and the algorithms and guards.
     #[inline(always)]
-    pub(crate) fn program(&self) -> &Program
-        ensures { result.now ≡ self.now.program }
+    pub(crate) fn parts(&self) -> &Shared
+        ensures { result.now ≡ self.now }
     {
-        &self.shared.program
-    }
-
-    /// The states.
-    pub(crate) fn rows(&self) -> &[ChartState]
-        ensures { result.now ≡ self.now.chart.rows }
-    {
-        self.shared.chart.rows.as_slice()
-    }
-
-    /// The slots of the variables WITH each event input.
-    pub(crate) fn sampled(&self) -> &[Items<usize>]
-        ensures { result.now ≡ self.now.chart.sampled }
-    {
-        self.shared.chart.sampled.as_slice()
-    }
-
-    /// The slots of the variables WITH each event output.
-    pub(crate) fn shown(&self) -> &[Items<usize>]
-        ensures { result.now ≡ self.now.chart.shown }
-    {
-        self.shared.chart.shown.as_slice()
+        &self.shared
     }
 
     /// The transitions that leave the state at an index, or none where there is no state.
     pub(crate) fn leaving(&self, state: usize) -> &[Exit]
         ensures { result.now ≡ exits_at self.now.chart.rows state }
     {
-        match self.rows().get(state) {
+        match self.shared.chart.rows.get(state) {
             Some(row) => row.exits.as_slice(),
             None => &[],
         }

@@ -29,7 +29,8 @@ pub fn begin(state: &mut BasicState, block: &BasicType, event: u32, values: &[Va
     ensures block { IsBlockOf block.now state.new }
     ensures state { state.new.state ≡ state.old.state }
 {
-    let slots = state.chart.sampled()[event as usize].as_slice();
+    let sampled = state.chart.parts().chart.sampled.as_slice();
+    let slots = sampled[event as usize].as_slice();
     sample(slots, values, &mut state.frame);
 }
 
@@ -65,7 +66,7 @@ pub fn clear(
     ensures less { IfOk result (λ o. OnSome o (meter.new.left < meter.old.left)) }
 {
     let exits = state.chart.leaving(state.state);
-    let program = state.chart.program();
+    let program = &state.chart.parts().program;
     match first_exit(block, program, exits, present, &state.frame, meter)? {
         Some(exit) => {
             state.state = exit.target;
@@ -89,7 +90,7 @@ fn acts_of(rows: &[ChartState], state: usize) -> &[Act]
 pub fn action_count(state: &BasicState) -> usize
     ensures { (t : Basic) → IsSound t → IsBlockOf t state.now → result ≡ length (actions_of t (state_at t state.now.state)) }
 {
-    acts_of(state.chart.rows(), state.state).len()
+    acts_of(state.chart.parts().chart.rows.as_slice(), state.state).len()
 }
 
 /// Performs the action at an index among those of the state in which the chart is: its algorithm, and then its output
@@ -115,7 +116,7 @@ pub fn act(
     ensures kept { BeginsWith emits.old emits.new }
     ensures well_formed { StillFit block.now emits.old emits.new }
 {
-    let acts = acts_of(state.chart.rows(), state.state);
+    let acts = acts_of(state.chart.parts().chart.rows.as_slice(), state.state);
     let act = from_ref(&acts[index]);
     perform_all(block, &state.chart, act, &mut state.frame, meter, emits)
 }

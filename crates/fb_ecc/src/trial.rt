@@ -26,33 +26,8 @@ fn is_present(event: Option<usize>, present: Option<usize>) -> bool
     }
 }
 
-/// Whether the guard of a transition is true. One that has none is not looked up.
-#[inline(always)]
-fn is_guard_true(
-    block: &BasicType,
-    program: &Program,
-    exit: &Exit,
-    frame: &Frame,
-) -> Result<bool, Reason>
-    requires exit { IsExit block.now exit.now }
-    requires program { IsProgramOf block.now program.now }
-    requires declared { IsFrameOf block.now frame.now }
-    ensures { result ≡ guard_value (transition_at block.now exit.now.transition).condition.guard (values_of frame.now) }
-{
-    if !exit.is_guarded {
-        return Ok(true);
-    }
-    let transition = &block.transitions.as_slice()[exit.transition];
-    match &transition.condition.guard {
-        Some(guard) => {
-            let compiled = program.guard(exit.transition);
-            holds_compiled(guard, compiled, &program.layout, frame)
-        }
-        None => Ok(true),
-    }
-}
-
-/// Whether the condition of a transition is true. A guard after an event is evaluated only when that event is present.
+/// Whether the condition of a transition is true. A guard after an event is evaluated only when that event is present, and
+/// where there is no guard, none is looked up.
 #[inline(always)]
 fn is_true(
     block: &BasicType,
@@ -66,10 +41,19 @@ fn is_true(
     requires declared { IsFrameOf block.now frame.now }
     ensures { result ≡ (if is_number_present exit.now.event present then guard_value (transition_at block.now exit.now.transition).condition.guard (values_of frame.now) else Ok false) }
 {
-    if is_present(exit.event, present) {
-        is_guard_true(block, program, exit, frame)
-    } else {
-        Ok(false)
+    if !is_present(exit.event, present) {
+        return Ok(false);
+    }
+    if !exit.is_guarded {
+        return Ok(true);
+    }
+    let transition = &block.transitions.as_slice()[exit.transition];
+    match &transition.condition.guard {
+        Some(guard) => {
+            let compiled = program.guard(exit.transition);
+            holds_compiled(guard, compiled, &program.layout, frame)
+        }
+        None => Ok(true),
     }
 }
 

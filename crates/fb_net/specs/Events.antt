@@ -17,7 +17,6 @@ use Rattle.fb_types.specs.declared.run.Event.{Event}
 use Rattle.fb_types.specs.declared.run.Event.TheVariants as waits
 use Rattle.fb_net.specs.Outs.{Gathered, RepresentsOutcome, gathered, only_lines}
 use Rattle.fb_net.specs.declared.arrival.Arrival.{Arrival}
-use Rattle.fb_net.specs.declared.arrival.Arrival.TheVariants as arrives
 use Rattle.fb_net.specs.declared.outbox.Outbox.{Outbox}
 use Rattle.fb_system.specs.Ports.{IsCarried, IsTarget}
 use Rattle.fb_system.specs.Stimuli.{IsGivenRow, sets_of}
@@ -55,23 +54,7 @@ pub record IsEventIn (i : Inputs) (resource : ℕ) (e : Event) : Type 0 where
   pub numbered : IsNumbered i e
   pub here : (system_of i).resource (path_of (event_of i e)) ≡ resource
 
--- the event that arrives
-abbrev pub event_in : Arrival → Event
-event_in (arrives.Stimulus row) = waits.Stimulus row
-event_in (arrives.Timer k) = waits.Timer k
-event_in (arrives.Message m) = waits.Arrival m.now
-event_in (arrives.Local t number) = waits.Local t
-event_in (arrives.Given g) = waits.Given g.now
-
 -- ---- Keys
-
--- the key under which an event of a resource arrives
-abbrev pub key_at : (tick resource : ℕ) → Arrival → Key
-key_at tick r (arrives.Stimulus row) = stimulus_key tick r row
-key_at tick r (arrives.Timer k) = timer_key tick r k
-key_at tick r (arrives.Message m) = message_key tick r m.now.link m.now.number
-key_at tick r (arrives.Local t number) = local_key tick r number
-key_at tick r (arrives.Given g) = stimulus_key tick r g.now.row
 
 -- the key of an event that waits, by its number where it is a local event
 abbrev pub key_by : (tick resource number : ℕ) → Event → Key
@@ -80,6 +63,10 @@ key_by tick r n (waits.Timer k) = timer_key tick r k
 key_by tick r n (waits.Arrival m) = message_key tick r m.link m.number
 key_by tick r n (waits.Local t) = local_key tick r n
 key_by tick r n (waits.Given g) = stimulus_key tick r g.row
+
+-- the key under which an event of a resource arrives
+abbrev pub key_at : (tick resource : ℕ) → Arrival → Key
+key_at tick r a = key_by tick r a.number a.event.now
 
 -- The key has the class and the numbers of the event.
 abbrev pub IsKeyOf : Key → Event → Type 0

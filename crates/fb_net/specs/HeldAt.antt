@@ -1,22 +1,20 @@
 -- The copies of the variables of other resources, by the numbers of their instances (held copies are this project's profile).
-use Rattle.std.specs.Prelude.{◌≡◌, ◌≢◌, ◌==◌, ◌+◌, ◌*◌, ℕ, List, Option, Some, None, if◌then◌else◌, slice_get, unwrap_or}
+use Rattle.std.specs.Prelude.{◌≡◌, ◌≢◌, ◌+◌, ◌*◌, ℕ, List, [], Option, Some, if◌then◌else◌, slice_get, unwrap_or}
 use Rattle.fb_types.specs.declared.run.InstanceVariable.{InstanceVariable}
 use Rattle.fb_types.specs.declared.value.Value.{Value}
 use Rattle.fb_net.specs.declared.held_copies.HeldCopies.{HeldCopies}
-use Rattle.fb_net.specs.declared.held_copies.HeldRow.{HeldRow}
 
--- the side of the variables on the side of its instance on which a variable is
+-- the index of the side of its instance on which a variable is
 abbrev pub side_index_of : InstanceVariable → ℕ
 side_index_of x = 2 * x.instance + (if x.is_output then 1 else 0)
 
--- the copy of a variable in a row, if it is that of its side
-abbrev pub copy_in : Option HeldRow → InstanceVariable → Option Value
-copy_in None x = None
-copy_in (Some r) x = if r.side_index == side_index_of x then slice_get r.values x.variable else None
+-- the copies of a side; one without any has an empty list
+abbrev pub side_in : List (List Value) → ℕ → List Value
+side_in sides k = unwrap_or (slice_get sides k) []
 
 -- the copy of a variable, if there is one
 unfoldable pub held_at : HeldCopies → InstanceVariable → Option Value
-held_at h x = copy_in (slice_get h.rows (unwrap_or (slice_get h.indexes (side_index_of x)) 0)) x
+held_at h x = slice_get (side_in h.sides (side_index_of x)) x.variable
 
 -- The copy of a variable has another value, if there is one, and all others stay.
 pub record IsSet (old : HeldCopies) (x : InstanceVariable) (v : Value) (new : HeldCopies) : Type 0 where

@@ -1,13 +1,11 @@
 //! The blocks, the shells and the held copies of one resource.
 
 ghost use Rattle.std.specs.Prelude.{◌≡◌, ◌<◌, length, ◌∷◌, ◌↔◌, option_map, slice_get, true, false, unwrap_or, IsTrue};
-ghost use Rattle.fb_types.specs.Flat.{zero_value};
 ghost use Rattle.fb_types.specs.Reactions.{World};
 ghost use Rattle.fb_types.specs.Headline.{system_of};
 ghost use Rattle.fb_types.specs.OfSystem.{IsInstance, path_at};
 ghost use Rattle.fb_system.specs.OfSystem.{IsSourceOf, IsVariable, variable_of};
 ghost use Rattle.fb_net.specs.Changes.{Changes, Holds, ShowsInside, input_sampled, output_shown};
-ghost use Rattle.fb_net.specs.HeldAt.{held_at};
 ghost use Rattle.fb_net.specs.Worlds.{InForest, IsForest, Reads, Represents, Samples, Shows, Stands, index_in, value_in, way_in, with_shell_at};
 ghost use Rattle.fb_net.specs.OfSystem.{IsComposite, TakesSamples};
 
@@ -77,20 +75,9 @@ impl Forest {
         }
     }
 
-    /// The index of an instance's shell among those of the resource, in which the instance is.
+    /// The index of the shell of an instance that is in the resource, among those of the resource.
     #[inline(always)]
-    pub fn shell_index(&self, instance: u32) -> usize
-        ensures { result ≡ index_in self.now.shell_indexes instance }
-    {
-        match self.shell_indexes.get(instance as usize) {
-            Some(shell_index) => *shell_index as usize,
-            None => 0,
-        }
-    }
-
-    /// The same as `shell_index`, for an instance that is known to have its index: nothing is compared.
-    #[inline(always)]
-    pub(crate) fn shell_index_of(&self, instance: u32) -> usize
+    pub(crate) fn shell_index(&self, instance: u32) -> usize
         requires { instance < length self.now.shell_indexes }
         ensures { result ≡ index_in self.now.shell_indexes instance }
     {
@@ -119,7 +106,7 @@ impl Forest {
     {
         // for the prover: the inputs are accepted
         system.facts();
-        let shell_index = self.shell_index_of(instance);
+        let shell_index = self.shell_index(instance);
         &self.shells.as_slice()[shell_index]
     }
 
@@ -130,7 +117,7 @@ impl Forest {
         ensures* writes_back { sem 𝓛 (LendsIf the_row shell_row self.entry result (with_shell_at self.old instance) self.old) }
         ensures value { option_map (λ s. s.now) result ≡ slice_get self.old.shells (index_in self.old.shell_indexes instance) }
     {
-        let shell_index = self.shell_index_of(instance);
+        let shell_index = self.shell_index(instance);
         self.shells.get_mut(shell_index)
     }
 
@@ -146,17 +133,6 @@ impl Forest {
         value_of(shell.published.as_slice(), output.variable)
     }
 
-    /// The held copy of a variable of another resource, or 0 where there is none.
-    #[inline(always)]
-    fn held(&self, source: &InstanceVariable) -> &Value
-        ensures { result.now ≡ unwrap_or (held_at self.now.held source.now) zero_value }
-    {
-        match self.held.get(source) {
-            Some(value) => value,
-            None => &NOTHING,
-        }
-    }
-
     /// What a source shows in the resource: what connections see at it, or the held copy where it is in another
     /// resource. The source says where it is.
     #[inline(always)]
@@ -169,7 +145,10 @@ impl Forest {
         // for the prover: the inputs are accepted
         system.facts();
         if !source.here {
-            return self.held(&source.variable);
+            return match self.held.get(&source.variable) {
+                Some(value) => value,
+                None => &NOTHING,
+            };
         }
         let shell = self.shell(system, source.variable.instance);
         if source.variable.is_output {

@@ -8,7 +8,7 @@ ghost use Rattle.fb_types.specs.OfSystem.{IsInstance, IsResource, opening_state,
 ghost use Rattle.fb_laws.specs.OfSystem.{AreTyped, IsTypedEvent};
 ghost use Rattle.fb_net.specs.Outs.{StillAreOuts};
 ghost use Rattle.fb_net.specs.Worlds.{IsForest, Represents, ShellRepresents, Stands};
-ghost use Rattle.fb_net.specs.Events.{HasTaken, IsEventIn, Remembered, event_in, event_of, key_at};
+ghost use Rattle.fb_net.specs.Events.{HasTaken, IsEventIn, Remembered, event_of, key_at};
 
 use crate::arrival::Arrival;
 use crate::block::Block;
@@ -147,7 +147,11 @@ impl Tree {
     /// };
     /// let mut meter = Meter { left: 100 };
     /// assert!(rt; system.count() == 1 && system.resource(0) == 0);
-    /// tree.take(&system, Arrival::Timer(0), 0, &mut meter, &mut outbox)
+    /// let arrival = Arrival {
+    ///     event: &Event::Timer(0),
+    ///     number: 0,
+    /// };
+    /// tree.take(&system, arrival, 0, &mut meter, &mut outbox)
     ///     .expect(&rt, "taken");
     /// assert!(rt; outbox.lines.len() == 1 && outbox.outs.is_empty());
     /// forget((tree, outbox));
@@ -162,12 +166,12 @@ impl Tree {
         meter: &mut Meter,
         outbox: &mut Outbox,
     ) -> Result<(), Halt>
-        requires event { IsEventIn system.now self.old.resource (event_in arrival) }
+        requires event { IsEventIn system.now self.old.resource arrival.event.now }
         requires named { IsResource system.now self.old.resource }
         requires early { tick ≤ 10 ^ 12 }
         requires belongs { (w : World) × IsForest system.now self.old w × AreTyped system.now w }
-        requires typed { IsTypedEvent system.now (event_of system.now (event_in arrival)) }
-        ensures taken { HasTaken system.now (key_at tick self.old.resource arrival.entry) (event_in arrival.entry) self.old outbox.old meter.old.left result self.new meter.new.left outbox.new }
+        requires typed { IsTypedEvent system.now (event_of system.now arrival.event.now) }
+        ensures taken { HasTaken system.now (key_at tick self.old.resource arrival.entry) arrival.entry.event.now self.old outbox.old meter.old.left result self.new meter.new.left outbox.new }
         ensures outs { Remembered result (StillAreOuts system.now self.old outbox.old self.new outbox.new) }
         ensures fewer { meter.new.left ≤ meter.old.left }
         ensures resource { self.new.resource ≡ self.old.resource }
@@ -175,24 +179,16 @@ impl Tree {
         // Also where memory runs out.
         ensures whole { (w : World) × IsForest system.now self.new w }
     {
-        // for the prover: there are at most 256 resources
-        system.facts();
-        let key = arrival.key(tick, self.forest.resource as u32);
-        let mut taking = Taking {
-            system,
-            key: &key,
-            forest: &mut self.forest,
-            outbox,
-        };
-        taking.take_event(arrival, meter, &mut self.emits)
+        let key = arrival.key(tick, self.resource());
+        self.deliver(system, arrival.event, &key, meter, outbox)
     }
 
-    /// The same as `take`, for an event that waited under its key. It is read where it waits.
+    /// The same as `take`, for an event that waited under its key.
     ///
     /// # Errors
     /// As `take`.
     #[inline(always)]
-    pub fn take_waiting(
+    pub fn deliver(
         &mut self,
         system: &System,
         event: &Event,
@@ -222,6 +218,6 @@ impl Tree {
             forest: &mut self.forest,
             outbox,
         };
-        taking.take_event(Arrival::of(event), meter, &mut self.emits)
+        taking.arrive(event, meter, &mut self.emits)
     }
 }

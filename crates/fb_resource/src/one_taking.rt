@@ -154,7 +154,7 @@ pub fn take(
             raised: false,
         });
     }
-    let end = tree.take_waiting(
+    let end = tree.deliver(
         system,
         &least.event,
         &least.key,

@@ -88,6 +88,9 @@ fn instance_of(system: &System, event: &Event) -> u32
     }
 }
 
+// Fast path: a local event that was put out alone moves into `Least`, and mostly it is the next one. Without it and
+// `count_lone`, an event of `towers` and `fed_chains` takes 9 to 13 % more instructions.
+
 /// The target of the local event that was put out, if nothing else was, nothing is asked of the timer and the resource
 /// goes on, as mostly.
 #[inline(always)]
@@ -109,6 +112,8 @@ pub(crate) fn lone_of(outbox: &Outbox, stops: bool) -> Option<&Target>
         _ => None,
     }
 }
+
+// Fast path: without it, an event of `token` takes 4 % more instructions.
 
 /// Posts the message that was put out, where nothing else was. All else is known before the message leaves the list: so
 /// it moves once, straight to its place.

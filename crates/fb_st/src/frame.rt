@@ -132,11 +132,7 @@ impl Frame {
     pub fn value_at(&self, slot: usize) -> Value
         ensures { MatchOption (slice_get (declared_in self.now) slot) (result ≡ zero_value) (λ d. result ≡ values_of self.now d.0) }
     {
-        if self.slots.has_index(slot) {
-            self.slots.value(slot)
-        } else {
-            Value::Whole(0)
-        }
+        self.slots.value(slot)
     }
 
     /// Gives the variable of a slot a value and does not check its type, as when a value is sampled. A slot without a
@@ -146,9 +142,7 @@ impl Frame {
         ensures value { MatchOption (slice_get (declared_in self.old) slot) (self.new ≡ self.old) (λ d. values_of self.new ≡ with_value d.0 value.now (values_of self.old)) }
         ensures declared { declared_in self.new ≡ declared_in self.old }
     {
-        if self.slots.has_index(slot) {
-            self.slots.set(slot, value);
-        }
+        self.slots.set(slot, value);
     }
 
     /// Gives a variable a value.

@@ -1,6 +1,6 @@
 //! The variables of a block type, by slot: their names and types.
 
-ghost use Rattle.std.specs.Prelude.{◌≡◌, ◌<◌, map, true, false, length, IfOk, IfErr};
+ghost use Rattle.std.specs.Prelude.{◌≡◌, ◌<◌, map, true, false, length, IfOk, IfErr, MatchOption};
 ghost use Rattle.fb_types.specs.Repeated.{Twice};
 ghost use Rattle.fb_types.specs.Values.{fits, whole};
 ghost use Rattle.fb_st.specs.Fitting.{name_at, ty_at, value_of_word};
@@ -27,21 +27,19 @@ impl Model for Layout {
     ghost invariant = { λ l. ¬ (Twice (map (λ d. d.0) l.variables.items)) };
 }
 
-/// The word of a number in a variable of this type.
-///
-/// # Errors
-/// `Reason::Range` if the type does not hold the number.
-pub(crate) fn word_of(ty: Ty, number: i128) -> Result<i64, Reason>
-    ensures ok { IfOk result (λ word. (fits ty (Value.Whole number) ≡ true) × (value_of_word ty word ≡ Value.Whole number)) }
-    ensures err { IfErr result (λ r. (r ≡ Reason.Range) × (fits ty (Value.Whole number) ≡ false)) }
+/// The word of a value, if a variable of this type holds the value.
+#[inline(always)]
+pub(crate) fn word_of(ty: Ty, value: &Value) -> Option<i64>
+    ensures { MatchOption result (fits ty value.now ≡ false) (λ z. (fits ty value.now ≡ true) × (value_of_word ty z ≡ value.now)) }
 {
-    if !ty.holds(Value::Whole(number)) {
-        return Err(Reason::Range);
-    }
-    match i64::try_from(number) {
-        Ok(word) => Ok(word),
-        // of type ULINT: the bits of the number without a sign
-        Err(_) => Ok((number - 18_446_744_073_709_551_616) as i64),
+    match value {
+        Value::Bool(truth) if ty.holds(*value) => Some(i64::from(*truth)),
+        Value::Whole(number) if ty.holds(*value) => match i64::try_from(*number) {
+            Ok(word) => Some(word),
+            // of type ULINT: the bits of the number without a sign
+            Err(_) => Some((*number - 18_446_744_073_709_551_616) as i64),
+        },
+        _ => None,
     }
 }
 
@@ -89,7 +87,10 @@ impl Layout {
         ensures ok { IfOk result (λ word. (fits (ty_at self.now slot) (Value.Whole number) ≡ true) × (value_of_word (ty_at self.now slot) word ≡ Value.Whole number)) }
         ensures err { IfErr result (λ r. (r ≡ Reason.Range) × (fits (ty_at self.now slot) (Value.Whole number) ≡ false)) }
     {
-        word_of(self.ty(slot), number)
+        match word_of(self.ty(slot), &Value::Whole(number)) {
+            Some(word) => Ok(word),
+            None => Err(Reason::Range),
+        }
     }
 
     /// The number of a word in the variable of a slot. A truth value counts as 0.

@@ -92,9 +92,10 @@ fn unsigned(word: i64) -> Option<i64>
     if 0 <= word { Some(word) } else { None }
 }
 
-/// The value of a number, of a variable, or of an operator between two such operands.
+/// The number of any expression. A number, a variable, or an operator between two of these needs no call.
+#[cycle(short)]
 #[inline(always)]
-fn leaf(expr: &NumberExpr, words: &[i64]) -> Option<i64>
+pub(crate) fn number(expr: &NumberExpr, words: &[i64]) -> Option<i64>
     requires { fits_number (length words.now) (number_said expr.now) ≡ true }
     ensures { IfSome result (λ z. number_at (number_said expr.now) words.now ≡ Ok z) }
 {
@@ -111,25 +112,12 @@ fn leaf(expr: &NumberExpr, words: &[i64]) -> Option<i64>
         NumberExpr::DivideConstant(i, number) => quotient(word(words, *i), *number),
         NumberExpr::ModuloSlots(i, j) => remainder(word(words, *i), word(words, *j)),
         NumberExpr::ModuloConstant(i, number) => remainder(word(words, *i), *number),
-        _ => None,
+        // Not the result as it is: the built program would test it again where it is known.
+        _ => Some(any_number(expr, words)?),
     }
 }
 
-/// The number of any expression. An operator between variables and numbers needs no call.
-#[cycle(short)]
-#[inline(always)]
-pub(crate) fn number(expr: &NumberExpr, words: &[i64]) -> Option<i64>
-    requires { fits_number (length words.now) (number_said expr.now) ≡ true }
-    ensures { IfSome result (λ z. number_at (number_said expr.now) words.now ≡ Ok z) }
-{
-    match leaf(expr, words) {
-        Some(number) => Some(number),
-        // As in `truth`.
-        None => Some(any_number(expr, words)?),
-    }
-}
-
-/// The same as `number`, for what is no leaf.
+/// The same as `number`, for all that needs a call.
 #[cycle(short)]
 #[inline(never)]
 fn any_number(expr: &NumberExpr, words: &[i64]) -> Option<i64>

@@ -3,6 +3,7 @@
 ghost use Rattle.std.specs.Prelude.{◌≡◌, ◌<◌, ◌≤◌, ◌++◌, ◌∷◌, [], length, slice_get, slice_set, unwrap_or, Some, None, MatchOption, OnOk, OnErr, IfSome, true, false, ◌&&◌, position};
 ghost use Rattle.std.specs.Bool.{OnFalse, OnTrue};
 ghost use Rattle.std.specs.List.{list_any};
+ghost use Rattle.fb_types.specs.Flat.{zero_value};
 ghost use Rattle.fb_types.specs.Names.{same_name};
 ghost use Rattle.fb_types.specs.Repeated.{Twice};
 ghost use Rattle.fb_types.specs.Values.{fits, truth_of};
@@ -13,7 +14,7 @@ ghost use Rattle.fb_st.specs.Fitting.{expr_of_truth, right_truth, value_of_word}
 use crate::compiled::TruthExpr;
 use crate::exact;
 use crate::frame::Slot;
-use crate::layout::{self, Layout};
+use crate::layout::{Layout, word_of};
 use crate::running::is_true;
 use fb_types::{Name, Reason, Reference, Ty, Value};
 use std::alloc::{AllocError, Global};
@@ -58,18 +59,6 @@ fn value_of(ty: Ty, word: i64) -> Value
         Ty::Bool => Value::Bool(word != 0),
         Ty::Ulint => Value::Whole(exact::unsigned(word)),
         _ => Value::Whole(i128::from(word)),
-    }
-}
-
-/// The word of a value, if the type holds the value.
-#[inline(always)]
-fn word_of(ty: Ty, value: &Value) -> Option<i64>
-    ensures { MatchOption result (fits ty value.now ≡ false) (λ z. (fits ty value.now ≡ true) × (value_of_word ty z ≡ value.now)) }
-{
-    match value {
-        Value::Bool(truth) if ty.holds(*value) => Some(i64::from(*truth)),
-        Value::Bool(_) => None,
-        Value::Whole(number) => layout::word_of(ty, *number).ok(),
     }
 }
 
@@ -207,22 +196,15 @@ impl SlotList {
         index
     }
 
-    /// Whether there is a variable at an index.
-    #[inline(always)]
-    pub(crate) fn has_index(&self, index: usize) -> bool
-        ensures there { OnTrue result (index < length self.now) }
-        ensures past { OnFalse result (length self.now ≤ index) }
-    {
-        index < self.kept.len()
-    }
-
-    /// The value of the variable at an index.
+    /// The value of the variable at an index. 0 where there is no variable.
     #[inline(always)]
     pub(crate) fn value(&self, index: usize) -> Value
-        requires { index < length self.now }
-        ensures { (s : Slot) → slice_get self.now index ≡ Some s → result ≡ s.value }
+        ensures there { (s : Slot) → slice_get self.now index ≡ Some s → result ≡ s.value }
+        ensures past { slice_get self.now index ≡ None → result ≡ zero_value }
     {
-        let kept = &self.kept[index];
+        let Some(kept) = self.kept.get(index) else {
+            return Value::Whole(0);
+        };
         match kept.odd {
             Some(value) => value,
             None => value_of(kept.ty, self.words[index]),
@@ -238,13 +220,16 @@ impl SlotList {
         self.kept[index].ty.holds(value)
     }
 
-    /// Gives the variable at an index a value. Mostly its type holds the value, as it held all before.
+    /// Gives the variable at an index a value, if there is one. Mostly its type holds the value, as it held all before.
     #[inline(always)]
     pub(crate) fn set(&mut self, index: usize, value: &Value)
-        requires { index < length self.old }
-        ensures { (s : Slot) → slice_get self.old index ≡ Some s → self.new ≡ slice_set self.old index (record s { value = value.now }) }
+        ensures there { (s : Slot) → slice_get self.old index ≡ Some s → self.new ≡ slice_set self.old index (record s { value = value.now }) }
+        ensures past { slice_get self.old index ≡ None → self.new ≡ self.old }
     {
-        match word_of(self.kept[index].ty, value) {
+        let Some(kept) = self.kept.get(index) else {
+            return;
+        };
+        match word_of(kept.ty, value) {
             Some(word) if self.is_plain => self.words[index] = word,
             _ => self.set_any(index, value),
         }

@@ -19,7 +19,6 @@ pub use Rattle.fb_net.specs.declared.block.Block.TheOpen.{Block-F}
 pub use Rattle.fb_net.specs.declared.outbox.Outbox.{Outbox}
 pub use Rattle.fb_net.specs.declared.outbox.Out.{Out}
 pub use Rattle.fb_net.specs.declared.held_copies.HeldCopies.{HeldCopies}
-pub use Rattle.fb_net.specs.declared.held_copies.HeldRow.{HeldRow}
 pub use Rattle.fb_net.specs.declared.resource.Forest.{Forest}
 pub use Rattle.fb_net.specs.declared.shell.Shell.{Shell}
 pub use Rattle.fb_st.specs.Frames.{values_of}

@@ -1,5 +1,5 @@
 pub mod NamesDiffer
-pub mod HeldRows
+pub mod HeldSides
 pub mod HeldCopyAlone
 pub mod ShownValues
 pub mod Sampled

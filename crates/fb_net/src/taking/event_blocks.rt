@@ -50,7 +50,7 @@ pub fn react_event(
     // for the prover: the inputs are accepted
     system.facts();
     let (first, below) = forest.way(system, at.instance);
-    let shell_index = forest.shell_index_of(at.instance);
+    let shell_index = forest.shell_index(at.instance);
     let Some(shell) = forest.shells.get(shell_index) else {
         unreachable!()
     };

@@ -1,10 +1,8 @@
 //! Taking an event, by what it is and where it arrives.
 
 ghost use Rattle.std.specs.Prelude.{◌≢◌, ℕ, Ok, OnOk};
-ghost use Rattle.fb_net.specs.Events.{event_in};
 ghost use Rattle.fb_net.specs.Steps.{HasBrought, IsSame, MayTake, StaysWhole, WasTaken};
 
-use crate::arrival::Arrival;
 use crate::taking::Taking;
 use crate::taking::bring::{hold_carried, set_slots};
 use crate::taking::event_blocks::expire_event;
@@ -17,25 +15,25 @@ impl Taking<'_> {
     /// Sets what an event brings, the slots of a stimulus or the held copies of a message, and says where it arrives. The
     /// event is no timer.
     #[inline(always)]
-    fn bring(&mut self, arrival: Arrival<'_>) -> Target
-        requires may { MayTake self.old (event_in arrival) }
-        requires no_timer { (instance : ℕ) → arrival ≢ Arrival.Timer instance }
-        ensures { HasBrought self.old (event_in arrival.entry) result self.new }
+    fn bring(&mut self, event: &Event) -> Target
+        requires may { MayTake self.old event.now }
+        requires no_timer { (instance : ℕ) → event.now ≢ Event.Timer instance }
+        ensures { HasBrought self.old event.now result self.new }
     {
         let system = self.system;
-        match arrival {
-            Arrival::Stimulus(row) => {
-                let stimulus = system.stimulus(row);
+        match event {
+            Event::Stimulus(row) => {
+                let stimulus = system.stimulus(*row);
                 set_slots(self.forest, system, stimulus.target.instance, stimulus.sets);
                 stimulus.target
             }
-            Arrival::Timer(_) => unreachable!(),
-            Arrival::Message(message) => {
+            Event::Timer(_) => unreachable!(),
+            Event::Arrival(message) => {
                 hold_carried(self.forest, system, &message.values);
                 message.target
             }
-            Arrival::Local { target, .. } => target,
-            Arrival::Given(given) => {
+            Event::Local(target) => *target,
+            Event::Given(given) => {
                 let sets = given.sets.as_slice();
                 set_slots(self.forest, system, given.target.instance, sets);
                 given.target
@@ -44,8 +42,8 @@ impl Taking<'_> {
     }
 
     /// Takes the timer of an instance. Nothing happens where it is no event block. The error is that memory runs out: it
-    /// is returned in a register, where that of `take_event`, which may be a stop, goes through memory.
-    fn take_timer(&mut self, instance: u32, emits: &mut Emits) -> Result<(), AllocError>
+    /// is returned in a register, where that of `arrive`, which may be a stop, goes through memory.
+    fn expire(&mut self, instance: u32, emits: &mut Emits) -> Result<(), AllocError>
         requires { MayTake self.old (Event.Timer instance) }
         ensures taken { OnOk result ((left : ℕ) → WasTaken self.old (Event.Timer instance) left (Ok tt) self.new left) }
         ensures whole { StaysWhole self.old self.new }
@@ -80,20 +78,20 @@ impl Taking<'_> {
     /// # Errors
     /// `Halt::Stop` where a reason ends the reaction: what was put out before it is kept.
     #[inline(always)]
-    pub fn take_event(
+    pub fn arrive(
         &mut self,
-        arrival: Arrival<'_>,
+        event: &Event,
         meter: &mut Meter,
         emits: &mut Emits,
     ) -> Result<(), Halt>
-        requires { MayTake self.old (event_in arrival) }
-        ensures taken { WasTaken self.old (event_in arrival.entry) meter.old.left result self.new meter.new.left }
+        requires { MayTake self.old event.now }
+        ensures taken { WasTaken self.old event.now meter.old.left result self.new meter.new.left }
         ensures same { IsSame self.old self.new }
     {
-        if let Arrival::Timer(instance) = arrival {
-            return Ok(self.take_timer(instance, emits)?);
+        if let Event::Timer(instance) = event {
+            return Ok(self.expire(*instance, emits)?);
         }
-        let at = self.bring(arrival);
+        let at = self.bring(event);
         let system = self.system;
         // for the prover: the inputs are accepted
         system.facts();

@@ -20,6 +20,18 @@ kept_at (j ∷ ks) [] i k len at = absurd (omega arith)
 kept_at (j ∷ ks) (z ∷ zs) zero k len at = let same : j ≡ k = cc in ap (λ (x : Kept). Some (shown x z)) same
 kept_at (j ∷ ks) (z ∷ zs) (suc i) k len at = kept_at ks zs i k (omega arith) at
 
+-- no variable there
+pub kept_past : (ks : List Kept) (zs : List ℤ) (i : ℕ) → length zs ≡ length ks → slice_get ks i ≡ None → slice_get (kept_as ks zs) i ≡ None
+kept_past [] zs i len at = refl
+kept_past (k ∷ ks) [] i len at = absurd (omega arith)
+kept_past (k ∷ ks) (z ∷ zs) zero len at = absurd cc
+kept_past (k ∷ ks) (z ∷ zs) (suc i) len at = kept_past ks zs i (omega arith) at
+
+pub kept_there : (ks : List Kept) (i : ℕ) (k : Kept) → slice_get ks i ≡ Some k → i < length ks
+kept_there [] i k at = absurd cc
+kept_there (j ∷ ks) zero k at = omega arith
+kept_there (j ∷ ks) (suc i) k at = let h = kept_there ks i k at in omega arith
+
 -- a word more of the same variable
 pub kept_set_word : (ks : List Kept) (zs : List ℤ) (i : ℕ) (k : Kept) (y : ℤ) → length zs ≡ length ks → slice_get ks i ≡ Some k → kept_as ks (set zs i y) ≡ set (kept_as ks zs) i (shown k y)
 kept_set_word [] zs i k y len at = absurd cc

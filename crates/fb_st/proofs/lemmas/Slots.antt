@@ -1,5 +1,5 @@
 -- What the variables hold, by the index of a name, and after a write there.
-use Rattle.fb_types.proofs.Common.{◌≡◌, ℕ, zero, suc, ◌<◌, ◌≤◌, length, ◌||◌, Bool, true, false, cond, List, [], ◌∷◌, set, map, Option, Some, None, refl, sym, ◌∙◌, ap, subst, arith, fun_ext, slice_get, option_map, option_and_then, MatchOption, true≢false, slice_get-map, slice_get_past, Name, same_name, with_value, named, Twice, zero_value}
+use Rattle.fb_types.proofs.Common.{◌≡◌, ℕ, zero, suc, ◌<◌, length, ◌||◌, Bool, true, false, cond, List, [], ◌∷◌, set, map, Option, Some, None, refl, sym, ◌∙◌, ap, subst, arith, fun_ext, slice_get, option_map, option_and_then, MatchOption, true≢false, slice_get-map, Name, same_name, with_value, named, Twice, zero_value}
 use Rattle.fb_types.specs.declared.value.Value.{Value}
 use Rattle.fb_types.specs.declared.value.Ty.{Ty}
 use Rattle.std.proofs.lemmas.List.Quantifiers.{position-Some}
@@ -143,31 +143,43 @@ own_index slots i s once at = index_of_once (λ (t : Slot). t.name) s.name slots
 declared_at : (slots : List Slot) (i : ℕ) (s : Slot) → slice_get slots i ≡ Some s → slice_get (declared_in slots) i ≡ Some (s.name, s.ty)
 declared_at slots i s at = slice_get-map (λ (t : Slot). (t.name, t.ty)) slots i ∙ ap (option_map (λ (t : Slot). (t.name, t.ty))) at
 
-undeclared_at : (slots : List Slot) (i : ℕ) → length slots ≤ i → slice_get (declared_in slots) i ≡ None
-undeclared_at slots i past = slice_get-map (λ (t : Slot). (t.name, t.ty)) slots i ∙ ap (option_map (λ (t : Slot). (t.name, t.ty))) (slice_get_past slots i past)
+undeclared_at : (slots : List Slot) (i : ℕ) → slice_get slots i ≡ None → slice_get (declared_in slots) i ≡ None
+undeclared_at slots i past = slice_get-map (λ (t : Slot). (t.name, t.ty)) slots i ∙ ap (option_map (λ (t : Slot). (t.name, t.ty))) past
 
 pub read_at :
-    (slots : List Slot) (i : ℕ) (r : Value) → ¬ (Twice (names_of slots)) → i < length slots → ((s : Slot) → slice_get slots i ≡ Some s → r ≡ s.value)
+    (slots : List Slot) (i : ℕ) (r : Value) → ¬ (Twice (names_of slots)) → ((s : Slot) → slice_get slots i ≡ Some s → r ≡ s.value) → (slice_get slots i ≡ None → r ≡ zero_value)
     → MatchOption (slice_get (declared_in slots) i) (r ≡ zero_value) (λ d. r ≡ values_of slots d.0)
-read_at slots i r once within reads =
-    let s = slot_there slots i within in
+read_at slots i r once there past =
     let P : Option Declared → Type 0 = λ o. MatchOption o (r ≡ zero_value) (λ d. r ≡ values_of slots d.0) in
-    subst P (sym (declared_at slots i s.0 s.1)) (reads s.0 s.1 ∙ value_here slots s.0.name i s.0 (own_index slots i s.0 once s.1) s.1)
+    elim (slice_get slots i) as (λ o. slice_get slots i ≡ o → P (slice_get (declared_in slots) i)) [
+      | None ↦ λ at. subst P (sym (undeclared_at slots i at)) (past at)
+      | Some s ↦ λ at. subst P (sym (declared_at slots i s at)) (there s at ∙ value_here slots s.name i s (own_index slots i s once at) at)
+    ] refl
 
-pub read_past : (slots : List Slot) (i : ℕ) (r : Value) → length slots ≤ i → r ≡ zero_value → MatchOption (slice_get (declared_in slots) i) (r ≡ zero_value) (λ d. r ≡ values_of slots d.0)
-read_past slots i r past is =
-    let P : Option Declared → Type 0 = λ o. MatchOption o (r ≡ zero_value) (λ d. r ≡ values_of slots d.0) in
-    subst P (sym (undeclared_at slots i past)) is
+-- What a write at a slot makes of variables, if there is one at the slot.
+pub record IsWrite (slots new : List Slot) (i : ℕ) (v : Value) : Type 0 where
+  pub there : (s : Slot) → slice_get slots i ≡ Some s → new ≡ set slots i (record s { value = v })
+  pub past : slice_get slots i ≡ None → new ≡ slots
 
-pub write_at :
-    (slots new : List Slot) (i : ℕ) (v : Value) → ¬ (Twice (names_of slots)) → i < length slots → ((s : Slot) → slice_get slots i ≡ Some s → new ≡ set slots i (record s { value = v }))
-    → MatchOption (slice_get (declared_in slots) i) (new ≡ slots) (λ d. values_of new ≡ with_value d.0 v (values_of slots))
-write_at slots new i v once within writes =
-    let s = slot_there slots i within in
-    let P : Option Declared → Type 0 = λ o. MatchOption o (new ≡ slots) (λ d. values_of new ≡ with_value d.0 v (values_of slots)) in
-    subst P (sym (declared_at slots i s.0 s.1)) (ap values_of (writes s.0 s.1) ∙ written slots s.0.name i s.0 v (own_index slots i s.0 once s.1) s.1)
+module _ (slots new : List Slot) (i : ℕ) (v : Value) (writes : IsWrite slots new i v) where
+  pub write_at : ¬ (Twice (names_of slots)) → MatchOption (slice_get (declared_in slots) i) (new ≡ slots) (λ d. values_of new ≡ with_value d.0 v (values_of slots))
+  write_at once =
+      let P : Option Declared → Type 0 = λ o. MatchOption o (new ≡ slots) (λ d. values_of new ≡ with_value d.0 v (values_of slots)) in
+      elim (slice_get slots i) as (λ o. slice_get slots i ≡ o → P (slice_get (declared_in slots) i)) [
+        | None ↦ λ at. subst P (sym (undeclared_at slots i at)) (writes.past at)
+        | Some s ↦ λ at. subst P (sym (declared_at slots i s at)) (ap values_of (writes.there s at) ∙ written slots s.name i s v (own_index slots i s once at) at)
+      ] refl
 
-pub write_past : (slots : List Slot) (i : ℕ) (v : Value) → length slots ≤ i → MatchOption (slice_get (declared_in slots) i) (slots ≡ slots) (λ d. values_of slots ≡ with_value d.0 v (values_of slots))
-write_past slots i v past =
-    let P : Option Declared → Type 0 = λ o. MatchOption o (slots ≡ slots) (λ d. values_of slots ≡ with_value d.0 v (values_of slots)) in
-    subst P (sym (undeclared_at slots i past)) refl
+  pub write_declared : declared_in new ≡ declared_in slots
+  write_declared =
+      elim (slice_get slots i) as (λ o. slice_get slots i ≡ o → declared_in new ≡ declared_in slots) [
+        | None ↦ λ at. ap declared_in (writes.past at)
+        | Some s ↦ λ at. ap declared_in (writes.there s at) ∙ set_declared slots i s v at
+      ] refl
+
+  pub write_names : names_of new ≡ names_of slots
+  write_names =
+      elim (slice_get slots i) as (λ o. slice_get slots i ≡ o → names_of new ≡ names_of slots) [
+        | None ↦ λ at. ap names_of (writes.past at)
+        | Some s ↦ λ at. ap names_of (writes.there s at) ∙ set_names slots i s v at
+      ] refl

@@ -20,7 +20,6 @@ mod narrow;
 mod numbers;
 mod readers;
 mod shared;
-mod shell_indexes;
 mod timers;
 mod wiring;
 

@@ -12,11 +12,11 @@ use Rattle.fb_ecc.specs.Actions.{IsAlgorithm}
 use Rattle.fb_ecc.specs.Indexes.{index}
 use Rattle.fb_ecc.specs.Programs.{IsProgramOf}
 use Rattle.fb_ecc.specs.declared.chart.Act.{Act}
-use Rattle.fb_ecc.specs.declared.program.Program.{Program}
 use Rattle.fb_ecc.proofs.lemmas.Actions.{action_here, acts_goes, acts_stops, algorithm_here, begins_on, begins_same, next_acts, no_action_left, no_next_acts, performed_err, performed_none, performed_ok, read_here}
 use Rattle.fb_ecc.proofs.lemmas.Programs.{body_says}
 use Rattle.fb_ecc.proofs.action.perform_all.Goals as goal
 use Rattle.fb_ecc.proofs.action.perform_all.Goals.{in-Some+in-Some-exec_compiled+in_ok-end-in-Some-exec_compiled, in-Some+in-None+in_ok-exec-in-None, in_default}
+use Rattle.fb_ecc.specs.declared.shared.Shared.{Shared}
 
 abbrev unread : Act
 unread = record { algorithm = None; output = None }
@@ -53,20 +53,20 @@ pub exec_compiled-requires-clause-layout : goal.exec_compiled-requires-clause-la
 exec_compiled-requires-clause-layout c =
     let t = c.args.block.now in
     let declared = c.loop-act.invariant.declared ∙ c.requires.declared in
-    let prog = subst (λ (p : Program). IsProgramOf t p) (sym c.program-program.ensures) c.requires.chart.program in
+    let prog = subst (λ (x : Shared). IsProgramOf t x.program) (sym c.parts-parts.ensures) c.requires.chart.program in
     prog.layout ∙ sym declared
 
 pub exec_compiled-requires-clause-says : goal.exec_compiled-requires-clause-says
 exec_compiled-requires-clause-says c =
     let t = c.args.block.now in
-    let prog = subst (λ (p : Program). IsProgramOf t p) (sym c.program-program.ensures) c.requires.chart.program in
+    let prog = subst (λ (x : Shared). IsProgramOf t x.program) (sym c.parts-parts.ensures) c.requires.chart.program in
     let i : ℕ = c.loop-act.act-index in
     let found = action_here t c.args.acts.now c.requires.acts.0 i unread c.requires.acts.1 c.loop-act-test.true in
     let a : Action = found.action in
     let here = found.is in
     let k : ℕ = c.in-Some.algorithm in
     let n = algorithm_here t k a.algorithm (subst (λ (o : Option ℕ). IsAlgorithm t o a.algorithm) c.in-Some.is here.algorithm) in
-    let says = body_says c.program-program.result.now.layout t.algorithms c.program-program.result.now.bodies k n.element c.body-codes.result prog.bodies n.at c.body-codes.ensures in
+    let says = body_says c.parts-parts.result.now.program.layout t.algorithms c.parts-parts.result.now.program.bodies k n.element c.body-codes.result prog.bodies n.at c.body-codes.ensures in
     (map stmt_of n.element.body.statements, says)
 
 pub returns-in_err-end-in-Some-exec_compiled-clause-performed : goal.returns-in_err-end-in-Some-exec_compiled-clause-performed
@@ -75,7 +75,7 @@ returns-in_err-end-in-Some-exec_compiled-clause-performed c = λ actions state a
     let slots = c.loop-act.frame in
     let left = c.step.new.self.left in
     let declared = c.loop-act.invariant.declared ∙ c.requires.declared in
-    let prog = subst (λ (p : Program). IsProgramOf t p) (sym c.program-program.ensures) c.requires.chart.program in
+    let prog = subst (λ (x : Shared). IsProgramOf t x.program) (sym c.parts-parts.ensures) c.requires.chart.program in
     let p : Position = index t state slots left c.loop-act.emits in
     let from : Position = index t state slots c.loop-act.meter.left c.loop-act.emits in
     let i : ℕ = c.loop-act.act-index in
@@ -84,7 +84,7 @@ returns-in_err-end-in-Some-exec_compiled-clause-performed c = λ actions state a
     let here = found.is in
     let k : ℕ = c.in-Some.algorithm in
     let n = algorithm_here t k a.algorithm (subst (λ (o : Option ℕ). IsAlgorithm t o a.algorithm) c.in-Some.is here.algorithm) in
-    let says = body_says c.program-program.result.now.layout t.algorithms c.program-program.result.now.bodies k n.element c.body-codes.result prog.bodies n.at c.body-codes.ensures in
+    let says = body_says c.parts-parts.result.now.program.layout t.algorithms c.parts-parts.result.now.program.bodies k n.element c.body-codes.result prog.bodies n.at c.body-codes.ensures in
     let ran = c.in-Some-exec_compiled.ensures.run (map stmt_of n.element.body.statements) says in
     let failed = c.in_err-end-in-Some-exec_compiled in
     let r = failed.field-0.0 in
@@ -212,7 +212,7 @@ loop-act-preserved c =
     let slots = c.loop-act.frame in
     let left = c.step.new.self.left in
     let declared = c.loop-act.invariant.declared ∙ c.requires.declared in
-    let prog = subst (λ (p : Program). IsProgramOf t p) (sym c.program-program.ensures) c.requires.chart.program in
+    let prog = subst (λ (x : Shared). IsProgramOf t x.program) (sym c.parts-parts.ensures) c.requires.chart.program in
     let kept : IsKept slots c.step.new.self c.match-act.frame c.match-act.meter = elim c.match-act.branch [
       | in-Some+in-Some-exec_compiled+in_ok-end-in-Some-exec_compiled w ↦
           rw (w.frame-is, w.meter-is) (record { declared = w.exec_compiled.ensures.declared; fewer = w.exec_compiled.ensures.fewer })
@@ -237,7 +237,7 @@ loop-act-preserved c =
             | in-Some+in-Some-exec_compiled+in_ok-end-in-Some-exec_compiled w ↦
                 let k : ℕ = w.in-Some.algorithm in
                 let n = algorithm_here t k a.algorithm (subst (λ (o : Option ℕ). IsAlgorithm t o a.algorithm) w.in-Some.is here.algorithm) in
-                let says = body_says c.program-program.result.now.layout t.algorithms c.program-program.result.now.bodies k n.element w.body-codes.result prog.bodies n.at w.body-codes.ensures in
+                let says = body_says c.parts-parts.result.now.program.layout t.algorithms c.parts-parts.result.now.program.bodies k n.element w.body-codes.result prog.bodies n.at w.body-codes.ensures in
                 let ran = w.in-Some-exec_compiled.ensures.run (map stmt_of n.element.body.statements) says in
                 let ended = w.in_ok-end-in-Some-exec_compiled in
                 rw (w.frame-is, w.meter-is)

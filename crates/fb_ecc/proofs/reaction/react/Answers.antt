@@ -16,10 +16,10 @@ use Rattle.fb_ecc.specs.declared.chart.Act.{Act}
 use Rattle.fb_ecc.specs.declared.chart.Chart.{Chart}
 use Rattle.fb_ecc.specs.declared.chart.ChartState.{ChartState}
 use Rattle.fb_ecc.specs.declared.chart.Exit.{Exit}
-use Rattle.fb_ecc.specs.declared.program.Program.{Program}
 use Rattle.fb_ecc.proofs.lemmas.Actions.{begins_on, begins_same}
 use Rattle.fb_ecc.proofs.lemmas.Links.{IsRow, chain_early, exits_read, fails, goes_on, linked_early, rests, row_read, stops_in, trial_here, variables_here}
 use Rattle.fb_ecc.proofs.lemmas.Trials.{fails_waiting, none_waiting, target_meant}
+use Rattle.fb_ecc.specs.declared.shared.Shared.{Shared}
 use Rattle.fb_ecc.proofs.reaction.react.Goals as goal
 
 pub links-init : goal.links-init
@@ -41,7 +41,7 @@ first_exit-requires-clause-may c =
     let inv = c.links.invariant in
     record {
       sound = c.requires.sound;
-      program = subst (λ (p : Program). IsProgramOf c.args.block.now p) (sym c.program-program.ensures) inv.block.chart.program;
+      program = subst (λ (x : Shared). IsProgramOf c.args.block.now x.program) (sym c.parts-parts.ensures) inv.block.chart.program;
       declared = inv.block.declared;
     }
 
@@ -56,7 +56,7 @@ pub bounds-rows-exit : goal.bounds-rows-exit
 bounds-rows-exit c =
     let t : BasicType = c.args.block.now in
     let leads = target_meant t c.in-Some.exit c.requires.sound (subst (λ (o : Option Exit). IfSome o (IsExit t)) c.in-Some.is c.in_ok-exit.ensures.exit) in
-    let rows : (chart_of t).rows ≡ c.rows.result.now = sym (c.rows.ensures ∙ ap (λ (x : Chart). x.rows) c.links.invariant.block.chart.chart) in
+    let rows : (chart_of t).rows ≡ c.as_slice-rows.result.now = sym (c.as_slice-rows.ensures ∙ ap (λ (x : Shared). x.chart.rows) c.parts-parts.ensures ∙ ap (λ (x : Chart). x.rows) c.links.invariant.block.chart.chart) in
     subst (λ (l : List ChartState). c.in-Some.exit.target < length l) rows
     (subst (λ (n : ℕ). c.in-Some.exit.target < n) (sym (length-map t.states (row_of t))) leads.within)
 
@@ -66,7 +66,7 @@ perform_all-requires-clause-acts c =
     let leads = target_meant t c.in-Some.exit c.requires.sound (subst (λ (o : Option Exit). IfSome o (IsExit t)) c.in-Some.is c.in_ok-exit.ensures.exit) in
     let actions = actions_of t (state_at t c.in-Some.exit.target) in
     let row = subst (λ (r : ChartState). IsRow t c.in-Some.exit.target r) (sym c.index-rows-exit.is)
-    (row_read t c.links.state.chart.chart c.rows.result.now c.in-Some.exit.target c.index-rows-exit.result c.requires.sound c.links.invariant.block.chart.chart c.rows.ensures
+    (row_read t c.links.state.chart.chart c.as_slice-rows.result.now c.in-Some.exit.target c.index-rows-exit.result c.requires.sound c.links.invariant.block.chart.chart (c.as_slice-rows.ensures ∙ ap (λ (x : Shared). x.chart.rows) c.parts-parts.ensures)
     leads.within) in
     (actions, subst (λ (l : List Act). AreActions t l actions) (sym c.as_slice-acts.ensures) row.acts)
 
@@ -82,8 +82,8 @@ returns-in_err-exit-clause-reacted c =
     let p : Position = index t state.state state.frame c.links.meter.left c.links.emits in
     let left : ℕ = c.first_exit.new.meter.left in
     let event : Name = event_at t.ports.event_inputs c.args.event in
-    let at = variables_here t (declared_in c.args.state.now.frame) c.args.state.now.chart.chart c.sampled.result.now c.args.event c.as_slice-slots.result.now c.index-sampled-event.result c.requires.block.declared c.requires.block.chart.chart
-    c.sampled.ensures c.requires.event (c.as_slice-slots.ensures ∙ c.index-sampled-event.is) in
+    let at = variables_here t (declared_in c.args.state.now.frame) c.args.state.now.chart.chart c.as_slice-sampled.result.now c.args.event c.as_slice-slots.result.now c.index-sampled-event.result c.requires.block.declared c.requires.block.chart.chart
+    (c.as_slice-sampled.ensures ∙ ap (λ (x : Shared). x.chart.sampled) c.parts.ensures) c.requires.event (c.as_slice-slots.ensures ∙ c.index-sampled-event.is) in
     let start : Position = index t c.args.state.now.state c.sample.new.frame c.args.meter.now.left c.args.emits.now in
     let begun : values_of c.sample.new.frame ≡ sampled t c.args.event c.args.values.now (values_of c.args.state.now.frame) =
     c.sample.ensures.sampled _ at in
@@ -103,8 +103,8 @@ returns-in-None-clause-reacted c =
     let p : Position = index t state.state state.frame c.links.meter.left c.links.emits in
     let left : ℕ = c.first_exit.new.meter.left in
     let event : Name = event_at t.ports.event_inputs c.args.event in
-    let at = variables_here t (declared_in c.args.state.now.frame) c.args.state.now.chart.chart c.sampled.result.now c.args.event c.as_slice-slots.result.now c.index-sampled-event.result c.requires.block.declared c.requires.block.chart.chart
-    c.sampled.ensures c.requires.event (c.as_slice-slots.ensures ∙ c.index-sampled-event.is) in
+    let at = variables_here t (declared_in c.args.state.now.frame) c.args.state.now.chart.chart c.as_slice-sampled.result.now c.args.event c.as_slice-slots.result.now c.index-sampled-event.result c.requires.block.declared c.requires.block.chart.chart
+    (c.as_slice-sampled.ensures ∙ ap (λ (x : Shared). x.chart.sampled) c.parts.ensures) c.requires.event (c.as_slice-slots.ensures ∙ c.index-sampled-event.is) in
     let start : Position = index t c.args.state.now.state c.sample.new.frame c.args.meter.now.left c.args.emits.now in
     let begun : values_of c.sample.new.frame ≡ sampled t c.args.event c.args.values.now (values_of c.args.state.now.frame) =
     c.sample.ensures.sampled _ at in
@@ -129,13 +129,13 @@ returns-in_err-perform_all-in-Some-clause-reacted c =
     let actions = actions_of t target in
     let moves = Acts t actions left in
     let row = subst (λ (r : ChartState). IsRow t c.in-Some.exit.target r) (sym c.index-rows-exit.is)
-    (row_read t state.chart.chart c.rows.result.now c.in-Some.exit.target c.index-rows-exit.result c.requires.sound inv.block.chart.chart c.rows.ensures
+    (row_read t state.chart.chart c.as_slice-rows.result.now c.in-Some.exit.target c.index-rows-exit.result c.requires.sound inv.block.chart.chart (c.as_slice-rows.ensures ∙ ap (λ (x : Shared). x.chart.rows) c.parts-parts.ensures)
     leads.within) in
     let are = subst (λ (l : List Act). AreActions t l actions) (sym c.as_slice-acts.ensures) row.acts in
     let performed = c.perform_all.ensures.performed actions c.in-Some.exit.target are in
     let event : Name = event_at t.ports.event_inputs c.args.event in
-    let at = variables_here t (declared_in c.args.state.now.frame) c.args.state.now.chart.chart c.sampled.result.now c.args.event c.as_slice-slots.result.now c.index-sampled-event.result c.requires.block.declared c.requires.block.chart.chart
-    c.sampled.ensures c.requires.event (c.as_slice-slots.ensures ∙ c.index-sampled-event.is) in
+    let at = variables_here t (declared_in c.args.state.now.frame) c.args.state.now.chart.chart c.as_slice-sampled.result.now c.args.event c.as_slice-slots.result.now c.index-sampled-event.result c.requires.block.declared c.requires.block.chart.chart
+    (c.as_slice-sampled.ensures ∙ ap (λ (x : Shared). x.chart.sampled) c.parts.ensures) c.requires.event (c.as_slice-slots.ensures ∙ c.index-sampled-event.is) in
     let start : Position = index t c.args.state.now.state c.sample.new.frame c.args.meter.now.left c.args.emits.now in
     let begun : values_of c.sample.new.frame ≡ sampled t c.args.event c.args.values.now (values_of c.args.state.now.frame) =
     c.sample.ensures.sampled _ at in
@@ -164,13 +164,13 @@ returns-in_err-goes_on-in-Some-clause-reacted c =
     let actions = actions_of t target in
     let moves = Acts t actions left in
     let row = subst (λ (r : ChartState). IsRow t c.in-Some.exit.target r) (sym c.index-rows-exit.is)
-    (row_read t state.chart.chart c.rows.result.now c.in-Some.exit.target c.index-rows-exit.result c.requires.sound inv.block.chart.chart c.rows.ensures
+    (row_read t state.chart.chart c.as_slice-rows.result.now c.in-Some.exit.target c.index-rows-exit.result c.requires.sound inv.block.chart.chart (c.as_slice-rows.ensures ∙ ap (λ (x : Shared). x.chart.rows) c.parts-parts.ensures)
     leads.within) in
     let are = subst (λ (l : List Act). AreActions t l actions) (sym c.as_slice-acts.ensures) row.acts in
     let performed = c.perform_all.ensures.performed actions c.in-Some.exit.target are in
     let event : Name = event_at t.ports.event_inputs c.args.event in
-    let at = variables_here t (declared_in c.args.state.now.frame) c.args.state.now.chart.chart c.sampled.result.now c.args.event c.as_slice-slots.result.now c.index-sampled-event.result c.requires.block.declared c.requires.block.chart.chart
-    c.sampled.ensures c.requires.event (c.as_slice-slots.ensures ∙ c.index-sampled-event.is) in
+    let at = variables_here t (declared_in c.args.state.now.frame) c.args.state.now.chart.chart c.as_slice-sampled.result.now c.args.event c.as_slice-slots.result.now c.index-sampled-event.result c.requires.block.declared c.requires.block.chart.chart
+    (c.as_slice-sampled.ensures ∙ ap (λ (x : Shared). x.chart.sampled) c.parts.ensures) c.requires.event (c.as_slice-slots.ensures ∙ c.index-sampled-event.is) in
     let start : Position = index t c.args.state.now.state c.sample.new.frame c.args.meter.now.left c.args.emits.now in
     let begun : values_of c.sample.new.frame ≡ sampled t c.args.event c.args.values.now (values_of c.args.state.now.frame) =
     c.sample.ensures.sampled _ at in
@@ -200,13 +200,13 @@ returns-then-not-branch-clause-reacted c =
     let actions = actions_of t target in
     let moves = Acts t actions left in
     let row = subst (λ (r : ChartState). IsRow t c.in-Some.exit.target r) (sym c.index-rows-exit.is)
-    (row_read t state.chart.chart c.rows.result.now c.in-Some.exit.target c.index-rows-exit.result c.requires.sound inv.block.chart.chart c.rows.ensures
+    (row_read t state.chart.chart c.as_slice-rows.result.now c.in-Some.exit.target c.index-rows-exit.result c.requires.sound inv.block.chart.chart (c.as_slice-rows.ensures ∙ ap (λ (x : Shared). x.chart.rows) c.parts-parts.ensures)
     leads.within) in
     let are = subst (λ (l : List Act). AreActions t l actions) (sym c.as_slice-acts.ensures) row.acts in
     let performed = c.perform_all.ensures.performed actions c.in-Some.exit.target are in
     let event : Name = event_at t.ports.event_inputs c.args.event in
-    let at = variables_here t (declared_in c.args.state.now.frame) c.args.state.now.chart.chart c.sampled.result.now c.args.event c.as_slice-slots.result.now c.index-sampled-event.result c.requires.block.declared c.requires.block.chart.chart
-    c.sampled.ensures c.requires.event (c.as_slice-slots.ensures ∙ c.index-sampled-event.is) in
+    let at = variables_here t (declared_in c.args.state.now.frame) c.args.state.now.chart.chart c.as_slice-sampled.result.now c.args.event c.as_slice-slots.result.now c.index-sampled-event.result c.requires.block.declared c.requires.block.chart.chart
+    (c.as_slice-sampled.ensures ∙ ap (λ (x : Shared). x.chart.sampled) c.parts.ensures) c.requires.event (c.as_slice-slots.ensures ∙ c.index-sampled-event.is) in
     let start : Position = index t c.args.state.now.state c.sample.new.frame c.args.meter.now.left c.args.emits.now in
     let begun : values_of c.sample.new.frame ≡ sampled t c.args.event c.args.values.now (values_of c.args.state.now.frame) =
     c.sample.ensures.sampled _ at in
@@ -237,7 +237,7 @@ links-preserved c =
     let actions = actions_of t target in
     let moves = Acts t actions left in
     let row = subst (λ (r : ChartState). IsRow t c.in-Some.exit.target r) (sym c.index-rows-exit.is)
-    (row_read t state.chart.chart c.rows.result.now c.in-Some.exit.target c.index-rows-exit.result c.requires.sound inv.block.chart.chart c.rows.ensures
+    (row_read t state.chart.chart c.as_slice-rows.result.now c.in-Some.exit.target c.index-rows-exit.result c.requires.sound inv.block.chart.chart (c.as_slice-rows.ensures ∙ ap (λ (x : Shared). x.chart.rows) c.parts-parts.ensures)
     leads.within) in
     let are = subst (λ (l : List Act). AreActions t l actions) (sym c.as_slice-acts.ensures) row.acts in
     let performed = c.perform_all.ensures.performed actions c.in-Some.exit.target are in

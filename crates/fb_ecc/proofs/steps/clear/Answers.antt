@@ -5,15 +5,15 @@ use Rattle.fb_ecc.specs.Programs.{IsProgramOf}
 use Rattle.fb_ecc.specs.Steps.{clearing_exit, first_true, trial_at_exit}
 use Rattle.fb_ecc.specs.Trials.{IsExit, transition_at, transitions_at}
 use Rattle.fb_ecc.specs.declared.chart.Exit.{Exit}
-use Rattle.fb_ecc.specs.declared.program.Program.{Program}
 use Rattle.fb_ecc.proofs.lemmas.Links.{exits_read}
 use Rattle.fb_ecc.proofs.lemmas.Trials.{target_meant}
+use Rattle.fb_ecc.specs.declared.shared.Shared.{Shared}
 use Rattle.fb_ecc.proofs.steps.clear.Goals as goal
 
 pub first_exit-requires-clause-may : goal.first_exit-requires-clause-may
 first_exit-requires-clause-may c = record {
   sound = c.requires.sound;
-  program = subst (λ (p : Program). IsProgramOf c.args.block.now p) (sym c.program-program.ensures) c.requires.block.chart.program;
+  program = subst (λ (x : Shared). IsProgramOf c.args.block.now x.program) (sym c.parts.ensures) c.requires.block.chart.program;
   declared = c.requires.block.declared;
 }
 

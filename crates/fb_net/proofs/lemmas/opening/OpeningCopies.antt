@@ -10,7 +10,7 @@ use Rattle.fb_system.specs.Stimuli.{initial_inputs, initial_outputs}
 use Rattle.fb_net.specs.HeldAt.{IsAdded, IsSet, held_at, side_index_of}
 use Rattle.fb_net.specs.Opening.{Covers, CoversSources, KeepsCovers, KeepsInitial}
 use Rattle.fb_net.specs.declared.held_copies.HeldCopies.{HeldCopies}
-use Rattle.fb_net.proofs.lemmas.values.HeldRows.{side_once}
+use Rattle.fb_net.proofs.lemmas.values.HeldSides.{side_once}
 use Rattle.fb_net.proofs.lemmas.values.ShownValues.{name_there, variable_is, name_is as shown_name}
 use Rattle.fb_net.proofs.lemmas.values.Writing.{AreNumbered}
 use Rattle.fb_types.proofs.lemmas.lists.ByIndex.{slice_get-append_left, slice_get-after, element_at}

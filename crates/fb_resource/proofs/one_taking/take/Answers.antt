@@ -28,8 +28,8 @@ returns-then-not-step-clause-traffic c = c.requires.traffic
 pub returns-then-not-step-clause-counts : goal.returns-then-not-step-clause-counts
 returns-then-not-step-clause-counts c = subst (IsMetered c.args.limit) (sym c.if-not-step.ensures.kept) c.requires.counts
 
-pub take_waiting-end-requires : goal.take_waiting-end-requires
-take_waiting-end-requires c =
+pub deliver-end-requires : goal.deliver-end-requires
+deliver-end-requires c =
     let i = c.args.system.now in
     let l = c.args.least.now in
     let represents = c.requires.represents in
@@ -45,19 +45,19 @@ take_waiting-end-requires c =
 
 pub settle-requires-clause-may : goal.settle-requires-clause-may
 settle-requires-clause-may c =
-    let came = came_ended c.args.system.now c.args.least.now.key c.args.least.now.event c.args.tree.now c.args.traffic.now.outbox c.step.new.self.meter.left c.in_ok-stop.stop c.take_waiting-end.result
-    c.take_waiting-end.new.self c.take_waiting-end.new.meter.left c.take_waiting-end.new.outbox c.requires.traffic.none c.requires.traffic.keeps
-    c.in_ok-stop.ensures c.take_waiting-end.ensures.taken in
-    let put = put_out c.args.system.now c.args.tree.now c.args.traffic.now.outbox c.take_waiting-end.new.self c.take_waiting-end.new.outbox c.in_ok-stop.stop c.take_waiting-end.result
-    c.in_ok-stop.ensures c.requires.traffic.lines c.requires.traffic.none c.take_waiting-end.ensures.outs in
+    let came = came_ended c.args.system.now c.args.least.now.key c.args.least.now.event c.args.tree.now c.args.traffic.now.outbox c.step.new.self.meter.left c.in_ok-stop.stop c.deliver-end.result
+    c.deliver-end.new.self c.deliver-end.new.meter.left c.deliver-end.new.outbox c.requires.traffic.none c.requires.traffic.keeps
+    c.in_ok-stop.ensures c.deliver-end.ensures.taken in
+    let put = put_out c.args.system.now c.args.tree.now c.args.traffic.now.outbox c.deliver-end.new.self c.deliver-end.new.outbox c.in_ok-stop.stop c.deliver-end.result
+    c.in_ok-stop.ensures c.requires.traffic.lines c.requires.traffic.none c.deliver-end.ensures.outs in
     let i = c.args.system.now in
     let k = c.args.least.now.key in
     let had = c.requires.traffic in
-    let here = c.take_waiting-end.ensures.resource ∙ c.requires.tree in
+    let here = c.deliver-end.ensures.resource ∙ c.requires.tree in
     let represents = c.requires.represents in
     let w = world_of represents.0 k.resource in
-    let good = came_good i k c.args.least.now.event _ _ _ c.take_waiting-end.new.self c.take_waiting-end.new.outbox _ w c.facts.ensures.accepted c.facts.ensures.limits c.requires.event.here (represents.1.typed k.resource) c.requires.typed
-    (came w represents.1.blocks) (subst (λ n. All (IsOut (system_of i) n) c.take_waiting-end.new.outbox.outs.items) here put.outs) in
+    let good = came_good i k c.args.least.now.event _ _ _ c.deliver-end.new.self c.deliver-end.new.outbox _ w c.facts.ensures.accepted c.facts.ensures.limits c.requires.event.here (represents.1.typed k.resource) c.requires.typed
+    (came w represents.1.blocks) (subst (λ n. All (IsOut (system_of i) n) c.deliver-end.new.outbox.outs.items) here put.outs) in
     record {
       event = c.requires.event;
       named = c.requires.named;
@@ -73,15 +73,15 @@ settle-requires-clause-may c =
 
 pub returns-clause-taken : goal.returns-clause-taken
 returns-clause-taken c s from le here counts =
-    let came = came_ended c.args.system.now c.args.least.now.key c.args.least.now.event c.args.tree.now c.args.traffic.now.outbox c.step.new.self.meter.left c.in_ok-stop.stop c.take_waiting-end.result
-    c.take_waiting-end.new.self c.take_waiting-end.new.meter.left c.take_waiting-end.new.outbox c.requires.traffic.none c.requires.traffic.keeps
-    c.in_ok-stop.ensures c.take_waiting-end.ensures.taken in
+    let came = came_ended c.args.system.now c.args.least.now.key c.args.least.now.event c.args.tree.now c.args.traffic.now.outbox c.step.new.self.meter.left c.in_ok-stop.stop c.deliver-end.result
+    c.deliver-end.new.self c.deliver-end.new.meter.left c.deliver-end.new.outbox c.requires.traffic.none c.requires.traffic.keeps
+    c.in_ok-stop.ensures c.deliver-end.ensures.taken in
     let i = c.args.system.now in
     let k = c.args.least.now.key in
     let old = c.args.traffic.now in
-    let mid : Traffic = record old { outbox = c.take_waiting-end.new.outbox } in
+    let mid : Traffic = record old { outbox = c.deliver-end.new.outbox } in
     taken_one i c.args.limit s k c.args.least.now.event (before_step c.step.new.self) _ _ _ old mid c.settle.new.traffic
-    from c.args.tree.now c.args.counts.now c.take_waiting-end.new.self c.take_waiting-end.new.outbox
+    from c.args.tree.now c.args.counts.now c.deliver-end.new.self c.deliver-end.new.outbox
     (accepted_typed i c.facts.ensures.accepted).system c.requires.typed
     here counts (here.meter c.args.limit k.tick le ∙ sym c.if-not-step.ensures.used) refl
     (came (world_of s k.resource) here.blocks) refl c.in_ok-settle.ensures.settled c.if-not-step.ensures.tick c.in_ok-settle.ensures.lines
@@ -94,12 +94,12 @@ returns-clause-later c = c.in_ok-settle.ensures.later
 
 pub returns-clause-counts : goal.returns-clause-counts
 returns-clause-counts c =
-    metered_after c.args.limit (before_step c.step.new.self) _ _ c.if-not-step.ensures.metered refl c.take_waiting-end.ensures.fewer c.in_ok-settle.ensures.few
+    metered_after c.args.limit (before_step c.step.new.self) _ _ c.if-not-step.ensures.metered refl c.deliver-end.ensures.fewer c.in_ok-settle.ensures.few
 
 pub returns-clause-spent : goal.returns-clause-spent
 returns-clause-spent c going =
     let left = ap (λ m. m.left) c.if-not-step.ensures.used in
-    let fewer = c.take_waiting-end.ensures.fewer in
+    let fewer = c.deliver-end.ensures.fewer in
     (c.if-not-step.ensures.tick, omega (arith, left, fewer))
 
 -- ---- Where one local event was put out
@@ -112,13 +112,13 @@ count_lone-requires-clause-keeps c = c.in-Some.ensures.keeps
 
 pub returns-in-Some-clause-taken : goal.returns-in-Some-clause-taken
 returns-in-Some-clause-taken c s from le here counts =
-    let came = came_ended c.args.system.now c.args.least.now.key c.args.least.now.event c.args.tree.now c.args.traffic.now.outbox c.step.new.self.meter.left c.in_ok-stop.stop c.take_waiting-end.result
-    c.take_waiting-end.new.self c.take_waiting-end.new.meter.left c.take_waiting-end.new.outbox c.requires.traffic.none c.requires.traffic.keeps
-    c.in_ok-stop.ensures c.take_waiting-end.ensures.taken in
+    let came = came_ended c.args.system.now c.args.least.now.key c.args.least.now.event c.args.tree.now c.args.traffic.now.outbox c.step.new.self.meter.left c.in_ok-stop.stop c.deliver-end.result
+    c.deliver-end.new.self c.deliver-end.new.meter.left c.deliver-end.new.outbox c.requires.traffic.none c.requires.traffic.keeps
+    c.in_ok-stop.ensures c.deliver-end.ensures.taken in
     let i = c.args.system.now in
     let k = c.args.least.now.key in
     let old = c.args.traffic.now in
-    let x = c.take_waiting-end.new.outbox in
+    let x = c.deliver-end.new.outbox in
     let y = c.count_lone.new.outbox in
     let t = c.in-Some.target.now in
     let m = before_step c.step.new.self in
@@ -127,13 +127,13 @@ returns-in-Some-clause-taken c s from le here counts =
     let mid : Traffic = record old { outbox = x } in
     let new : Traffic = record old { agenda = a; outbox = y } in
     let lone = raised_lone k t old.agenda m.locals c.count_lone.new.locals x y c.in-Some.ensures.alone c.in-Some.ensures.keeps c.count_lone.ensures.counted c.count_lone.ensures.emptied in
-    let n : TickCounts = record { tick = c.step.new.self.tick; meter = c.take_waiting-end.new.meter; locals = c.count_lone.new.locals } in
-    subst (λ (j : Key). IsTakenHere i c.args.limit s k (event_of i c.args.least.now.event) c.in_ok-stop.stop from c.take_waiting-end.new.self n old
+    let n : TickCounts = record { tick = c.step.new.self.tick; meter = c.deliver-end.new.meter; locals = c.count_lone.new.locals } in
+    subst (λ (j : Key). IsTakenHere i c.args.limit s k (event_of i c.args.least.now.event) c.in_ok-stop.stop from c.deliver-end.new.self n old
     (record old { agenda = with_event j z.event old.agenda; outbox = y })) (sym c.follow.ensures.key)
-    (subst (λ (e : Event). IsTakenHere i c.args.limit s k (event_of i c.args.least.now.event) c.in_ok-stop.stop from c.take_waiting-end.new.self n old
+    (subst (λ (e : Event). IsTakenHere i c.args.limit s k (event_of i c.args.least.now.event) c.in_ok-stop.stop from c.deliver-end.new.self n old
     (record old { agenda = with_event (local_key k.tick k.resource m.locals) e old.agenda; outbox = y })) (sym c.follow.ensures.event)
     (taken_one i c.args.limit s k c.args.least.now.event m n _ _ old mid new
-    from c.args.tree.now c.args.counts.now c.take_waiting-end.new.self x
+    from c.args.tree.now c.args.counts.now c.deliver-end.new.self x
     (accepted_typed i c.facts.ensures.accepted).system c.requires.typed
     here counts (here.meter c.args.limit k.tick le ∙ sym c.if-not-step.ensures.used) refl
     (came (world_of s k.resource) here.blocks) refl
@@ -142,23 +142,23 @@ returns-in-Some-clause-taken c s from le here counts =
 
 pub returns-in-Some-clause-traffic : goal.returns-in-Some-clause-traffic
 returns-in-Some-clause-traffic c =
-    let came = came_ended c.args.system.now c.args.least.now.key c.args.least.now.event c.args.tree.now c.args.traffic.now.outbox c.step.new.self.meter.left c.in_ok-stop.stop c.take_waiting-end.result
-    c.take_waiting-end.new.self c.take_waiting-end.new.meter.left c.take_waiting-end.new.outbox c.requires.traffic.none c.requires.traffic.keeps
-    c.in_ok-stop.ensures c.take_waiting-end.ensures.taken in
-    let put = put_out c.args.system.now c.args.tree.now c.args.traffic.now.outbox c.take_waiting-end.new.self c.take_waiting-end.new.outbox c.in_ok-stop.stop c.take_waiting-end.result
-    c.in_ok-stop.ensures c.requires.traffic.lines c.requires.traffic.none c.take_waiting-end.ensures.outs in
+    let came = came_ended c.args.system.now c.args.least.now.key c.args.least.now.event c.args.tree.now c.args.traffic.now.outbox c.step.new.self.meter.left c.in_ok-stop.stop c.deliver-end.result
+    c.deliver-end.new.self c.deliver-end.new.meter.left c.deliver-end.new.outbox c.requires.traffic.none c.requires.traffic.keeps
+    c.in_ok-stop.ensures c.deliver-end.ensures.taken in
+    let put = put_out c.args.system.now c.args.tree.now c.args.traffic.now.outbox c.deliver-end.new.self c.deliver-end.new.outbox c.in_ok-stop.stop c.deliver-end.result
+    c.in_ok-stop.ensures c.requires.traffic.lines c.requires.traffic.none c.deliver-end.ensures.outs in
     let i = c.args.system.now in
     let k = c.args.least.now.key in
     let old = c.args.traffic.now in
-    let x = c.take_waiting-end.new.outbox in
+    let x = c.deliver-end.new.outbox in
     let y = c.count_lone.new.outbox in
     let t = c.in-Some.target.now in
     let n = c.step.new.self.locals in
     let z = c.follow.new.self in
-    let here = c.take_waiting-end.ensures.resource ∙ c.requires.tree in
+    let here = c.deliver-end.ensures.resource ∙ c.requires.tree in
     let represents = c.requires.represents in
     let w = world_of represents.0 k.resource in
-    let good = came_good i k c.args.least.now.event _ _ _ c.take_waiting-end.new.self x _ w c.facts.ensures.accepted c.facts.ensures.limits c.requires.event.here (represents.1.typed k.resource) c.requires.typed
+    let good = came_good i k c.args.least.now.event _ _ _ c.deliver-end.new.self x _ w c.facts.ensures.accepted c.facts.ensures.limits c.requires.event.here (represents.1.typed k.resource) c.requires.typed
     (came w represents.1.blocks) (subst (λ n. All (IsOut (system_of i) n) x.outs.items) here put.outs) in
     let lone = raised_lone k t old.agenda n c.count_lone.new.locals x y c.in-Some.ensures.alone c.in-Some.ensures.keeps c.count_lone.ensures.counted c.count_lone.ensures.emptied in
     subst (λ (j : Key). AreReady i k.tick (record old { agenda = with_event j z.event old.agenda; outbox = y })) (sym c.follow.ensures.key)
@@ -169,12 +169,12 @@ returns-in-Some-clause-traffic c =
 pub returns-in-Some-clause-counts : goal.returns-in-Some-clause-counts
 returns-in-Some-clause-counts c =
     let counted = c.count_lone.ensures.counted in
-    metered_after c.args.limit (before_step c.step.new.self) _ _ c.if-not-step.ensures.metered refl c.take_waiting-end.ensures.fewer (omega (arith, counted))
+    metered_after c.args.limit (before_step c.step.new.self) _ _ c.if-not-step.ensures.metered refl c.deliver-end.ensures.fewer (omega (arith, counted))
 
 pub returns-in-Some-clause-spent : goal.returns-in-Some-clause-spent
 returns-in-Some-clause-spent c going =
     let left = ap (λ m. m.left) c.if-not-step.ensures.used in
-    let fewer = c.take_waiting-end.ensures.fewer in
+    let fewer = c.deliver-end.ensures.fewer in
     (c.if-not-step.ensures.tick, omega (arith, left, fewer))
 
 pub returns-in-Some-clause-raised : goal.returns-in-Some-clause-raised

@@ -8,7 +8,7 @@ use fb_net::{Arrival, Outbox};
 use fb_read::read_library;
 use fb_resource::WindowDone;
 use fb_st::Meter;
-use fb_types::{Deploy, TimerAsk};
+use fb_types::{Deploy, Event, TimerAsk};
 use fb_wave::write_wave;
 use std::mem::forget;
 
@@ -40,7 +40,11 @@ fn a_tree_takes_a_timer(rt: HostRuntime) {
     };
     let mut meter = Meter { left: 100 };
     assert!(rt; system.count() == 1 && system.resource(0) == 0);
-    tree.take(&system, Arrival::Timer(0), 0, &mut meter, &mut outbox)
+    let arrival = Arrival {
+        event: &Event::Timer(0),
+        number: 0,
+    };
+    tree.take(&system, arrival, 0, &mut meter, &mut outbox)
         .expect(&rt, "taken");
     assert!(rt; outbox.lines.len() == 1 && outbox.outs.is_empty());
     forget((tree, outbox));

@@ -1,5 +1,5 @@
-use Rattle.fb_net.proofs.lemmas.Common.{◌≡◌, ℕ, List, Some, ap, sym, subst, ◌∙◌, slice_get, slice_set, IsSet, side_index_of, index_in, HeldRow}
-use Rattle.fb_net.proofs.lemmas.values.HeldRows.{is_set, none_set, row_with}
+use Rattle.fb_net.proofs.lemmas.Common.{◌≡◌, ℕ, List, Some, ap, sym, subst, ◌∙◌, slice_get, slice_set, Value, IsSet, side_index_of}
+use Rattle.fb_net.proofs.lemmas.values.HeldSides.{is_set, none_set}
 use Rattle.fb_net.proofs.held_copies.HeldCopies.set.Goals as goal
 
 pub returns-in-Some : goal.returns-in-Some
@@ -7,17 +7,14 @@ returns-in-Some c =
     let h = c.args.self.now in
     let x = c.args.variable.now in
     let v = c.args.value in
-    let row = c.in-Some.row.now in
-    let index : c.index-index.result ≡ index_in h.indexes (side_index_of x) = c.index-index.ensures ∙ ap (index_in h.indexes) c.side_index_of-side_index.ensures in
-    let there : slice_get h.rows (index_in h.indexes (side_index_of x)) ≡ Some row = ap (slice_get h.rows) (sym index) ∙ sym c.in-Some.ensures.value in
-    let with : c.set.new.self ≡ row_with row (side_index_of x) x.variable v = c.set.ensures ∙ ap (λ (p : ℕ). row_with row p x.variable v) c.side_index_of-side_index.ensures in
-    subst (λ (rs : List HeldRow). IsSet h x v (record h { rows = rs }))
-    (ap (λ (k : ℕ). slice_set h.rows k (row_with row (side_index_of x) x.variable v)) (sym index) ∙ ap (λ (r : HeldRow). slice_set h.rows c.index-index.result r) (sym with))
-    (is_set h x v row there)
+    let side = c.in-Some.side.now in
+    let index = c.side_index_of.ensures in
+    let there : slice_get h.sides (side_index_of x) ≡ Some side = ap (slice_get h.sides) (sym index) ∙ sym c.in-Some.ensures.value in
+    subst (λ (ss : List (List Value)). IsSet h x v (record { sides = ss }))
+    (ap (λ (k : ℕ). slice_set h.sides k (slice_set side x.variable v)) (sym index) ∙ ap (λ (vs : List Value). slice_set h.sides c.side_index_of.result vs) (sym c.set.ensures))
+    (is_set h x v side there)
 
 pub returns-in_default : goal.returns-in_default
 returns-in_default c =
     let h = c.args.self.now in
-    let x = c.args.variable.now in
-    let index : c.index-index.result ≡ index_in h.indexes (side_index_of x) = c.index-index.ensures ∙ ap (index_in h.indexes) c.side_index_of-side_index.ensures in
-    none_set h x c.args.value (ap (slice_get h.rows) (sym index) ∙ sym c.in_default.ensures.value)
+    none_set h c.args.variable.now c.args.value (ap (slice_get h.sides) (sym c.side_index_of.ensures) ∙ sym c.in_default.ensures.value)

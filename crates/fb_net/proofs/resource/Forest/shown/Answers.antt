@@ -1,4 +1,5 @@
-use Rattle.fb_net.proofs.lemmas.Common.{ap, sym, ◌∙◌, true≢false, value_in}
+use Rattle.fb_net.proofs.lemmas.Common.{ap, sym, ◌∙◌, true≢false, unwrap_or, value_in}
+use Rattle.fb_types.specs.Flat.{zero_value}
 use Rattle.fb_net.proofs.lemmas.values.ShownValues.{shell_there_reads, copy_stands, published_stands}
 use Rattle.fb_net.proofs.lemmas.values.Sampled.{input_seen, output_seen, shown_away, shown_here}
 use Rattle.fb_net.proofs.resource.Forest.shown.Goals as goal
@@ -6,9 +7,15 @@ use Rattle.fb_net.proofs.resource.Forest.shown.Goals as goal
 pub shell-shell-requires-clause-stands : goal.shell-shell-requires-clause-stands
 shell-shell-requires-clause-stands c = record { here = c.requires.place.0 c.if-not-source.false; whole = c.requires.whole }
 
-pub returns-then-not-source : goal.returns-then-not-source
-returns-then-not-source c =
-    shown_away c.args.system.now c.args.self.now c.args.source.now.variable _ c.requires.variable (λ lies. true≢false (sym (c.requires.place.1 lies) ∙ c.if-not-source.true)) c.held.ensures
+pub returns-in-Some : goal.returns-in-Some
+returns-in-Some c =
+    shown_away c.args.system.now c.args.self.now c.args.source.now.variable _ c.requires.variable (λ lies. true≢false (sym (c.requires.place.1 lies) ∙ c.if-not-source.true))
+    (ap (λ o. unwrap_or o zero_value) c.in-Some.ensures)
+
+pub returns-in-None : goal.returns-in-None
+returns-in-None c =
+    shown_away c.args.system.now c.args.self.now c.args.source.now.variable _ c.requires.variable (λ lies. true≢false (sym (c.requires.place.1 lies) ∙ c.if-not-source.true))
+    (ap (λ o. unwrap_or o zero_value) c.in-None.ensures)
 
 pub returns-then-source : goal.returns-then-source
 returns-then-source c =

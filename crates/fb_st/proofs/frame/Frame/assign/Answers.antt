@@ -8,9 +8,6 @@ unreachable-requires c = declared_somewhere c.args.self.now c.args.variable.now 
 pub holds-requires : goal.holds-requires
 holds-requires c = index_within c.self.inside.slots c.args.variable.now c.in-Some.index (sym c.index.ensures ∙ c.in-Some.is)
 
-pub set-requires : goal.set-requires
-set-requires c = index_within c.self.inside.slots c.args.variable.now c.in-Some.index (sym c.index.ensures ∙ c.in-Some.is)
-
 pub returns-then-not-holds-clause-err : goal.returns-then-not-holds-clause-err
 returns-then-not-holds-clause-err c =
     let xs : List Slot = c.self.inside.slots in
@@ -29,7 +26,7 @@ invariant_of-self c =
     let at = sym c.index.ensures ∙ c.in-Some.is in
     let s = slot_there xs c.in-Some.index (index_within xs c.args.variable.now c.in-Some.index at) in
     let P : List Name → Type 0 = λ ns. ¬ (Twice ns) in
-    rw (c.set.ensures s.0 s.1) (subst P (sym (set_names xs c.in-Some.index s.0 c.args.value s.1)) c.self.invariant)
+    rw (c.set.ensures.there s.0 s.1) (subst P (sym (set_names xs c.in-Some.index s.0 c.args.value s.1)) c.self.invariant)
 
 pub returns-clause-ok : goal.returns-clause-ok
 returns-clause-ok c =
@@ -39,7 +36,7 @@ returns-clause-ok c =
     let ty = type_here xs c.args.variable.now c.in-Some.index s.0 at s.1 in (
       ap (λ l. fits (types_in (declared_in l) c.args.variable.now) c.args.value) (sym c.self.view_is)
           ∙ ap (λ t. fits t c.args.value) ty ∙ sym (c.holds.ensures s.0 s.1) ∙ c.if-not-holds.false,
-      rw (c.set.ensures s.0 s.1)
+      rw (c.set.ensures.there s.0 s.1)
           (written xs c.args.variable.now c.in-Some.index s.0 c.args.value at s.1
           ∙ ap (λ l. with_value c.args.variable.now c.args.value (values_of l)) c.self.view_is),
     )
@@ -49,4 +46,4 @@ returns-clause-declared c =
     let xs : List Slot = c.self.inside.slots in
     let at = sym c.index.ensures ∙ c.in-Some.is in
     let s = slot_there xs c.in-Some.index (index_within xs c.args.variable.now c.in-Some.index at) in
-    rw (c.set.ensures s.0 s.1) (set_declared xs c.in-Some.index s.0 c.args.value s.1 ∙ ap declared_in c.self.view_is)
+    rw (c.set.ensures.there s.0 s.1) (set_declared xs c.in-Some.index s.0 c.args.value s.1 ∙ ap declared_in c.self.view_is)

@@ -4,7 +4,7 @@ use Rattle.fb_net.proofs.lemmas.taking.ByEvent.{timer-expires, timer-rests, time
 use Rattle.fb_net.proofs.lemmas.emitting.OutboxKept.{timer-asked}
 use Rattle.fb_net.proofs.lemmas.taking.TakingSteps.{stays-whole}
 use Rattle.fb_net.proofs.lemmas.blocks.BlocksKept.{kept-same, kept-then, kept-world}
-use Rattle.fb_net.proofs.taking.Taking.take_timer.Goals as goal
+use Rattle.fb_net.proofs.taking.Taking.expire.Goals as goal
 
 pub returns-in-Ok-clause-taken : goal.returns-in-Ok-clause-taken
 returns-in-Ok-clause-taken c =

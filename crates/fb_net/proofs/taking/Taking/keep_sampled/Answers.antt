@@ -4,7 +4,7 @@ use Rattle.fb_net.proofs.lemmas.emitting.OutboxKept.{lines-put}
 use Rattle.fb_net.proofs.lemmas.taking.TakingSteps.{done-well}
 use Rattle.fb_net.proofs.lemmas.values.Sampling.{sampling-represents}
 use Rattle.fb_net.proofs.lemmas.blocks.BlocksKept.{kept-changed, kept-same}
-use Rattle.fb_net.proofs.taking.Taking.take_samples.Goals as goal
+use Rattle.fb_net.proofs.taking.Taking.keep_sampled.Goals as goal
 
 pub keep_samples-requires-clause-indexes : goal.keep_samples-requires-clause-indexes
 keep_samples-requires-clause-indexes c = indexes_in (system_of c.args.self.now.system.now) c.args.at _ c.requires.may.input c.indexes_of-indexes.ensures
@@ -34,5 +34,5 @@ returns-clause-whole c = record {
   kept = kept-changed c.args.self.now.system.now c.args.self.now.forest.now c.keep_samples.new.forest c.args.at.instance _ c.keep_samples.ensures c.requires.may.arrives.stands.here;
 }
 
-pub take_value-requires-clause-one : goal.take_value-requires-clause-one
-take_value-requires-clause-one c = one_with (system_of c.args.self.now.system.now) c.args.at c.args.with.now _ _ c.in-One.is c.requires.with
+pub keep_value-requires-clause-one : goal.keep_value-requires-clause-one
+keep_value-requires-clause-one c = one_with (system_of c.args.self.now.system.now) c.args.at c.args.with.now _ _ c.in-One.is c.requires.with

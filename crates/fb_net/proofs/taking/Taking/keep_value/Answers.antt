@@ -5,7 +5,7 @@ use Rattle.fb_net.proofs.lemmas.emitting.OutboxKept.{lines-put}
 use Rattle.fb_net.proofs.lemmas.taking.TakingSteps.{done-well}
 use Rattle.fb_net.proofs.lemmas.values.Sampling.{one-sampled, sampling-represents}
 use Rattle.fb_net.proofs.lemmas.blocks.BlocksKept.{kept-changed}
-use Rattle.fb_net.proofs.taking.Taking.take_value.Goals as goal
+use Rattle.fb_net.proofs.taking.Taking.keep_value.Goals as goal
 
 pub sampled-value-requires-clause-variable : goal.sampled-value-requires-clause-variable
 sampled-value-requires-clause-variable c =

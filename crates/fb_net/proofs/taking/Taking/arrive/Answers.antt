@@ -5,31 +5,30 @@ use Rattle.fb_types.specs.declared.library.BlockType.TheVariants as block
 use Rattle.fb_types.specs.declared.run.Halt.TheVariants as halt
 use Rattle.fb_laws.proofs.lemmas.typing.Accepted.{accepted_typed}
 use Rattle.fb_net.specs.Arrivals.{Arrives, entering, leaving, reacting}
-use Rattle.fb_net.specs.Events.{event_in}
 use Rattle.fb_net.specs.Steps.{HasArrived, MayTake, WasTaken}
-use Rattle.fb_net.specs.declared.arrival.Arrival.{Arrival}
+use Rattle.fb_types.specs.declared.run.Event.{Event as Waiting}
 use Rattle.fb_net.proofs.lemmas.emitting.PortRows.{basic_input, event_block_input}
 use Rattle.fb_net.proofs.lemmas.taking.Crossing.{composite-enters, composite-leaves, done-reacted, event-arrives, reacted-ended, reacting-left, reacting-stop, remembered-ended}
 use Rattle.fb_net.proofs.lemmas.taking.TakingSteps.{whole-after}
-use Rattle.fb_net.proofs.taking.Taking.take_event.Goals as goal
+use Rattle.fb_net.proofs.taking.Taking.arrive.Goals as goal
 
 -- ---- A timer
 
 pub returns-in-Timer-clause-taken : goal.returns-in-Timer-clause-taken
 returns-in-Timer-clause-taken c =
     let left = c.args.meter.now.left in
-    subst (λ (a : Arrival). WasTaken c.args.self.now (event_in a) left (Ok tt) c.take_timer.new.self left) (sym c.in-Timer.is) (c.in_ok-take_timer.ensures.taken left)
+    subst (λ (a : Waiting). WasTaken c.args.self.now a left (Ok tt) c.expire.new.self left) (sym c.in-Timer.is) (c.in_ok-expire.ensures.taken left)
 
-pub returns-in_err-take_timer-clause-taken : goal.returns-in_err-take_timer-clause-taken
-returns-in_err-take_timer-clause-taken c =
+pub returns-in_err-expire-clause-taken : goal.returns-in_err-expire-clause-taken
+returns-in_err-expire-clause-taken c =
     let left = c.args.meter.now.left in
     let memory = err_from_is_err_and c.from_residual.result c.from_residual.ensures.1 in
     rw (memory.1, memory.2)
-    (subst (λ (a : Arrival). WasTaken c.args.self.now (event_in a) left (Err halt.Memory) c.take_timer.new.self left) (sym c.in-Timer.is)
-    (record { taken = tt; outs = tt; fewer = omega arith; kept = c.take_timer.ensures.whole.kept }))
+    (subst (λ (a : Waiting). WasTaken c.args.self.now a left (Err halt.Memory) c.expire.new.self left) (sym c.in-Timer.is)
+    (record { taken = tt; outs = tt; fewer = omega arith; kept = c.expire.ensures.whole.kept }))
 
-pub take_timer-requires : goal.take_timer-requires
-take_timer-requires c = subst (λ (a : Arrival). MayTake c.args.self.now (event_in a)) c.in-Timer.is c.requires
+pub expire-requires : goal.expire-requires
+expire-requires c = subst (λ (a : Waiting). MayTake c.args.self.now a) c.in-Timer.is c.requires
 
 -- ---- Where another event arrives
 

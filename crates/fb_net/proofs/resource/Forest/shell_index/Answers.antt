@@ -1,5 +1,5 @@
 use Rattle.fb_types.proofs.Common.{ap, sym, ◌<◌, ◌∙◌, get_or, length, List, ℕ, subst, unwrap_or, slice_get-get_or}
-use Rattle.fb_net.proofs.resource.Forest.shell_index_of.Goals as goal
+use Rattle.fb_net.proofs.resource.Forest.shell_index.Goals as goal
 
 pub bounds-as_slice-instance : goal.bounds-as_slice-instance
 bounds-as_slice-instance c = subst (λ (shell_indexes : List ℕ). c.args.instance < length shell_indexes) (sym c.as_slice.ensures) c.requires
