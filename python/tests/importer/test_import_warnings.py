@@ -65,4 +65,4 @@ def test_an_unknown_number_is_a_wrong_command_line(tmp_path, value, name):
     done = import_all(tmp_path, {"Adder.fbt": basic()}, "--deny", value)
     assert done.status == 5
     assert done.lines[-1] == (f"fbsim-import: error: argument --deny: there is no warning {name}:"
-                              " there are I01, I02, with --lint L01 to L23, and all")
+                              " there are I01, I02, I03, with --lint L01 to L23, and all")

@@ -1,14 +1,20 @@
-"""CONTINUE, which the profile lacks: the body of its loop becomes a loop that runs once, so that EXIT leaves it."""
+"""Loops: what replaces CONTINUE, which the profile lacks, and the warning I03 of a variable of FOR that is read after its loop.
+
+The body of a loop with CONTINUE becomes a loop that runs once, so that EXIT leaves it."""
 
 from __future__ import annotations
 
-from collections.abc import Callable
+from collections.abc import Callable, Iterator
 from dataclasses import dataclass, field
 
-from .expressions import Literal, Variable
+from .expressions import Expression, Literal, Variable
 from .statements import Segment, assigned, made, test
 
 CLOSINGS = {"FOR": "END_FOR", "WHILE": "END_WHILE", "REPEAT": "UNTIL"}
+# What may run its statements or not. (REPEAT runs them at least once.)
+OPENINGS = frozenset(("IF", "CASE", "FOR", "WHILE"))
+ENDINGS = frozenset(("END_IF", "END_CASE", "END_FOR", "END_WHILE"))
+BRANCHES = frozenset(("ELSE", "ELSIF", "LABEL"))
 
 
 @dataclass(slots=True)
@@ -58,3 +64,52 @@ def continued(segments: list[Segment], fresh: Callable[[str, int], Variable], re
         instead[loop.begin] = [opening, *made("REPEAT", opening.start)]
         before[loop.end] = inner
     return [one for at, it in enumerate(segments) for one in (*before.get(at, ()), *instead.get(at, [it]))]
+
+
+def variables_of(it: Expression) -> Iterator[Variable]:
+    """Return each use of a variable in an expression."""
+    if isinstance(it, Variable):
+        yield it
+    for one in it.parts():
+        yield from variables_of(one)
+
+
+def read_in(segment: Segment, name: str) -> Variable | None:
+    """Return the first use of a variable in a segment that reads it, not that which the segment assigns."""
+    row = segment.row[1:] if segment.kind == ":=" else segment.row[2:] if segment.kind == "FOR" else segment.row
+    return next((one for it in row if isinstance(it, Expression) for one in variables_of(it) if one.name == name), None)
+
+
+def read_after(segments: list[Segment], name: str) -> Variable | None:
+    """Return the first use of a variable in what follows a loop, unless it is assigned before. Other branches of an IF or a CASE
+    round the loop do not follow it."""
+    depth = lowest = 0
+    # The depth at which a branch is passed over: it does not follow the loop, or the variable is assigned in it.
+    passed: int | None = None
+    for it in segments:
+        if it.kind in ENDINGS:
+            depth -= 1
+            passed = None if passed is not None and depth < passed else passed
+        if it.kind in BRANCHES and depth == passed and depth > lowest:
+            passed = None
+        elif it.kind in BRANCHES and depth <= lowest:
+            passed = depth
+        lowest = min(lowest, depth)
+        if passed is None and (found := read_in(it, name)):
+            return found
+        target = it.row[0] if it.kind == ":=" else it.row[1] if it.kind == "FOR" else None
+        if passed is None and isinstance(target, Variable) and target.name == name:
+            if depth <= lowest:
+                return None
+            passed = depth
+        depth += it.kind in OPENINGS
+    return None
+
+
+def read_later(segments: list[Segment]) -> Iterator[Variable]:
+    """Return for each FOR the first use of its variable after it that reads what the loop has left."""
+    for loop in loops_of(segments, lambda *_: None):
+        opening = segments[loop.begin]
+        counter = opening.row[1] if opening.kind == "FOR" else None
+        if isinstance(counter, Variable) and (found := read_after(segments[loop.end + 1:], counter.name)):
+            yield found

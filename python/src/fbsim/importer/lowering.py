@@ -13,7 +13,7 @@ from .document import Code
 from .expressions import BITS, MOST_NESTED, RANGES, Binary, Call, Expression, Group, Literal, Part, Range, Unary, Variable, bare, join, nesting, number, value_of
 from .functions import SHIFTS
 from .kinds import LOGICAL, numbers
-from .loops import continued
+from .loops import continued, read_later
 from .statements import Segment, Words, assigned, made, test, word
 from .widths import narrow
 
@@ -55,6 +55,9 @@ class Lowering:
         # For each IF that is open, how many it has to close, and what it takes more; at last that of a statement outside.
         opened: list[int] = []
         taken = [0]
+        for one in read_later(segments):
+            self.faults.warn(self.code.place(one.start), "I03", f"{one.name} is the variable of a FOR that has ended: here it is the last value "
+                             "within the limit, on most controllers the next one. Keep what is needed in another variable")
         if any(it.kind == "CONTINUE" for it in segments):
             self.steps = OF_CONTINUE
         for it in continued(segments, self.fresh, self.refuse):
