@@ -1,4 +1,4 @@
-"""Reads declarations by docs/FORMATS.md, independently of the program, for tools/interpreter.py and tools/editors.py.
+"""Reads declarations by docs/formats/declaration.md, independently of the program, for tools/interpreter.py and tools/editors.py.
 
 Numbers and times are numbers, names and keywords are in upper case. A statement or an expression is a tuple that begins with its
 kind; a name is itself. Where these are in the text is noted beside them. This does not look for the faults that the program's check

@@ -9,11 +9,13 @@
 - CONTRIBUTING.md names each tool that tools/gate.py calls to check something, and README.md each crate of the kit in crates.txt.
 - docs/maintain/DEFINITIONS.md names every file of definitions of the model, and each file of definitions begins with a comment.
 - The example in the comment of a public item is the body of the test that it names.
-- Every function like `fb_sim::run::run` and every file like `docs/FORMATS.md` that a page names exists, and so does every type or
+- Every function like `fb_sim::run::run` and every file like `docs/PROFILE.md` that a page names exists, and so does every type or
   definition like `HasTaken`. If a page says in which file a definition is, it is there.
 - So does every name like `module::item` in the comments of sources.
-- The synopsis of docs/FORMATS.md has the commands, options and arguments of docs/HELP.md, and names the commands with --why.
-- Each link of a page leads to a file and a heading that there are, and so does each section that a page names as in: README.md, "Install".
+- The synopsis of docs/formats/program.md has the commands, options and arguments of docs/HELP.md, and names the commands with --why.
+- Each link of a page leads to a file and a heading that there are, and so does each section that a page, a source or a case names as in:
+  README.md, "Install" (tools/citations.py).
+- Lines of docs/formats/ have at most 120 columns, except those of tables and of code.
 - README.md has at most 2,000 words, docs/FROM_4DIAC.md 1,200, each entry of docs/DECISIONS.md at most 80, each row of docs/maintain/PROOFS.md at most 100.
 - The version of CHANGELOG.md is that of the program, of the Python package and of the files for VS Code.
 - The licence of LICENSE is named where users look for it.
@@ -28,6 +30,7 @@ import re
 import sys
 import textwrap
 
+import citations
 import figures
 import unbuilt
 from kit import TOP
@@ -37,6 +40,7 @@ TEXTS = re.compile(r"`([^`\n]+)`")
 MOST_WORDS = {"README.md": 2000, "docs/FROM_4DIAC.md": 1200}
 MOST_WORDS_OF_AN_ENTRY = 80
 MOST_WORDS_OF_A_ROW = 100
+MOST_COLUMNS = 120
 # A file or a folder of the repository, as a page names it.
 MENTION = re.compile(r"(?:docs|crates|cases|tools|examples|bench)/[\w./+]*\w")
 
@@ -228,10 +232,10 @@ def example_faults():
 
 
 def synopsis_faults():
-    """Returns the faults of the synopsis of docs/FORMATS.md, "Program", and of the sentence that names the commands with --why there. Both
+    """Returns the faults of the synopsis of docs/formats/program.md, and of the sentence that names the commands with --why there. Both
     are compared with docs/HELP.md, which the program prints."""
-    page, faults = "docs/FORMATS.md", []
-    program = text_of(page).partition("\n## Program\n")[2]
+    page, faults = "docs/formats/program.md", []
+    program = text_of(page)
     lines = {it.split()[1]: it for it in program.split("```")[1].strip().splitlines()}
     helps = dict(re.findall(r"^\$ fbsim (\w+) --help\n(.*?)^```$", text_of("docs/HELP.md"), re.M | re.S))
     faults += [f"{page}: the synopsis and docs/HELP.md differ in the command {it}" for it in sorted({*lines} ^ {*helps})]
@@ -244,35 +248,33 @@ def synopsis_faults():
         needed = {it for at, it in enumerate(needed) if it.startswith("--") or not needed[at - 1 : at] or not needed[at - 1].startswith("--")}
         if shown != options or needed != given:
             faults.append(f"{page}: the synopsis of {command} and docs/HELP.md differ in {', '.join(sorted((shown ^ options) | (needed ^ given)))}")
-    named = {*TEXTS.findall(re.search(r"^\d+\. `--why`, for ((?:`\w+`(?:, | and )?)+)", program, re.M)[1])}
+    named = {*TEXTS.findall(re.search(r"^\d+\. `--why`, for ((?:`\w+`(?:,?\s+(?:and\s+)?)?)+)", program, re.M)[1])}
     having = {it for it, text in helps.items() if re.search(r"^ +--why ", text, re.M)}
     faults += [f"{page}: the commands with --why and docs/HELP.md differ in {it}" for it in sorted(named ^ having)]
     return faults
 
 
-def headings(page):
-    """Returns the headings of a page, in small letters."""
-    return [it.lower() for it in re.findall(r"^#+ (.*)$", re.sub(r"```.*?```", "", text_of(page), flags=re.S), re.M)]
-
-
 def link_faults(page):
-    """Returns the links of a page, and the sections of other pages that it names, that lead nowhere."""
+    """Returns the links of a page that lead nowhere."""
     text, faults, here = re.sub(r"```.*?```", "", text_of(page), flags=re.S), [], os.path.dirname(page)
     for target, mark in re.findall(r"\]\((?!https?:)([^)\s#]*)(?:#([^)\s]+))?\)", text):
         place = os.path.normpath(os.path.join(here, target)) if target else page
         is_there = os.path.exists(f"{TOP}/{place}")
-        marks = [re.sub(r"[^\w -]", "", it).replace(" ", "-") for it in headings(place)] if is_there and mark else [mark]
+        marks = [re.sub(r"[^\w -]", "", it).replace(" ", "-") for it in citations.headings(place)] if is_there and mark else [mark]
         faults += [] if is_there and mark in marks else [f"{page}: the link to {target}#{mark} leads nowhere"]
-    for name, section in re.findall(r"((?:[\w-]+/)*[A-Z_]+\.md),\s+\"([^\"]+)\"", text):
-        found = next((it for it in (f"{folder}{name}" for folder in ("", "docs/", "docs/maintain/", "docs/notes/")) if os.path.exists(f"{TOP}/{it}")), None)
-        if not found or not any(" ".join(section.lower().split()) in it for it in [*headings(found), *bold_texts(found)]):
-            faults.append(f"{page}: {name} has no section {section}")
     return faults
 
 
-def bold_texts(page):
-    """Returns the texts in bold of a page, in small letters: entries of lists are named by them."""
-    return [" ".join(it.lower().split()) for it in re.findall(r"\*\*(.*?)\*\*", text_of(page), re.S)]
+def width_faults():
+    """Returns the lines of docs/formats/ that are too long, except those of tables and of code."""
+    faults = []
+    for page in citations.pages_of_formats():
+        code = False
+        for number, line in enumerate(text_of(page).splitlines(), start=1):
+            code ^= line.startswith("```")
+            too_long = not code and not line.startswith(("|", "```")) and len(line) > MOST_COLUMNS
+            faults += [f"{page}, line {number}: {len(line)} columns are more than {MOST_COLUMNS}"] if too_long else []
+    return faults
 
 
 def length_faults():
@@ -301,11 +303,11 @@ def licence_faults():
 
 def main():
     """Checks the documents and returns the status."""
-    pages = ["README.md", "CONTRIBUTING.md", "CHANGELOG.md", "SECURITY.md", *[f"{folder}/{it}" for folder in ("docs", "docs/maintain", "docs/notes") for it in sorted(os.listdir(f"{TOP}/{folder}")) if it.endswith(".md")], "bench/README.md", "examples/README.md", "editors/README.md", *sorted(os.path.relpath(it, TOP) for it in glob.glob(f"{TOP}/examples/*/README.md"))]
+    pages = ["README.md", "CONTRIBUTING.md", "CHANGELOG.md", "SECURITY.md", *[f"{folder}/{it}" for folder in ("docs", "docs/formats", "docs/maintain", "docs/notes") for it in sorted(os.listdir(f"{TOP}/{folder}")) if it.endswith(".md")], "bench/README.md", "examples/README.md", "editors/README.md", *sorted(os.path.relpath(it, TOP) for it in glob.glob(f"{TOP}/examples/*/README.md"))]
     proved = [it for it in crates() if it != "fbsim" and not it.endswith("_tests")]
     faults = has_all("docs/maintain/ARCHITECTURE.md", crates()) + has_all("docs/maintain/PROOFS.md", proved, may_repeat=True)
     faults += module_faults() + proof_faults() + definition_faults()
-    faults += comment_faults() + block_faults() + example_faults() + length_faults() + tool_faults() + kit_faults() + version_faults() + licence_faults() + figures.faults() + synopsis_faults()
+    faults += comment_faults() + block_faults() + example_faults() + length_faults() + tool_faults() + kit_faults() + version_faults() + licence_faults() + figures.faults() + synopsis_faults() + citations.faults(pages) + width_faults()
     places = [it for kind in ("src/**/*.rt", "specs/**/*.antt", "proofs/**/*.antt") for it in glob.glob(f"{TOP}/crates/*/{kind}", recursive=True)]
     known = {word for it in places for word in re.findall(r"[A-Z]\w+", text_of(os.path.relpath(it, TOP)))}
     known |= {os.path.basename(it).removesuffix(".antt") for it in places}

@@ -1,5 +1,5 @@
 #!/usr/bin/env python3
-"""tools/editors.py: checks that the syntax files of editors/ colour declarations by the tokens of docs/FORMATS.md.
+"""tools/editors.py: checks that the syntax files of editors/ colour declarations by the tokens of docs/formats/declaration.md.
 
 The tokens of all examples, and of texts with literals and comments at their limits, are coloured by Vim itself (`vim -es`) and by the
 TextMate grammar. For that grammar this has its own reader, which matches with Python's `re`, and also with Oniguruma, as VS Code does:
@@ -55,8 +55,8 @@ qall!
 
 
 def keywords():
-    """Returns the keywords of docs/FORMATS.md."""
-    return re.search(r"^Keywords: (.*)\.$", content(f"{TOP}/docs/FORMATS.md"), re.M)[1].split()
+    """Returns the keywords of docs/formats/declaration.md."""
+    return re.search(r"^Keywords: ([^.]*)\.$", content(f"{TOP}/docs/formats/declaration.md"), re.M)[1].split()
 
 
 def expected(text):

@@ -1,8 +1,8 @@
 #!/usr/bin/env python3
-"""tools/explained.py [--write]: checks that docs/FORMATS.md shows the program's explanations of refusals and lines of --why.
+"""tools/explained.py [--write]: checks that docs/formats/ shows the program's explanations of refusals and lines of --why.
 
-The explanations are in the tables of crates/fb_why/src/table.rt. With --write this writes them into the page, between the two
-marks there. Each line of --why that the page shows must be expected by a stored case or by a call of tools/calls.py. Each number
+The explanations are in the tables of crates/fb_why/src/table.rt. With --write this writes them into refusals.md, between
+the two marks there. Each line of --why that program.md shows must be expected by a stored case or by a call of tools/calls.py. Each number
 of a refusal in the sources must have one explanation, and each explanation of a refusal must have one number. Otherwise this
 reports it and ends with status 1. ./gate runs it."""
 
@@ -18,7 +18,8 @@ from unbuilt import TABLE, entries
 # The stored cases of --why, and what they call the files of a deployment, of stimuli and of rules, which have these names on the page.
 CASES = sorted(glob.glob(f"{TOP}/cases/why*.toml"))
 NAMES = {"DEPLOY:": "plan.toml:", "STIM:": "stim.csv:", "RULES:": "cell.rules:"}
-PAGE = f"{TOP}/docs/FORMATS.md"
+PAGE = f"{TOP}/docs/formats/refusals.md"
+PAGE_OF_WHY = f"{TOP}/docs/formats/program.md"
 FIRST = "<!-- The explanations of crates/fb_why/src/table.rt, by tools/explained.py --write -->\n"
 LAST = "<!-- The end of the explanations -->\n"
 # The files that give refusals their numbers, and how they do.
@@ -58,7 +59,7 @@ def named_as_on_the_page(line):
 def untried(page):
     """Returns the rows of the page's table of lines of --why that no case and no call expects."""
     if page.count(WHY_HEADING) != 1:
-        sys.exit(f"{PAGE}: the table of lines of --why must be there once")
+        sys.exit(f"{PAGE_OF_WHY}: the table of lines of --why must be there once")
     shown = page.split(WHY_HEADING)[1].split("\n\n")[0].splitlines()
     expected = expected_lines()
     return [row for row in shown if row.split(" | ", 1)[1].removesuffix(" |").strip("`") not in expected]
@@ -81,8 +82,8 @@ def main(words):
     if (explained := sorted(name for name, *_ in entries(table) if re.fullmatch(r"E\d\d", name))) != numbers():
         print(f"{TABLE}: explains {explained}, and the sources number {numbers()}", file=sys.stderr)
         return 1
-    with open(PAGE) as it:
-        page = it.read()
+    with open(PAGE) as it, open(PAGE_OF_WHY) as of_why:
+        page, lines = it.read(), of_why.read()
     if page.count(FIRST) != 1 or page.count(LAST) != 1:
         sys.exit(f"{PAGE}: the marks of the explanations must be there once")
     before, rest = page.split(FIRST)
@@ -95,8 +96,8 @@ def main(words):
     elif shown != expected:
         print(f"{PAGE}: shows other explanations than {TABLE} has: tools/explained.py --write", file=sys.stderr)
         return 1
-    if rows_untried := untried(page):
-        print(f"{PAGE}: neither cases/why*.toml nor tools/calls.py expects these lines:", *rows_untried, sep="\n", file=sys.stderr)
+    if rows_untried := untried(lines):
+        print(f"{PAGE_OF_WHY}: neither cases/why*.toml nor tools/calls.py expects these lines:", *rows_untried, sep="\n", file=sys.stderr)
         return 1
     print("explained: the page shows the explanations of the program, and lines that it prints")
     return 0

@@ -2,7 +2,7 @@
 """tools/insides.py [PROGRAM]: what `inspect` writes between the lines of traces and what `coverage` reports, beside an interpreter of its own.
 
 The second simulator of tools/interpreter.py runs each example and each random system of tools/drawn.py once more, and notes what each
-block does as docs/FORMATS.md says: transitions, algorithms with what they change, lost events, and what event blocks remember. The
+block does as docs/formats/trace.md says: transitions, algorithms with what they change, lost events, and what event blocks remember. The
 program is given the trace alone. Both texts are to be the same, and without the lines that begin with two spaces they are the trace.
 Of traces in which one emission was changed or left out, the program is to refuse the first line that shows it. Of traces that stop
 where a resource has used up its steps, with a limit that was passed before, it is to refuse the stop, and to say after which event the

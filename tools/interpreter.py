@@ -1,7 +1,7 @@
 #!/usr/bin/env python3
 """tools/interpreter.py [FOLDER..]: a second simulator, in Python, that works out the trace of each example, or of these folders.
 
-It is written only from docs/FORMATS.md and docs/PROFILE.md and shares nothing with the program. It has one agenda, one thread, no
+It is written only from docs/formats/ and docs/PROFILE.md and shares nothing with the program. It has one agenda, one thread, no
 limits and no refusals. It runs the call in a folder's file `args`, and compares its trace with the file `trace`. ./gate runs it before
 anything is built; tools/drawn.py compares the program with it on random systems. With --print it prints the trace of one folder
 instead."""

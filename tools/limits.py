@@ -1,6 +1,6 @@
 #!/usr/bin/env python3
 """tools/limits.py [PROGRAM]: calls the built program with a system that is at all its limits at once, with rules at theirs, and with what
-it has most of at once. What it must write follows from docs/FORMATS.md and docs/PROFILE.md.
+it has most of at once. What it must write follows from docs/formats/ and docs/PROFILE.md.
 
 The system has 4,096 merges in 256 resources with 1,024 links, and 100,000 stimuli, the last of them in the last tick. The first 1,024
 merges send, each over a link of its own; the next 1,024 receive. The others are alone. Each text has as many bytes as it may have. A

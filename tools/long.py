@@ -1,6 +1,6 @@
 #!/usr/bin/env python3
 """Runs commands over a trace of more than a million lines, and over a text with a late line that no trace has, and compares what they
-write with texts that follow from docs/FORMATS.md: tools/long.py [PROGRAM]
+write with texts that follow from docs/formats/: tools/long.py [PROGRAM]
 
 ./gate runs it each time it has run the program."""
 

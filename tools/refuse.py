@@ -168,7 +168,7 @@ count = "* < *"
 most = 1
 """
 
-# Calls that are refused: their words, their texts, and what standard error gets. The rules are those of docs/FORMATS.md.
+# Calls that are refused: their words, their texts, and what standard error gets. The rules are those of docs/formats/.
 OF_EVENTS = "APPLICATION A FBS S : E_RESTART; M : E_MERGE; END_FBS EVENT_CONNECTIONS\n{}END_CONNECTIONS END_APPLICATION\n"
 REFUSED = {
     "a section that has another end": (

@@ -1,7 +1,7 @@
 #!/usr/bin/env python3
 """tools/second_session.py: a second `fbsim session`, over the second simulator, and the stored sessions by it.
 
-It is written only from docs/FORMATS.md, "A session", and docs/PROFILE.md, and shares nothing with the program. Without arguments it
+It is written only from docs/formats/session.md and docs/PROFILE.md, and shares nothing with the program. Without arguments it
 answers the commands of cases/session.toml, and compares its answers with the stored ones. ./gate does so before anything is built.
 With the arguments of `fbsim session` it is one."""
 

@@ -4,7 +4,7 @@
 As they are there is no warning. In each copy one mistake is made, two of each kind that the table below has. `check --lint` must report
 exactly the warnings of the table, each with its file, its line and its column. The places are found in the changed text: a stroke
 stands before each, in a piece of text that is there once. A row of stimuli has a number in place of them. They were found by hand, as
-the words were, by the table of warnings in docs/FORMATS.md.
+the words were, by the table of warnings in docs/formats/refusals.md.
 
 ./gate runs this each time it has run the program. Without ./gate it uses the program that ./simulate built."""
 

@@ -1,4 +1,4 @@
-"""The source line with a mark that the program shows after a note with a place (docs/FORMATS.md, "Program")."""
+"""The source line with a mark that the program shows after a note with a place (docs/formats/program.md)."""
 
 import re
 

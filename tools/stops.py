@@ -2,7 +2,7 @@
 """tools/stops.py [PROGRAM [FIRST LAST]]: where `run --why` says that random systems stop, beside an interpreter of its own.
 
 The second simulator of tools/interpreter.py runs the random systems of tools/drawn_types.py, with more conditions and loops in their
-algorithms and with line ends, tabs and comments among their tokens. It notes the place of each stop as docs/FORMATS.md says ("Program"):
+algorithms and with line ends, tabs and comments among their tokens. It notes the place of each stop as docs/formats/program.md says:
 the block, the state, the transition or the action, the statement, the operation that has no value or that is assigned, the values, and
 how the steps of the tick were used. What the program writes to standard error must be the same to the byte.
 

@@ -1,7 +1,7 @@
 #!/usr/bin/env python3
 """tools/traces.py: makes waveforms of traces that are cut off, or changed in a byte or a line, with --cut and without.
 
-The expected result of each text is worked out here from docs/FORMATS.md, "What is no trace", without the program. A text that is
+The expected result of each text is worked out here from docs/formats/trace.md, "What is no trace", without the program. A text that is
 still a trace has the dump of its lines (tools/waves.py); with --cut, so has one that is cut off. Any other is refused with the number
 of the line at which that shows first, and --why adds a line about it. These calls show it for some thousands of texts.
 

@@ -33,7 +33,7 @@ PROGRAM = f"{TOP}/crates/fbsim/out/fbsim"
 BITS = 64
 COUNT = "_count"
 
-# The worked example of docs/FORMATS.md, in both forms.
+# The worked example of docs/formats/trace.md, in both forms.
 SWITCH = b"""APPLICATION A FBS F : E_SR; W : E_SWITCH; END_FBS
 EVENT_CONNECTIONS F.EO TO W.EI; END_CONNECTIONS DATA_CONNECTIONS F.Q TO W.G; END_CONNECTIONS END_APPLICATION
 """
@@ -176,7 +176,7 @@ def differences(expected, dump):
 
 
 def faults_of_form(expected, dump):
-    """The differences between the program's dump and docs/FORMATS.md."""
+    """The differences between the program's dump and docs/formats/waveforms.md."""
     if dump.scale != "1ms":
         yield f"the time scale is {dump.scale}"
     if dump.comments != expected.comments:

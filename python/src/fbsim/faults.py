@@ -9,7 +9,7 @@ from typing import TYPE_CHECKING, NamedTuple, cast
 if TYPE_CHECKING:
     from fbsim.trace import Lines, Report
 
-# What the program prints of a refusal with --why (docs/FORMATS.md, "Program").
+# What the program prints of a refusal with --why (docs/formats/program.md).
 HEAD = re.compile(r"refused (E\d\d|trace)(?: (.*?))??(?: line (\d+))?")
 PLACE = re.compile(r"(.*?):(\d+):(\d+): E\d\d: (.*)")
 OF_RULES_OR_TRACE = re.compile(r"(?:(rules|.*?): )?(?:line (\d+)(?:, column (\d+))?: )?(.*)")

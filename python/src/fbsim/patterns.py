@@ -1,4 +1,4 @@
-"""Patterns of lines of a trace, as in the rules of `fbsim expect` (docs/FORMATS.md, "Rules over traces")."""
+"""Patterns of lines of a trace, as in the rules of `fbsim expect` (docs/formats/rules.md, "Rules over traces")."""
 
 from __future__ import annotations
 

@@ -15,7 +15,7 @@ Value = int | bool
 FileName = str | os.PathLike[str]
 Row = tuple[int, str] | tuple[int, str, Mapping[str, Value]]
 Stimuli = FileName | Iterable[Row] | None
-# What the program takes in a list of stimuli: rows, and bytes of their text (docs/FORMATS.md, "Limits").
+# What the program takes in a list of stimuli: rows, and bytes of their text (docs/formats/refusals.md, "Limits").
 MOST_ROWS, MOST_BYTES = 100_000, 16 * 1024 * 1024
 
 

@@ -17,7 +17,7 @@ from pathlib import Path
 
 from fbsim.faults import FileFault, InputFault
 
-# A comment or a token of a declaration (docs/FORMATS.md, "Tokens").
+# A comment or a token of a declaration (docs/formats/declaration.md, "Tokens").
 TOKEN = re.compile(r"(\(\*.*?\*\)|//[^\n]*)|[A-Za-z0-9_]+(?:#-?[A-Za-z0-9_]+)?|:=|[^\sA-Za-z0-9_]", re.DOTALL)
 CONSTANT = re.compile(r"-?[0-9_]+|-?(?:2|8|16)#\w+|(?:T|TIME)#-?\w+|TRUE|FALSE", re.IGNORECASE)
 

@@ -75,7 +75,7 @@ class Signal(NamedTuple):
         return bool(self.ticks)
 
 
-# What a line has after its tick, and its last line (docs/FORMATS.md, "What is no trace").
+# What a line has after its tick, and its last line (docs/formats/trace.md, "What is no trace").
 HEAD = re.compile(
     rf"({NAME}) ([<>]) ({NAME}(?:\.{NAME})*)\.({NAME})((?: {NAME}=(?:TRUE|FALSE|0|-?[1-9][0-9]*))*)\n", re.ASCII
 )
@@ -174,7 +174,7 @@ class Lines(ABC):
         """Goes over the lines, without the last one that says how the run ended."""
 
     def where(self, pattern: str) -> Selection:
-        """Returns the lines that match a pattern as in rules (docs/FORMATS.md): `STATION < GATE.* TAKEN>2`."""
+        """Returns the lines that match a pattern as in rules (docs/formats/rules.md): `STATION < GATE.* TAKEN>2`."""
         return Selection(self, self.pattern_of(pattern))
 
     def pattern_of(self, text: str) -> Pattern:

@@ -8,7 +8,7 @@ import sys
 from .common import TABLES, Faults
 
 NUMBERS: dict[str, str] = TABLES["warnings"]
-# The warnings of the simulator (docs/FORMATS.md, "Warnings"), and all numbers.
+# The warnings of the simulator (docs/formats/refusals.md, "Warnings"), and all numbers.
 LINTS = [f"L{number:02}" for number in range(1, TABLES["lints"]["last"] + 1)]
 ALL = frozenset({*NUMBERS, *LINTS})
 STRICT = frozenset({"I01", "I02"})
