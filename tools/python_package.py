@@ -29,7 +29,7 @@ MODULES = {
     "setuptools": "python3-setuptools", "ensurepip": "python3-venv", "mypy": "mypy", "flake8": "flake8",
 }
 # Folders of the package, with the lines of Python that each may have.
-MOST_LINES = {"fbsim": 3_350, "fbsim/importer": 4_960}
+MOST_LINES = {"fbsim": 3_520, "fbsim/importer": 4_960}
 SECONDS = 1_200
 
 

@@ -205,6 +205,18 @@ def test_each_status_has_its_exception(tmp_path, monkeypatch, text, kind, said):
             call()
 
 
+@pytest.mark.parametrize("said, status", [
+    ("end 4", 0), ("end 6", 0), ("end 5", 1), ("stop 3 MAIN steps", 0),
+])
+def test_a_run_must_end_as_its_status_says(tmp_path, monkeypatch, said, status):
+    """Its trace ends with the horizon that was asked for, or with a stop."""
+    monkeypatch.setenv("FBSIM", program(tmp_path, f"echo {said}; exit {status}"))
+    plant = fbsim.Application("plant.iec")
+    for call in (lambda: plant.run(horizon=5, stop=True), lambda: list(plant.stream(horizon=5, stop=True))):
+        with pytest.raises(fbsim.ProgramFault, match=f"up to 5 has the status {status}, and .* the last line: {said}"):
+            call()
+
+
 def test_an_output_that_is_full_is_a_write_fault(tmp_path):
     from fbsim.program import call
 

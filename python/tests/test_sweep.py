@@ -560,3 +560,51 @@ def test_programs_of_the_page_run_with_the_start_method_forkserver(tmp_path, top
 def test_two_names_of_one_parameter_are_a_fault(one, other):
     with pytest.raises(fbsim.InputFault, match="are one parameter$"):
         sweep({one: [4], other: [7]})
+
+
+class Loses(Executor):
+    """An executor that gives back something else than what its calls return."""
+
+    def __init__(self, change):
+        self.change = change
+
+    def submit(self, call, /, *given, **named):
+        made = Future()
+        self.change(made, call(*given, **named))
+        return made
+
+
+def is_cancelled(made, _):
+    made.cancel()
+    made.set_running_or_notify_cancel()
+
+
+@pytest.mark.parametrize("change, why", [
+    (lambda made, rows: made.set_result(rows[1:]), "it returned others"),
+    (lambda made, rows: made.set_result(rows[:-1]), "it returned others"),
+    (lambda made, rows: made.set_result(rows * 2), "it returned others"),
+    (lambda made, rows: made.set_result(None), "TypeError"),
+    (lambda made, rows: made.set_exception(OSError("the worker has gone")), "OSError: the worker has gone"),
+    (is_cancelled, "CancelledError"),
+])
+def test_variants_that_an_executor_loses_are_a_fault(change, why):
+    what = {"rules": RULES, "executor": Loses(change)}
+    with pytest.raises(fbsim.Fault, match=f"^the executor did not run variant 0: {why}") as caught:
+        sweep({THERE: [9]}, **what)
+    assert caught.value.__notes__ == [f"variant 0: {THERE} = 9"]
+    found = sweep({THERE: [9, 10]}, on_error="keep", **what)
+    assert len(found) == len(found.failed) == len(found.broken(STOPS)) == 2
+    with pytest.raises(fbsim.Fault, match=why):
+        list(CONVEYOR.application.variants({THERE: [9]}, CONVEYOR.stimuli, horizon=800, executor=Loses(change)))
+
+
+def test_a_batch_that_is_lost_names_its_variants():
+    with pytest.raises(fbsim.Fault, match="^the executor did not run variants [0-9]+ to [0-9]+: it returned others$"):
+        sweep({THERE: range(1, 70)}, executor=Loses(lambda made, rows: made.set_result([])))
+
+
+def test_an_executor_that_takes_nothing_is_a_fault():
+    with ThreadPoolExecutor(1) as executor:
+        pass
+    with pytest.raises(fbsim.Fault, match="^the executor takes no variants: RuntimeError: cannot schedule"):
+        sweep({THERE: [9]}, executor=executor)

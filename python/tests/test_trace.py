@@ -349,6 +349,19 @@ def test_a_report_that_lacks_a_rule_is_a_fault(conveyor, tmp_path, monkeypatch, 
         found.sweep({"horizon": [800]}, horizon=800, rules=rules)
 
 
+@pytest.mark.parametrize("within, after, said", [
+    (20, "; exit 1", "the status 1, and 0 points not ok"), (2, "; exit 0", "the status 0, and 1 points not ok"),
+    (2, "| sed 's/^not ok/ok/'; exit 1", "the status 1, and 0 points not ok"),
+])
+def test_a_report_has_the_status_of_its_points(conveyor, tmp_path, monkeypatch, within, after, said):
+    rules = tmp_path / "some.rules"
+    text = (EXAMPLES / "conveyor" / "conveyor.rules").read_text().replace("within = 20", f"within = {within}")
+    rules.write_text(text)
+    monkeypatch.setenv("FBSIM", program(tmp_path, f'"{find_program()}" "$@" {after}'))
+    with pytest.raises(fbsim.ProgramFault, match=f"^the report has {said}$"):
+        conveyor.expect(rules)
+
+
 def test_a_report_of_fewer_rules_than_the_file_has_is_a_fault(conveyor, tmp_path, monkeypatch):
     rules = EXAMPLES / "conveyor" / "conveyor.rules"
     change = "/^ok 2 /,$ d; s/^1\\.\\..*/1..1/"

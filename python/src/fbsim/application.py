@@ -7,7 +7,6 @@ import subprocess
 import tempfile
 from collections.abc import Generator, Iterable, Iterator, Mapping, Sequence
 from dataclasses import dataclass
-from itertools import takewhile
 from pathlib import Path
 from typing import IO, TYPE_CHECKING, Any, Literal
 
@@ -87,9 +86,7 @@ class Application:
         words, given = self.call_words("run", stimuli, options)
         trace, file = temporary(self)
         with file as to:
-            said = call(words, given, to, statuses=(0, 1), timeout=timeout).stderr.splitlines()
-        count = sum(1 for _ in takewhile(lambda it: it.startswith("stimuli: "), said))
-        trace.warnings, trace.where_stopped = tuple(said[:count]), "\n".join(said[count:])
+            trace.take(call(words, given, to, statuses=(0, 1), timeout=timeout), horizon)
         if trace.stop and not stop:
             raise Stopped(trace.stop, trace)
         return trace
@@ -100,7 +97,7 @@ class Application:
     ) -> Stream:
         """Runs the application, and returns its lines as they come, to be read once. Reading them raises its faults."""
         options = {"horizon": horizon, "steps": steps, "workers": workers, "trace": 2 if keys else None}
-        return Stream(*self.call_words("run", stimuli, options), stop, self)
+        return Stream(*self.call_words("run", stimuli, options), stop, self, horizon)
 
     def coverage(self, *traces: Trace, least: int | None = None) -> str:
         """Returns the report of `fbsim coverage` on traces. Below `least` percent it is raised as a `Fault`."""
@@ -178,9 +175,10 @@ class Stream(Lines):
     that they are an InputFault."""
 
     def __init__(
-        self, words: Sequence[str], given: str, may_stop: bool, application: Application | None = None
+        self, words: Sequence[str], given: str, may_stop: bool, application: Application, horizon: int
     ) -> None:
-        self.words, self.given, self.may_stop, self.application = words, given, may_stop, application
+        self.words, self.given, self.may_stop = words, given, may_stop
+        self.application, self.horizon = application, horizon
         self.ended: tuple[int | None, Stop | None] | None = None
         self.was_read = False
 
@@ -212,14 +210,14 @@ class Stream(Lines):
             given.write(encoded(self.given))
             given.seek(0)
             with tempfile.TemporaryFile("w+", errors="replace") as said:
-                last, where = yield from self.lines(given, said)
-        end, stop = ending(last)
+                last, where, status = yield from self.lines(given, said)
+        end, stop = ending(last, status, self.horizon)
         self.ended = end, stop and stop._replace(where=where)
         if self.stop and not self.may_stop:
             raise Stopped(self.stop)
 
-    def lines(self, given: IO[bytes], said: IO[str]) -> Generator[Line, None, tuple[str, str]]:
-        """Goes over the lines, and returns the last line and what the program said, or raises the fault of its end."""
+    def lines(self, given: IO[bytes], said: IO[str]) -> Generator[Line, None, tuple[str, str, int]]:
+        """Goes over the lines, and returns the last line, what the program said and its status, or raises its fault."""
         how: dict[str, Any] = {"stderr": said, "encoding": "ascii", "errors": "replace"}
         with started(self.words, stdin=given, stdout=subprocess.PIPE, **how) as run:
             fault = last = None
@@ -234,4 +232,4 @@ class Stream(Lines):
             raise fault_of(status, where)
         if fault is not None or last is None:
             raise fault or InputFault("there are no lines")
-        return last, where.rstrip()
+        return last, where.rstrip(), status

@@ -163,7 +163,7 @@ def run_variant(variant: Plan, folder: Path, number: int, parameters: dict[str, 
     """Runs a variant whose files are in a folder, and judges its trace. Messages name files as that folder has them."""
     trace, file = temporary(None)
     with file as to:
-        trace.where_stopped = call(variant.words(), "", to, (0, 1), variant.timeout, folder).stderr.rstrip()
+        trace.take(call(variant.words(), "", to, (0, 1), variant.timeout, folder), variant.horizon)
     report = check_rules(trace, "rules", folder=folder) if "rules" in variant.files else Report(())
     latencies = {name: trace.latencies(*it) for name, it in variant.latencies.items()}
     return Variant(number, parameters, trace.end, trace.stop, report, latencies)
@@ -357,12 +357,13 @@ def run_all(plan: Plan, chosen: Sequence[Chosen], executor: Executor, cache: Cac
         left.append((number, values))
     # (one call of the executor runs some variants)
     size = max(1, min(20, len(left) // 32))
-    calls = [executor.submit(run_batch, plan, left[at:at + size]) for at in range(0, len(left), size)]
+    batches = [left[at:at + size] for at in range(0, len(left), size)]
+    calls = {submitted(executor, plan, it): it for it in batches}
     waiting = set(calls)
     try:
         for it in as_completed(calls):
             waiting.discard(it)
-            rows = stored(it, cache, keys)
+            rows = stored(returned(it, plan, calls[it]), cache, keys)
             for row in rows:
                 if row.fault and not plan.keeps_faults:
                     raise row.fault
@@ -372,13 +373,40 @@ def run_all(plan: Plan, chosen: Sequence[Chosen], executor: Executor, cache: Cac
     finally:
         for it in waiting:
             if not it.cancel() and it.done() and not it.exception():
-                stored(it, cache, keys)
+                stored(returned(it, plan, calls[it]), cache, keys)
         show_progress(None, 0)
 
 
-def stored(batch: Future[list[Variant]], cache: Cache | None, keys: Mapping[int, str]) -> list[Variant]:
-    """Returns the variants of a batch, which are in the cache then, but for faults."""
-    rows = batch.result()
+def submitted(executor: Executor, plan: Plan, batch: Sequence[Chosen]) -> Future[list[Variant]]:
+    """Has an executor run variants."""
+    try:
+        return executor.submit(run_batch, plan, batch)
+    except Exception as it:
+        raise Fault(f"the executor takes no variants: {type(it).__name__}: {it}") from it
+
+
+def returned(call: Future[list[Variant]], plan: Plan, batch: Sequence[Chosen]) -> list[Variant]:
+    """Returns the variants that an executor has run. What it lost, or did not run, are variants with that fault."""
+    numbers = [it for it, _ in batch]
+    try:
+        rows, why, cause = call.result(), "it returned others", None
+        # (without `keeps_faults`, the first fault ends a batch)
+        ends = not plan.keeps_faults and bool(rows) and rows[-1].fault is not None
+        if [it.number for it in rows] == (numbers[:len(rows)] if ends else numbers):
+            return rows
+    except BrokenProcessPool:
+        raise
+    except Exception as it:
+        why, cause = f"{type(it).__name__}: {it}".rstrip(": "), it
+    named = f"variants {numbers[0]} to {numbers[-1]}" if len(numbers) > 1 else f"variant {numbers[0]}"
+    fault = Fault(f"the executor did not run {named}: {why}")
+    fault.__cause__ = cause
+    fault.add_note(f"variant {numbers[0]}: {said(dict(zip(plan.names, batch[0][1])))}")
+    return [Variant(it, dict(zip(plan.names, values)), None, None, Report(()), {}, fault) for it, values in batch]
+
+
+def stored(rows: list[Variant], cache: Cache | None, keys: Mapping[int, str]) -> list[Variant]:
+    """Returns variants, which are in the cache then, but for faults."""
     for it in rows if cache is not None else []:
         if it.fault is None and it.number in keys and cache is not None:
             cache.store(keys[it.number], it)

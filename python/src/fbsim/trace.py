@@ -7,6 +7,7 @@ import itertools
 import os
 import re
 import shutil
+import subprocess
 import tempfile
 import tomllib
 import weakref
@@ -154,11 +155,15 @@ def last_of(text: str, least: int, has_lines: bool) -> str:
     return text
 
 
-def ending(text: str) -> tuple[int | None, Stop | None]:
-    """Returns the horizon or the stop of a last line."""
-    if parts := LAST.fullmatch(text):
-        return (int(parts[1]), None) if parts[1] else (None, Stop(int(parts[2]), parts[3], parts[4]))
-    raise InputFault(f"the last line is neither end nor stop: {text[:80].rstrip()}")
+def ending(text: str, status: int | None = None, horizon: int | None = None) -> tuple[int | None, Stop | None]:
+    """Returns the horizon or the stop of a last line. With the status of a run, it must be the end of that run."""
+    parts = LAST.fullmatch(text)
+    if parts is None:
+        raise InputFault(f"the last line is neither end nor stop: {text[:80].rstrip()}")
+    end, stop = (int(parts[1]), None) if parts[1] else (None, Stop(int(parts[2]), parts[3], parts[4]))
+    if status is not None and (status, end) not in ((0, horizon), (1, None)):
+        raise ProgramFault(f"a run up to {horizon} has the status {status}, and its trace the last line: {text.rstrip()}")
+    return end, stop
 
 
 class Lines(ABC):
@@ -310,6 +315,13 @@ class Trace(Lines):
             self.count()
         return last
 
+    def take(self, made: subprocess.CompletedProcess[str], horizon: int) -> None:
+        """Takes what the program said of the run whose trace this is. They must say the same of its end."""
+        said = made.stderr.splitlines()
+        count = sum(1 for _ in itertools.takewhile(lambda it: it.startswith("stimuli: "), said))
+        self.warnings, self.where_stopped = tuple(said[:count]), "\n".join(said[count:])
+        ending(self.last, made.returncode, horizon)
+
     def text(self) -> str:
         """Returns the whole trace as one text."""
         with self.opened() as it:
@@ -391,14 +403,17 @@ class Report(NamedTuple):
         return self.of("broken")
 
 
-def read_report(text: str, trace: Trace, number_of_rules: int | None = None) -> Report:
-    """Reads a report on a trace, and looks up the lines at which rules break. One that lacks a rule is a fault."""
+def read_report(text: str, trace: Trace, status: int, number_of_rules: int | None = None) -> Report:
+    """Reads a report on a trace, and looks up the lines at which rules break. One that lacks a rule, or whose points
+    are not those of its status, is a fault."""
     points = [*POINT.finditer(text)]
     counts = {len(points), len(re.findall("^(?:not )?ok ", text, re.M)), number_of_rules or len(points)}
     plans = re.findall(r"^1\.\.(\d+)$", text, re.M)
     if plans != [str(it) for it in counts]:
         rules = "" if number_of_rules is None else f" for {number_of_rules} rules"
         raise ProgramFault(f"the report has the plan 1..{' '.join(plans)}, and {len(points)} points are read{rules}")
+    if (status != 0) != any(it[1] for it in points):
+        raise ProgramFault(f"the report has the status {status}, and {sum(bool(it[1]) for it in points)} points not ok")
     wanted = {int(it[5]): "" for it in points if it[5]}
     with open(trace.path, encoding="ascii", errors="replace") as lines:
         for number, line in enumerate(itertools.islice(lines, max(wanted, default=0)), 1):
@@ -422,8 +437,8 @@ def check_rules(
     words = ["expect", file_name(rules, "a file of rules"), os.fspath(trace.path), "--why", *["--strict"] * strict]
     if trace.application is not None:
         words += ["--decl", *trace.application.words]
-    said = call(words, statuses=(0, 1), folder=folder).stdout
-    return read_report(said, trace, number_of_rules(Path(folder or "", rules)))
+    made = call(words, statuses=(0, 1), folder=folder)
+    return read_report(made.stdout, trace, made.returncode, number_of_rules(Path(folder or "", rules)))
 
 
 def number_of_rules(path: Path) -> int | None:
