@@ -8,7 +8,7 @@ import pytest
 
 TOP = Path(__file__).resolve().parents[2]
 
-pytest_plugins = ["fbsim.pytest_plugin", "pytester", "rooms"]
+pytest_plugins = ["pytest_fbsim", "pytester", "rooms"]
 
 
 @pytest.fixture(scope="session")

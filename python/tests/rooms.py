@@ -73,7 +73,7 @@ class Room:
     def run(self, *words):
         # (the processes of xdist get the folders of modules that the first one had when it began)
         run = self.pytester.runpytest_subprocess if "-n" in words else self.pytester.runpytest
-        return run("-p", "fbsim.pytest_plugin", "-p", "no:cacheprovider", *words)
+        return run("-p", "pytest_fbsim", "-p", "no:cacheprovider", *words)
 
 
 @pytest.fixture

@@ -182,7 +182,7 @@ def test_what_a_blessing_changed_is_listed_whatever_becomes_of_the_test(room, af
 def test_what_a_blessing_changed_is_listed_where_the_test_is_interrupted(room):
     in_python(room, IN_PYTHON + "    raise KeyboardInterrupt\n")
     kept = changed(room)
-    words = ("-p", "fbsim.pytest_plugin", "-p", "no:cacheprovider", "--fbsim-bless")
+    words = ("-p", "pytest_fbsim", "-p", "no:cacheprovider", "--fbsim-bless")
     result = room.pytester.runpytest_subprocess(*words)
     assert result.ret == pytest.ExitCode.INTERRUPTED
     result.stdout.fnmatch_lines(["*references changed by --fbsim-bless*", "*/trace"])

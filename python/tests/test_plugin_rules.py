@@ -151,14 +151,14 @@ def counted(room, monkeypatch):
 
 def test_a_scenario_is_run_once_and_its_trace_goes_when_it_is_judged(room, counted):
     room.write("fbsim.toml", SCENARIOS + '\n[[scenario]]\nname = "again"\nstim = "stimuli.csv"\nreference = "trace"\n')
-    result = room.pytester.runpytest_subprocess("-p", "fbsim.pytest_plugin", "-p", "no:cacheprovider", "-q")
+    result = room.pytester.runpytest_subprocess("-p", "pytest_fbsim", "-p", "no:cacheprovider", "-q")
     result.assert_outcomes(passed=9, skipped=2)
     assert counted() == ["run", "1"] * 3
 
 
 def test_a_failed_scenario_is_not_run_again_for_each_rule(room, counted):
     room.write("fbsim.toml", SCENARIOS.replace("stimuli.csv", "stimulus.csv"))
-    result = room.pytester.runpytest_subprocess("-p", "fbsim.pytest_plugin", "-p", "no:cacheprovider", "-q")
+    result = room.pytester.runpytest_subprocess("-p", "pytest_fbsim", "-p", "no:cacheprovider", "-q")
     result.assert_outcomes(passed=1, failed=5, skipped=2)
     assert counted()[::2] == ["run"] * 2
     result.stdout.fnmatch_lines(["two parcels: its run failed", "no parcel: never applied; *"])

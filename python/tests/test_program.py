@@ -35,6 +35,32 @@ def test_the_environment_comes_first_and_then_the_path(tmp_path, monkeypatch):
     assert fbsim.find_program() == str(second)
 
 
+SITES = [("lib/python3.11/site-packages", ""), ("lib/python3/dist-packages", ""), ("at", "at")]
+
+
+@pytest.mark.parametrize("site, to", SITES)
+def test_the_program_of_the_installation_comes_before_the_path(site, to, tmp_path, monkeypatch):
+    monkeypatch.delenv("FBSIM", raising=False)
+    monkeypatch.setattr(program_module, "__file__", str(tmp_path / "env" / site / "fbsim" / "program.py"))
+    on_path = copy_of_true(tmp_path / "b", "fbsim")
+    monkeypatch.setenv("PATH", str(tmp_path / "b"), prepend=os.pathsep)
+    assert fbsim.find_program() == str(on_path)
+    own = copy_of_true(tmp_path / "env" / to / "bin", "fbsim")
+    assert fbsim.find_program() == str(own)
+    monkeypatch.setenv("FBSIM", str(on_path))
+    assert fbsim.find_program() == str(on_path)
+
+
+def test_a_folder_bin_beside_a_checkout_is_no_installation(tmp_path, monkeypatch):
+    monkeypatch.delenv("FBSIM", raising=False)
+    monkeypatch.setattr(program_module, "__file__", str(tmp_path / "python" / "src" / "fbsim" / "program.py"))
+    on_path = copy_of_true(tmp_path / "b", "fbsim")
+    monkeypatch.setenv("PATH", str(tmp_path / "b"), prepend=os.pathsep)
+    copy_of_true(tmp_path / "bin", "fbsim")
+    copy_of_true(tmp_path / "python" / "bin", "fbsim")
+    assert fbsim.find_program() == str(on_path)
+
+
 def test_a_relative_name_is_found_from_the_current_folder(tmp_path, monkeypatch):
     given = copy_of_true(tmp_path / "a", "mine")
     monkeypatch.chdir(tmp_path)
@@ -61,5 +87,5 @@ def test_a_missing_program_is_named(tmp_path, monkeypatch):
     monkeypatch.delenv("FBSIM")
     monkeypatch.setenv("PATH", str(tmp_path))
     monkeypatch.setattr(program_module, "__file__", str(tmp_path / "program.py"))
-    with pytest.raises(fbsim.ProgramMissing, match="./simulate"):
+    with pytest.raises(fbsim.ProgramMissing, match="set FBSIM to its path"):
         fbsim.find_program()

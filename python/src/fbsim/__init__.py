@@ -5,7 +5,7 @@ __version__ = "1.2.0"
 from fbsim.application import Application, Stream
 from fbsim.faults import (
     Fault, FileFault, InputFault, Location, OutOfMemory, ProgramFault, ProgramMissing, ReferenceDiffers, Refused,
-    RulesBroken, SequenceBroken, Stop, Stopped, TimedOut, WriteFault
+    RulesBroken, SequenceBroken, Stop, Stopped, TimedOut, WriteFault, hide_frames
 )
 from fbsim.latencies import Latencies
 from fbsim.patterns import Pattern
@@ -22,3 +22,6 @@ __all__ = [
     "RulesBroken", "SequenceBroken", "Session", "Signal", "Stop", "Stopped", "Stream", "Sweep", "TimedOut", "Trace",
     "Variant", "Verdict", "WriteFault", "check_sequence", "find_program", "jitter"
 ]
+
+# (for what fails while pytest loads a module of tests)
+hide_frames()

@@ -3,8 +3,9 @@
 from __future__ import annotations
 
 import re
+import sys
 from collections.abc import Iterable, Sequence
-from typing import TYPE_CHECKING, NamedTuple, cast
+from typing import TYPE_CHECKING, Any, NamedTuple, cast
 
 if TYPE_CHECKING:
     from fbsim.trace import Lines, Report
@@ -45,6 +46,18 @@ class Stop(NamedTuple):
 
 class Fault(Exception):
     """Anything that went wrong with the program, its inputs or its output."""
+
+
+def hides_frames(excinfo: Any) -> bool:
+    """Whether pytest shows a failure without the frames of this package: not if the package itself is wrong."""
+    return excinfo is not None and isinstance(excinfo.value, Fault)
+
+
+def hide_frames() -> None:
+    """Has pytest ask `hides_frames` for each frame of the modules of this package that are loaded."""
+    for name, module in list(sys.modules.items()):
+        if name.partition(".")[0] == "fbsim":
+            setattr(module, "__tracebackhide__", hides_frames)
 
 
 class InputFault(Fault, ValueError):

@@ -3,9 +3,9 @@
 from __future__ import annotations
 
 from collections.abc import Iterable, Mapping, Sequence
-from importlib import import_module
 from typing import TYPE_CHECKING, Any
 
+from fbsim.extras import needed
 from fbsim.faults import Fault, InputFault
 
 if TYPE_CHECKING:
@@ -15,14 +15,6 @@ if TYPE_CHECKING:
     from fbsim.latencies import Latencies
     from fbsim.trace import Line, Signal
     from fbsim.variant import Variant
-
-
-def needed(module: str, package: str) -> Any:
-    """Returns a module of a package that may not be installed."""
-    try:
-        return import_module(module)
-    except ImportError as it:
-        raise Fault(f"this needs {package}: install it, on Debian as python3-{package}") from it
 
 
 def column(pandas: Any, values: list[Any]) -> Any:
@@ -37,7 +29,7 @@ def column(pandas: Any, values: list[Any]) -> Any:
 
 def frame_of_lines(lines: Iterable[Line]) -> DataFrame:
     """Returns a frame with the columns tick, resource, sign, instance, event, and one for each variable."""
-    pandas = needed("pandas", "pandas")
+    pandas = needed("pandas", "frame")
     parts: dict[str, list[Any]] = {name: [] for name in ("tick", "resource", "sign", "instance", "event")}
     variables: dict[str, list[Any]] = {}
     count = 0
@@ -56,7 +48,7 @@ def frame_of_lines(lines: Iterable[Line]) -> DataFrame:
 
 def frame_of_sweep(rows: Sequence[Variant]) -> DataFrame:
     """Returns a frame with the parameters, the end, the stop, the verdict of each rule, and statistics of latencies."""
-    pandas = needed("pandas", "pandas")
+    pandas = needed("pandas", "frame")
     found = []
     for it in rows:
         row: dict[str, Any] = {**it.parameters, "end": it.end, "stop": it.stop and str(it.stop)}
@@ -73,7 +65,7 @@ def frame_of_sweep(rows: Sequence[Variant]) -> DataFrame:
 
 def figure(height: float) -> Figure:
     """Returns an empty figure."""
-    return needed("matplotlib.figure", "matplotlib").Figure(figsize=(8.0, height), layout="constrained")
+    return needed("matplotlib.figure", "plot").Figure(figsize=(8.0, height), layout="constrained")
 
 
 def steps(signals: Mapping[str, Signal], end: int | None) -> Figure:

@@ -22,25 +22,32 @@ BUILT = ("crates/fbsim/out/fbsim", "crates/fbsim/out/fbsim.unproved")
 MOST_SECONDS = 1e9
 
 
+def installed_beside() -> str | None:
+    """Returns the path of the program that was installed with this file: in the folder bin of PREFIX for the package in
+    PREFIX/lib/python3.11/site-packages, and in that of DIR for one that was installed by `pip --target DIR`."""
+    site = Path(__file__).absolute().parent.parent
+    tops = [site, *([site.parents[2]] if site.name in ("site-packages", "dist-packages") else [])]
+    return next(filter(None, (shutil.which(str(it / "bin" / "fbsim")) for it in tops)), None)
+
+
 def find_program() -> str:
-    """Returns the path of the program: that of the environment variable FBSIM, else the one on PATH, else the one that
-    `./simulate` built in the repository of this file. Of a proved and an unproved one there, it is the proved one."""
+    """Returns the path of the program: that of the environment variable FBSIM, else the one of this installation, else
+    the one on PATH, else the one that `./simulate` built in the repository of this file: the proved one, if there are
+    two."""
     named = os.environ.get("FBSIM")
     if named:
         found = shutil.which(named)
         if found is None:
             raise ProgramMissing(f"the environment variable FBSIM is {named!r}, which is no program")
         return os.path.abspath(found)
-    found = shutil.which("fbsim")
+    found = installed_beside() or shutil.which("fbsim")
     if found is not None:
         return os.path.abspath(found)
     for top in Path(__file__).resolve().parents:
         for built in BUILT:
             if (top / "simulate").is_file() and os.access(top / built, os.X_OK):
                 return str(top / built)
-    raise ProgramMissing(
-        "the program fbsim was not found: set FBSIM to its path, put it on PATH, or build it by ./simulate"
-    )
+    raise ProgramMissing("the program fbsim was not found: install it, put it on PATH, or set FBSIM to its path")
 
 
 @lru_cache(maxsize=8)

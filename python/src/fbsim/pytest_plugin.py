@@ -1,11 +1,10 @@
-"""The plugin for pytest: references, and folders with a file fbsim.toml as tests.
+"""Folders with a file fbsim.toml as tests, for the plugin pytest_fbsim.
 
 Such a file is a bench without a line of Python: it names scenarios, rules and service sequences."""
 
 from __future__ import annotations
 
 import json
-import sys
 from collections.abc import Callable, Iterator
 from functools import cached_property, partial
 from pathlib import Path
@@ -16,9 +15,9 @@ import pytest
 from fbsim.faults import Fault, Refused, RulesBroken
 from fbsim.findings import Findings, Once, check_coverage, judge, warnings_of
 from fbsim.project import Scenario, names_of_rules, read_bench
-from fbsim.references import Reference, bless, changed
+from fbsim.references import bless
 from fbsim.sequence import check_sequence
-from fbsim.trace import Report, Trace, Verdict
+from fbsim.trace import Report, Verdict
 
 # How many scenarios a failure names.
 MOST_NOTES = 10
@@ -26,61 +25,6 @@ MOST_NOTES = 10
 
 class BenchWarning(UserWarning):
     """What the program says of a run that it accepts, as rows of stimuli that the run does not take."""
-
-
-def pytest_addoption(parser: pytest.Parser) -> None:
-    """Adds the option --fbsim-bless."""
-    how: dict[str, Any] = {"action": "store_const", "dest": "fbsim_bless"}
-    group = parser.getgroup("fbsim")
-    text = "makes the traces of runs the references that they are compared with, unless they break rules or CI is set"
-    group.addoption("--fbsim-bless", const="yes", help=text, **how)
-    # (as an option of its own it takes no word after it, as a value of the other one would)
-    group.addoption("--fbsim-bless=force", const="force", help="the same, whatever breaks and wherever it runs", **how)
-
-
-def hides_frames(excinfo: pytest.ExceptionInfo[BaseException] | None) -> bool:
-    """Whether a failure is shown without the frames of this package: not if the package itself is wrong."""
-    return excinfo is not None and isinstance(excinfo.value, Fault)
-
-
-def pytest_configure() -> None:
-    """Has pytest ask `hides_frames` for each frame of a module of this package."""
-    for name, module in list(sys.modules.items()):
-        if name.partition(".")[0] == "fbsim":
-            setattr(module, "__tracebackhide__", hides_frames)
-
-
-@pytest.fixture
-def reference(request: pytest.FixtureRequest) -> Any:
-    """Returns a call that gives the reference of a name from the folder of the test."""
-    return lambda name: Reference(request.path.parent / name, request.node)
-
-
-def pytest_assertrepr_compare(op: str, left: object, right: object) -> list[str] | None:
-    """Shows where two traces first differ."""
-    if op != "==":
-        return None
-    for trace, other in ((left, right), (right, left)):
-        if isinstance(trace, Trace) and isinstance(other, Reference):
-            return other.difference(trace)
-    if isinstance(left, Trace) and isinstance(right, Trace):
-        return ["the traces differ", *left.diff(right).splitlines()]
-    return None
-
-
-def pytest_terminal_summary(terminalreporter: Any, config: pytest.Config) -> None:
-    """Names all references that were changed, whatever became of their tests."""
-    reports = [it for them in terminalreporter.stats.values() for it in them]
-    named = {value for it in reports for name, value in getattr(it, "user_properties", ()) if name == "fbsim_blessed"}
-    named |= changed(config)
-    if named:
-        terminalreporter.section("references changed by --fbsim-bless")
-        terminalreporter.write_line("\n".join(sorted(named)))
-
-
-def pytest_collect_file(file_path: Path, parent: pytest.Collector) -> pytest.Collector | None:
-    """Collects files fbsim.toml."""
-    return BenchFile.from_parent(parent, path=file_path) if file_path.name == "fbsim.toml" else None
 
 
 class ByText:

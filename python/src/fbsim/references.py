@@ -58,6 +58,16 @@ def changed(config: pytest.Config) -> set[str]:
     return cast(set[str], stash.setdefault(CHANGED, set()))
 
 
+def compared(left: object, right: object) -> list[str] | None:
+    """Returns where two traces, or a trace and a reference, first differ, for an assertion that they are equal."""
+    for trace, other in ((left, right), (right, left)):
+        if isinstance(trace, Trace) and isinstance(other, Reference):
+            return other.difference(trace)
+    if isinstance(left, Trace) and isinstance(right, Trace):
+        return ["the traces differ", *left.diff(right).splitlines()]
+    return None
+
+
 class Reference:
     """A trace in a file, as somebody last reviewed it. `check` compares a trace with it."""
 

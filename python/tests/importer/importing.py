@@ -9,7 +9,7 @@ import subprocess
 from pathlib import Path
 from typing import NamedTuple
 
-from fbsim.importer.__main__ import main
+from fbsim.importer.command import main
 from fbsim.program import find_program
 
 TOP = Path(__file__).resolve().parents[3]

@@ -6,7 +6,7 @@ import contextlib
 import io
 
 import pytest
-from fbsim.importer.__main__ import main
+from fbsim.importer.command import main
 from importing import connections, mappings, place_of, resource, system
 
 # A state that nothing enters, a variable that nothing reads, and an input that no event samples.

@@ -9,7 +9,7 @@ import subprocess
 import sys
 
 import pytest
-from fbsim.importer.__main__ import main
+from fbsim.importer.command import main
 from fbsim.program import find_program
 from importing import connections, import_all, mappings, place_of, resource, system
 
