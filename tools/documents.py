@@ -20,6 +20,7 @@
 - The version of CHANGELOG.md is that of the program, of the Python package and of the files for VS Code.
 - The licence of LICENSE is named where users look for it.
 - The figures of README.md and CONTRIBUTING.md are those of their sources, or have a date (tools/figures.py).
+- The pages of packages tell of the packages, and of nothing that only the repository has (tools/package_pages.py).
 
 It prints what is wrong and then ends with status 1. ./gate runs it."""
 
@@ -32,6 +33,7 @@ import textwrap
 
 import citations
 import figures
+import package_pages
 import unbuilt
 from kit import TOP
 
@@ -297,7 +299,7 @@ def version_faults():
 def licence_faults():
     """Returns the files that do not name the licence."""
     names = {"README.md": "licence is Apache-2.0 ([LICENSE](LICENSE)", "CONTRIBUTING.md": "LICENSE, Apache-2.0", "share/man/man1/fbsim.1": "Apache License, Version 2.0"}
-    names |= {"editors/vscode/package.json": '"license": "Apache-2.0"', "python/pyproject.toml": 'license = { text = "Apache-2.0" }', "tools/package.py": "License: Apache-2.0"}
+    names |= {"editors/vscode/package.json": '"license": "Apache-2.0"', "python/pyproject.toml": 'license = { text = "Apache-2.0" }', "tools/package_debian.py": "License: Apache-2.0"}
     return [f"{page}: lacks {name}, the licence" for page, name in names.items() if name not in " ".join(text_of(page).split())]
 
 
@@ -307,7 +309,7 @@ def main():
     proved = [it for it in crates() if it != "fbsim" and not it.endswith("_tests")]
     faults = has_all("docs/maintain/ARCHITECTURE.md", crates()) + has_all("docs/maintain/PROOFS.md", proved, may_repeat=True)
     faults += module_faults() + proof_faults() + definition_faults()
-    faults += comment_faults() + block_faults() + example_faults() + length_faults() + tool_faults() + kit_faults() + version_faults() + licence_faults() + figures.faults() + synopsis_faults() + citations.faults(pages) + width_faults()
+    faults += comment_faults() + block_faults() + example_faults() + length_faults() + tool_faults() + kit_faults() + version_faults() + licence_faults() + figures.faults() + synopsis_faults() + package_pages.faults() + citations.faults(pages) + width_faults()
     places = [it for kind in ("src/**/*.rt", "specs/**/*.antt", "proofs/**/*.antt") for it in glob.glob(f"{TOP}/crates/*/{kind}", recursive=True)]
     known = {word for it in places for word in re.findall(r"[A-Z]\w+", text_of(os.path.relpath(it, TOP)))}
     known |= {os.path.basename(it).removesuffix(".antt") for it in places}

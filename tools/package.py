@@ -1,86 +1,46 @@
 #!/usr/bin/env python3
 """tools/package.py [--check] [--no-gate-line] DIR: makes the packages of the proved program, for `./simulate package`.
 
-DIR gets fbsim-VERSION-x86_64-linux.tar.gz and fbsim_VERSION_amd64.deb. Both have the program without its symbol table, the man page,
-completions, editor files, examples, the pages for users, the licences, and PROVED: the commit, the last line of ./gate, and the sums of
-the kit. From one commit they have the same bytes each time: all times are that of the commit, or SOURCE_DATE_EPOCH.
+DIR gets, of a version V:
+- fbsim-V-x86_64-linux.tar.gz, an archive with the program, the pages for users, and a wheel without the program
+- fbsim_V_amd64.deb and python3-fbsim_V_all.deb, the program with the pages and the Python package, for Debian
+- fbsim-V-py3-none-manylinux_2_34_x86_64.whl, a wheel with the program and the Python package
+- fbsim-V.tar.gz, the source distribution of the Python package, without the program
+
+Each has LICENSE and NOTICE. Those with the program have it without its symbol table, its man page, completions, the licences of others,
+and PROVED: the commit, the last line of ./gate, and the sums of the kit. From one commit they have the same bytes each time: all times are
+that of the commit, or SOURCE_DATE_EPOCH.
 
 This refuses a tree that differs from its commit, or on which ./gate has not passed here. With --no-gate-line PROVED says so instead. With
 --check it only refuses, and makes nothing: ./simulate asks this before it proves and builds the program."""
 
-import email.utils
 import functools
-import gzip
-import hashlib
 import json
 import os
 import re
 import shutil
-import subprocess
 import sys
 import tempfile
-from typing import NamedTuple
 
 import notice
+import package_debian
+import package_python
 import unbuilt
 from install import NO_FOLDER, hindrance
 from kit import TOP, rtlib
+from package_files import File, archive, by_llvm, bytes_of, git, listed, sum_of
+from package_pages import pages
+from system_packages import missing
 
 # The proved program, as ./simulate and ./gate build it. PROVED can be true of no other one.
 PROGRAM = f"{TOP}/crates/fbsim/out/fbsim"
 # What ./gate leaves when it passes: the tree of files on which it ran, and its last line.
 RECORD = f"{TOP}/crates/fbsim/out/gate.json"
-MAINTAINER = "Cambiroa maintainers <maintainers@users.noreply.cambiroa.example>"
-# What users do not need.
-LEFT_OUT = ("docs/DECISIONS.md", "docs/PLANTED.md", "examples/check")
-PAGES = ("README.md", "CHANGELOG.md", "SECURITY.md", "LICENSE", "NOTICE")
-FOLDERS = ("docs", "editors", "examples")
-LINK = re.compile(r"(!?)\[([^\]]+)\]\(([^)#:\s]+)(#[^)]*)?\)")
-# Where Debian has what DIR/share has for other systems.
-DEBIAN = {"share/zsh/site-functions/": "share/zsh/vendor-completions/"}
-CONTROL = """Package: fbsim
-Version: {version}
-Architecture: amd64
-Maintainer: {maintainer}
-Installed-Size: {size}
-Depends: {depends}
-Section: science
-Priority: optional
-Description: simulate IEC 61499-1 control applications in virtual time
- fbsim simulates devices, resources, function blocks, execution control
- charts and algorithms in Structured Text. The same inputs give the same
- trace, to the byte, with any number of workers. Each function of the
- program is proved to meet its contract; the file PROVED says by what.
-"""
-COPYRIGHT = """Format: https://www.debian.org/doc/packaging-manuals/copyright-format/1.0/
-Upstream-Name: fbsim
-Comment: The program has code of libraries of the Rattle kit. The file NOTICE
- lists them, and the folder licences has their licences.
-
-Files: *
-Copyright: 2026 Cambiroa maintainers
-License: Apache-2.0
- The text of this licence is in /usr/share/common-licenses/Apache-2.0.
-"""
-
-
-class File(NamedTuple):
-    """A file of a package."""
-
-    content: bytes
-    is_executable: bool = False
+# What builds the packages.
+NEEDED = ("dpkg", "python3-build", "python3-setuptools", "python3-wheel")
 
 
 # ---- The commit and the gate
-
-
-def git(*words):
-    """Returns what git prints, or None outside a repository."""
-    try:
-        ran = subprocess.run(["git", "-C", TOP, *words], capture_output=True, text=True)
-    except OSError:
-        return None
-    return None if ran.returncode else ran.stdout.strip()
 
 
 def tree():
@@ -113,20 +73,6 @@ def seconds():
 
 
 # ---- Contents
-
-
-def sum_of(content):
-    return hashlib.sha256(content).hexdigest()
-
-
-def bytes_of(path):
-    with open(path, "rb") as it:
-        return it.read()
-
-
-def by_llvm(name, *words):
-    """Calls one of LLVM's tools, which are all in the kit's clang, and returns what it prints."""
-    return subprocess.run([name, *words], executable=f"{rtlib.KIT}/toolchain/bin/clang", check=True, capture_output=True, text=True).stdout
 
 
 @functools.cache
@@ -166,38 +112,6 @@ def proved(program, packaged, line):
     return "\n".join(rows) + "\n"
 
 
-def listed(folder):
-    """Returns the files of a folder that belong to the repository."""
-    known = git("ls-files", "--", folder)
-    found = known.splitlines() if known else [os.path.relpath(f"{at}/{it}", TOP) for at, _, names in os.walk(f"{TOP}/{folder}") for it in names]
-    return sorted(found)
-
-
-def with_links_inside(page, text, names):
-    """Returns the text of a page without the links to what the package does not have."""
-    folders = {os.path.dirname(it) for it in names}
-
-    def kept(link):
-        target = os.path.normpath(os.path.join(os.path.dirname(page), link[3]))
-        return link[0] if target in names or target in folders else link[2]
-
-    return LINK.sub(kept, text)
-
-
-def pages():
-    """Returns the pages, pictures, editor files and examples for users, by their names in the repository."""
-    names = [*PAGES, *(it for folder in FOLDERS for it in listed(folder))]
-    of_users = [it for it in names if it not in LEFT_OUT and not it.startswith(("docs/maintain/", "docs/notes/")) and os.path.isfile(f"{TOP}/{it}")]
-    found = {}
-    for name in of_users:
-        path = f"{TOP}/{name}"
-        text = bytes_of(path)
-        if name.endswith(".md"):
-            text = with_links_inside(name, text.decode(), of_users).encode()
-        found[name] = File(text, os.access(path, os.X_OK))
-    return found
-
-
 def licences():
     """Returns the licence files of the libraries that the program links, by their names in the folder licences."""
     found = {it: notice.licences(it) for it in notice.libraries()}
@@ -210,81 +124,34 @@ def contents(program, line):
     # (a library of block types is of no other program)
     of_share = {re.sub(r"^share/(?=[^/]+$)", "share/fbsim/", it): File(bytes_of(f"{TOP}/{it}")) for it in listed("share")}
     of_system = {**of_share, "bin/fbsim": File(packaged, True)}
-    return of_system, {**pages(), **licences(), "PROVED": File(proved(program, packaged, line).encode())}
+    return of_system, {**pages(unbuilt.version()), **licences(), "PROVED": File(proved(program, packaged, line).encode())}
 
 
 # ---- Packages
 
 
-def write(files, folder, time):
-    """Writes files into a folder that is not there yet, each with the same time and with the rights of its kind."""
-    for name, it in files.items():
-        os.makedirs(os.path.dirname(f"{folder}/{name}"), exist_ok=True)
-        with open(f"{folder}/{name}", "wb") as file:
-            file.write(it.content)
-        os.chmod(f"{folder}/{name}", 0o755 if it.is_executable else 0o644)
-    for at, _, names in os.walk(folder, topdown=False):
-        os.chmod(at, 0o755)
-        for it in [*(f"{at}/{name}" for name in names), at]:
-            os.utime(it, (time, time))
+def of_wheel(of_users):
+    """Returns the files for users that a wheel with the program has beside its own LICENSE and NOTICE."""
+    return {name: it for name, it in of_users.items() if name == "PROVED" or name.startswith("licences/")}
 
 
-def archive(files, room, name, time):
-    """Makes an archive of tar with one folder, and returns its path."""
-    write(files, f"{room}/{name}", time)
-    words = ["tar", "-C", room, "--sort=name", "--format=ustar", f"--mtime=@{time}", "--owner=0", "--group=0", "--numeric-owner", "-cf", f"{room}/{name}.tar", name]
-    subprocess.run(words, check=True)
-    subprocess.run(["gzip", "-9n", f"{room}/{name}.tar"], check=True)
-    return f"{room}/{name}.tar.gz"
-
-
-def depends(program):
-    """Returns the packages of Debian that the program needs: the C library from the version on whose functions it calls, and GCC's."""
-    names = by_llvm("llvm-nm", "-D", "--undefined-only", program)
-    versions = [tuple(map(int, it.split("."))) for it in re.findall(r"@GLIBC_([\d.]+)", names)]
-    return f"libc6 (>= {'.'.join(map(str, max(versions)))})" + (", libgcc-s1" if "@GCC_" in names else "")
-
-
-def debian_changelog(version, time):
-    """Returns the changelog that Debian has for each package."""
-    entry = f"fbsim ({version}) stable; urgency=medium\n\n  * What changed is in CHANGELOG.md.\n\n -- {MAINTAINER}  {email.utils.formatdate(time)}\n"
-    return gzip.compress(entry.encode(), 9, mtime=0)
-
-
-def debian_package(of_system, of_users, room, version, time, needs):
-    """Makes a package for Debian, and returns its path."""
-    files = {}
-    for name, it in of_system.items():
-        for here, there in DEBIAN.items():
-            name = name.replace(here, there)
-        is_page = name.startswith("share/man/")
-        files[f"usr/{name}.gz" if is_page else f"usr/{name}"] = File(gzip.compress(it.content, 9, mtime=0)) if is_page else it
-    of_package = {"changelog.gz": File(debian_changelog(version, time)), "copyright": File(COPYRIGHT.encode())}
-    # (of its own licence, Debian has the text elsewhere)
-    own = {name: it for name, it in of_users.items() if name != "LICENSE"}
-    files |= {f"usr/share/doc/fbsim/{name}": it for name, it in {**own, **of_package}.items()}
-    size = sum(-(-len(it.content) // 1024) for it in files.values())
-    control = CONTROL.format(version=version, maintainer=MAINTAINER, size=size, depends=needs)
-    sums = "".join(f"{hashlib.md5(it.content).hexdigest()}  {name}\n" for name, it in sorted(files.items()))
-    of_control = {"DEBIAN/control": File(control.encode()), "DEBIAN/md5sums": File(sums.encode())}
-    name = f"fbsim_{version}_amd64"
-    write({**files, **of_control}, f"{room}/{name}", time)
-    words = ["dpkg-deb", "--root-owner-group", "-Zxz", "--threads-max=1", "--build", f"{room}/{name}", f"{room}/{name}.deb"]
-    subprocess.run(words, check=True, stdout=subprocess.DEVNULL, env={**os.environ, "SOURCE_DATE_EPOCH": str(time)})
-    return f"{room}/{name}.deb"
+def made(program, room, line):
+    """Makes all packages in a folder for a while, and returns their paths."""
+    time, version = seconds(), unbuilt.version()
+    of_system, of_users = contents(program, line)
+    wheel, sdist, of_all = package_python.make(of_system, of_wheel(of_users), room, version, time)
+    beside = {f"python/{os.path.basename(of_all)}": File(bytes_of(of_all))}
+    yield archive({**of_system, **of_users, **beside}, room, f"fbsim-{version}-x86_64-linux", time)
+    yield package_debian.of_program(of_system, of_users, program, room, version, time)
+    yield package_debian.of_python(of_all, of_users["NOTICE"], room, version, time)
+    yield from (wheel, sdist)
 
 
 def make(program, folder, line):
-    """Makes both packages in a folder, and returns their paths."""
-    time, version = seconds(), unbuilt.version()
-    of_system, of_users = contents(program, line)
+    """Makes all packages in a folder, and returns their paths."""
     os.makedirs(folder, exist_ok=True)
     with tempfile.TemporaryDirectory(prefix="package-") as room:
-        made = [
-            archive({**of_system, **of_users}, room, f"fbsim-{version}-x86_64-linux", time),
-            debian_package(of_system, of_users, room, version, time, depends(program)),
-        ]
-        return [shutil.copy(it, folder) for it in made]
+        return [shutil.copy(it, folder) for it in made(program, room, line)]
 
 
 def main(words):
@@ -297,8 +164,8 @@ def main(words):
     if reason := hindrance(words[0]):
         print(f"package: {reason}", file=sys.stderr)
         return NO_FOLDER
-    if not shutil.which("dpkg-deb"):
-        print("package: dpkg-deb is missing: install the system package dpkg", file=sys.stderr)
+    if lacking := missing(NEEDED) if shutil.which("dpkg-query") else NEEDED:
+        print(f"package: {', '.join(lacking)} is missing: `apt install {' '.join(lacking)}` installs it", file=sys.stderr)
         return 1
     line = gate_line()
     if needs_line and not line:
