@@ -19,12 +19,13 @@ OnlyBreaks old new = new ≡ record old { breaks = new.breaks; set = new.set }
 abbrev pub IsPattern : (text : List ℕ) → Pattern → Type 0
 IsPattern text pattern = IsUtf8 text × (pattern_of text ≡ Some pattern)
 
--- One break more is set, with the next number; or there are as before, and why. Memory runs out only where there is room for a break
--- and a number for it.
+-- One break more is set, with the next number, where the session goes on and there was room for it; or there are as before, and why.
+-- Memory runs out only where there is room for a break and a number for it.
 abbrev pub SetsBreak : (text : List ℕ) → (old new : Talk) → Result ℕ BreakFault → Type 0
 SetsBreak text old new (Ok number) =
     (number ≡ old.set + 1) × (new.set ≡ number)
     × ((pattern : Pattern) × IsPattern text pattern × (new.breaks ≡ old.breaks ++ record { number = number; pattern = pattern } ∷ []))
+    × (old.stage ≡ stage.Running) × (length old.breaks < MOST_BREAKS)
 SetsBreak text old new (Err fault.NotGoing) = (old.stage ≡ stage.Running → ⊥) × (new ≡ old)
 SetsBreak text old new (Err fault.Pattern) = ((pattern : Pattern) → IsPattern text pattern → ⊥) × (new ≡ old)
 SetsBreak text old new (Err fault.Many) = ((MOST_BREAKS ≤ length old.breaks) ⊎ (2 ^ 64 ≤ old.set + 1)) × (new ≡ old)

@@ -26,4 +26,6 @@ returns-clause-set c =
       next_is _ c.checked_add.result (c.self.inside.breaks.count + 1) c.in-Some.number c.checked_add.ensures c.in-Some.is ∙ ap (λ (t : Talk). t.set + 1) c.self.view_is,
       refl,
       (c.in-Some-2.pattern, rw c.in-Some-2.is at c.in_ok-pattern.ensures, c.in_ok-add.ensures.ok ∙ ap (λ (t : Talk). t.breaks ++ one ∷ []) c.self.view_is),
+      subst (λ (t : Talk). t.stage ≡ going.Running) c.self.view_is c.in-Running.is,
+      subst (λ (t : Talk). length t.breaks < MOST_BREAKS) c.self.view_is (omega arith),
     )
