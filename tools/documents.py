@@ -20,6 +20,7 @@
 - The version of CHANGELOG.md is that of the program, of the Python package and of the files for VS Code.
 - The licence of LICENSE is named where users look for it.
 - The figures of README.md and CONTRIBUTING.md are those of their sources, or have a date (tools/figures.py).
+- The functions without a clause are as many as docs/maintain/PROOFS.md and README.md say (tools/clauses.py).
 - The pages of packages tell of the packages, and of nothing that only the repository has (tools/package_pages.py).
 
 It prints what is wrong and then ends with status 1. ./gate runs it."""
@@ -32,6 +33,7 @@ import sys
 import textwrap
 
 import citations
+import clauses
 import figures
 import package_pages
 import unbuilt
@@ -118,10 +120,10 @@ def proof_faults():
             faults += [] if there else [f"{page}: {crate} has no {it}"]
         for inside in re.findall(r"\(([^()]*)\)", cells[-1]):
             words = inside.split(";")[0].split(",")
-            clauses = [it.strip() for it in words if re.fullmatch(r"\s*[a-z_]+\s*", it)]
+            cited = [it.strip() for it in words if re.fullmatch(r"\s*[a-z_]+\s*", it)]
             # (a law's clauses are the fields of a record)
-            known = [rf"ensures {it} |\bpub {it} :" for it in clauses]
-            faults += [f"{page}: {crate} has no clause {it}" for it, found in zip(clauses, known) if not re.search(found, code + specs)]
+            known = [rf"ensures {it} |\bpub {it} :" for it in cited]
+            faults += [f"{page}: {crate} has no clause {it}" for it, found in zip(cited, known) if not re.search(found, code + specs)]
     return faults
 
 
@@ -309,7 +311,7 @@ def main():
     proved = [it for it in crates() if it != "fbsim" and not it.endswith("_tests")]
     faults = has_all("docs/maintain/ARCHITECTURE.md", crates()) + has_all("docs/maintain/PROOFS.md", proved, may_repeat=True)
     faults += module_faults() + proof_faults() + definition_faults()
-    faults += comment_faults() + block_faults() + example_faults() + length_faults() + tool_faults() + kit_faults() + version_faults() + licence_faults() + figures.faults() + synopsis_faults() + package_pages.faults() + citations.faults(pages) + width_faults()
+    faults += comment_faults() + block_faults() + example_faults() + length_faults() + tool_faults() + kit_faults() + version_faults() + licence_faults() + figures.faults() + synopsis_faults() + package_pages.faults() + clauses.faults() + citations.faults(pages) + width_faults()
     places = [it for kind in ("src/**/*.rt", "specs/**/*.antt", "proofs/**/*.antt") for it in glob.glob(f"{TOP}/crates/*/{kind}", recursive=True)]
     known = {word for it in places for word in re.findall(r"[A-Z]\w+", text_of(os.path.relpath(it, TOP)))}
     known |= {os.path.basename(it).removesuffix(".antt") for it in places}

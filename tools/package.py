@@ -22,6 +22,7 @@ import shutil
 import sys
 import tempfile
 
+import clauses
 import notice
 import package_debian
 import package_python
@@ -98,6 +99,10 @@ def proved(program, packaged, line):
         f"gate: {line or 'no gate has passed on these files where this was packaged'}",
         "",
         "Every function of the program is proved to meet its contract. The prover is part of the kit.",
+        *clauses.sentences(),
+        "",
+        'A program that always answered "out of memory" would meet the contracts, since no clause says that memory suffices. Tests and a list',
+        "of each place that answers so, with its cause, stand for that: tools/memory_answers.toml of the sources.",
         "",
         "sha256 of the program:",
         f"{sum_of(bytes_of(program))}  as it was built",
