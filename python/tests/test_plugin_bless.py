@@ -248,3 +248,26 @@ def test_a_reference_that_is_compared_with_nothing_is_a_failure(room):
     result = room.run()
     result.assert_outcomes(failed=1)
     result.stdout.fnmatch_lines(["E*InputFault: <reference */trace> is neither true nor false: use reference(*"])
+
+
+@pytest.mark.parametrize("body, said", [
+    ('reference("trace")', "<reference */trace> is compared with no trace: use reference('trace').check(trace)"),
+    ('assert reference("no.trace").check', "<reference */no.trace> is compared with no trace: use reference(*"),
+    ('reference("trace").check(fbsim.Trace("trace"))', "*/trace is the reference and the trace: a file is always *"),
+    ('reference("no.trace").check(None)', "None is not a trace"),
+    ("reference(5)", "a reference is named by a text or a path, and not by 5"),
+    ('reference("no.trace"); pytest.skip("later")', None), ('reference("no.trace"); pytest.xfail("later")', None),
+    ('reference("trace").check(app.run("stimuli.csv", horizon=800))', None),
+])
+def test_a_reference_is_compared_with_a_trace_of_its_own(room, body, said):
+    start = 'import fbsim\nimport pytest\napp = fbsim.Application("conveyor.iec", deploy="deploy.toml")\n'
+    room.write("test_it.py", f"{start}def test_it(reference):\n    {body}\n")
+    result = room.run("test_it.py", "--fbsim-bless")
+    assert result.parseoutcomes().get("failed", 0) == (said is not None) and not (room.path / "no.trace").exists()
+    if said is not None:
+        result.stdout.fnmatch_lines([f"E*Fault: {said}"])
+
+
+def test_the_module_that_was_the_plugin_before_loads_it(room):
+    result = room.pytester.runpytest("-p", "fbsim.pytest_plugin", "-p", "no:cacheprovider")
+    result.assert_outcomes(passed=8, skipped=2)

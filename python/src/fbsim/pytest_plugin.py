@@ -19,6 +19,8 @@ from fbsim.references import bless
 from fbsim.sequence import check_sequence
 from fbsim.trace import Report, Verdict
 
+# What `-p fbsim.pytest_plugin` loads, which was the plugin before.
+pytest_plugins = ["pytest_fbsim"]
 # How many scenarios a failure names.
 MOST_NOTES = 10
 

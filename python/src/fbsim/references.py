@@ -4,24 +4,30 @@ from __future__ import annotations
 
 import os
 import warnings
-from collections.abc import Sequence
+from collections.abc import Callable, Sequence
 from pathlib import Path
 from typing import Any, cast
 
 import pytest
 
-from fbsim.faults import InputFault, ReferenceDiffers
+from fbsim.faults import InputFault, ReferenceDiffers, needs
+from fbsim.stimuli import FileName, file_name, made_folder
 from fbsim.trace import Trace
 
 # References that were changed in this process. (A test that is interrupted has no report to name them.)
 CHANGED: Any = pytest.StashKey()
+# The references that a test has asked for.
+REFERENCES: Any = pytest.StashKey()
 HINT = "if this is intended: --fbsim-bless makes the new trace the reference"
 
 
 def difference(path: Path, trace: Trace) -> list[str]:
     """Returns what `fbsim diff` says of a reference and a trace, in lines: none if they are the same."""
+    needs(trace, Trace, "a trace")
     if not path.is_file():
         return [f"there is no reference {path}: --fbsim-bless makes it"]
+    if trace.path.exists() and path.samefile(trace.path):
+        raise InputFault(f"{path} is the reference and the trace: a file is always the same as itself")
     if trace == Trace(path):
         return []
     said = Trace(path).diff(trace).replace(str(trace.path), "the run")
@@ -46,7 +52,7 @@ def bless(path: Path, trace: Trace | None, node: pytest.Item, differs: list[str]
     blesses, why_not = may_bless(node.config, broken)
     if not blesses or trace is None:
         raise ReferenceDiffers("\n".join([*differs, *why_not]))
-    path.parent.mkdir(parents=True, exist_ok=True)
+    made_folder(path.parent)
     trace.save(path)
     node.user_properties.append(("fbsim_blessed", str(path)))
     changed(node.config).add(str(path))
@@ -72,7 +78,7 @@ class Reference:
     """A trace in a file, as somebody last reviewed it. `check` compares a trace with it."""
 
     def __init__(self, path: Path, node: pytest.Item) -> None:
-        self.path, self.node = path, node
+        self.path, self.node, self.is_compared = path, node, False
 
     def __repr__(self) -> str:
         return f"<reference {self.path}>"
@@ -84,7 +90,7 @@ class Reference:
 
     def check(self, trace: Trace) -> None:
         """Raises `ReferenceDiffers` if a trace differs. With --fbsim-bless the trace becomes the reference instead."""
-        differs = difference(self.path, trace)
+        differs = self.difference(trace)
         if differs:
             bless(self.path, trace, self.node, differs)
 
@@ -94,8 +100,30 @@ class Reference:
             return NotImplemented
         text = f"{self!r} is compared by ==, which blesses nothing: use reference({self.path.name!r}).check(trace)"
         warnings.warn(text, DeprecationWarning, stacklevel=2)
-        return not difference(self.path, other)
+        return not self.difference(other)
 
     def difference(self, trace: Trace) -> list[str]:
         """Returns what `fbsim diff` says of the reference and a trace."""
+        self.is_compared = True
         return difference(self.path, trace)
+
+
+def references_of(item: pytest.Item) -> Callable[[FileName], Reference]:
+    """Returns a call that gives a test the reference of a name from its folder. Each run of the test has new ones."""
+    made: list[Reference] = []
+    stash: Any = item.stash
+    stash[REFERENCES] = made
+
+    def named(name: FileName) -> Reference:
+        made.append(Reference(item.path.parent / file_name(name, "a reference"), item))
+        return made[-1]
+
+    return named
+
+
+def check_references_of(item: pytest.Item) -> None:
+    """Raises a fault if a test has asked for a reference, and has compared no trace with it."""
+    stash: Any = item.stash
+    for it in stash.get(REFERENCES, []):
+        if not it.is_compared:
+            raise InputFault(f"{it!r} is compared with no trace: use reference({it.path.name!r}).check(trace)")
