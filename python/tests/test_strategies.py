@@ -70,3 +70,9 @@ def test_the_bottling_line_has_no_such_fault():
     some = stimuli(EVENTS, integers(0, 300), max_size=6)
     with pytest.raises(NoSuchExample):
         find(some, breaks(right), settings=settings(QUIET, max_examples=60))
+
+
+@pytest.mark.parametrize("events, options", [({}, {}), ({"A.B": {}}, {"max_size": 0})])
+def test_a_strategy_of_no_stimuli_is_a_fault(events, options):
+    with pytest.raises(fbsim.InputFault, match="^these are always no stimuli"):
+        stimuli(events, integers(0, 9), **options)

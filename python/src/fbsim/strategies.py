@@ -8,6 +8,7 @@ from operator import itemgetter
 from hypothesis import strategies
 from hypothesis.strategies import SearchStrategy
 
+from fbsim.faults import InputFault
 from fbsim.stimuli import Value
 
 
@@ -19,6 +20,8 @@ def stimuli(
 
     `events` has for each INSTANCE.EVENT the strategies of its variables: {"BEFORE.SENSE": {"COVERED": booleans()}}.
     """
+    if not events or max_size == 0:
+        raise InputFault("these are always no stimuli: there is no event, or max_size is 0")
     rows = [
         strategies.tuples(ticks, strategies.just(event), strategies.fixed_dictionaries(dict(values)))
         for event, values in events.items()
