@@ -3,6 +3,7 @@
 import gc
 import os
 import pickle
+import resource
 import signal
 import time
 
@@ -213,7 +214,7 @@ def test_a_run_must_end_as_its_status_says(tmp_path, monkeypatch, said, status):
     monkeypatch.setenv("FBSIM", program(tmp_path, f"echo {said}; exit {status}"))
     plant = fbsim.Application("plant.iec")
     for call in (lambda: plant.run(horizon=5, stop=True), lambda: list(plant.stream(horizon=5, stop=True))):
-        with pytest.raises(fbsim.ProgramFault, match=f"up to 5 has the status {status}, and .* the last line: {said}"):
+        with pytest.raises(fbsim.ProgramFault, match=f"up to 5 has the status {status}, and its last line is {said}$"):
             call()
 
 
@@ -354,6 +355,56 @@ def test_an_exception_in_a_run_ends_all_that_it_started(tmp_path, monkeypatch):
         signal.setitimer(signal.ITIMER_REAL, 0)
         signal.signal(signal.SIGALRM, before)
     assert has_ended(int((tmp_path / "pid").read_text()))
+
+
+def test_rows_that_a_run_does_not_take_are_warned_of(tmp_path):
+    """At the line of the caller, for a run and for a stream, and apart from where it stopped."""
+    plant, rows = application(tmp_path, RING), [(0, "M.EI1"), (7, "M.EI2"), (9, "M.EI2")]
+    said = "stimuli: rows at or beyond the horizon 7: 2 of 3; the run does not take them"
+    stream = plant.stream(rows, horizon=7, stop=True)
+    for call in (lambda: plant.run(rows, horizon=7, stop=True), lambda: list(stream)):
+        with pytest.warns(fbsim.StimuliWarning) as caught:
+            call()
+        assert [(str(it.message), it.filename) for it in caught] == [(said, __file__)]
+    assert stream.stop.where.startswith("stop: ")
+
+
+CALLS = [
+    lambda app: app.run(horizon=9), lambda app: list(app.stream(horizon=9)), lambda app: app.session(),
+    lambda app: app.sweep({"steps": [9]}, horizon=9), lambda app: fbsim.Trace("x", app).where("* < C.EO"),
+    lambda app: fbsim.check_sequence("E_SR", [["S", "EO Q=TRUE"]]),
+]
+
+
+@pytest.mark.parametrize("call", CALLS)
+def test_a_system_without_a_folder_for_temporary_files_is_a_file_fault(tmp_path, monkeypatch, call):
+    monkeypatch.setattr("tempfile.tempdir", str(tmp_path / "none"))
+    with pytest.raises(fbsim.FileFault, match=f"^file fault: file {tmp_path}/none/.*: No such file or directory$"):
+        call(application(tmp_path, CYCLE))
+
+
+def test_a_full_disk_is_a_fault(tmp_path):
+    """A file may not grow: a session, a kept variant and a cache need one that does."""
+    plant = application(tmp_path, CYCLE)
+    found = plant.sweep({"steps": [9]}, horizon=9)
+    limits = resource.getrlimit(resource.RLIMIT_FSIZE)
+    with plant.session() as s:
+        resource.setrlimit(resource.RLIMIT_FSIZE, (0, limits[1]))
+        try:
+            for call in (lambda: s.ask("end 9000"), lambda: found.keep(found[0], tmp_path / "kept")):
+                with pytest.raises(fbsim.FileFault, match="^file fault: file .*: File too large$"):
+                    call()
+        finally:
+            resource.setrlimit(resource.RLIMIT_FSIZE, limits)
+    with pytest.raises(fbsim.InputFault, match="was broken off$"):
+        s.trace
+    (tmp_path / "cache").mkdir()
+    plant.sweep({"steps": [9]}, horizon=9, cache=tmp_path / "cache")
+    for it in (tmp_path / "cache").iterdir():
+        it.unlink()
+        it.mkdir()
+    with pytest.raises(fbsim.FileFault, match="Is a directory$"):
+        plant.sweep({"steps": [9]}, horizon=9, cache=tmp_path / "cache")
 
 
 def test_a_run_says_which_rows_it_did_not_take(tmp_path):

@@ -186,3 +186,16 @@ def test_without_one_of_the_stimuli_there_is_another_warning(room):
     result = room.run()
     result.assert_outcomes(passed=1, failed=1)
     result.stdout.fnmatch_lines(["*L16: *event input EI2: *"])
+
+
+@pytest.mark.parametrize("key", ['unapplied = ["it"]', "strict = true"])
+def test_what_is_asked_of_rules_needs_rules(room, key):
+    room.change("fbsim.toml", 'rules = "some.rules"\n', f"{key}\n")
+    result = room.run()
+    result.assert_outcomes(errors=1)
+    result.stdout.fnmatch_lines(["*unapplied and strict are about rules, and there are no rules"])
+
+
+def test_a_byte_order_mark_is_no_part_of_the_file(room):
+    room.write("fbsim.toml", "\ufeff" + (room.path / "fbsim.toml").read_text())
+    room.run().assert_outcomes(passed=8, skipped=2)

@@ -4,6 +4,7 @@ import os
 import signal
 import subprocess
 import time
+import warnings
 
 import pytest
 from common import CYCLE, EXAMPLES, RING, application, has_ended, program
@@ -57,12 +58,57 @@ def test_errors_change_nothing(tmp_path):
         assert s.ask("end 9") == [] and s.rows == []
 
 
-def test_a_stop_is_kept_and_then_raised(tmp_path):
-    with application(tmp_path, RING).session(steps=2) as s:
-        assert texts(s.until(1))[0] == "0 MAIN < S.COLD"
-        assert s.stop == fbsim.Stop(0, "MAIN", "steps")
-        with pytest.raises(fbsim.Stopped):
-            s.give(1, "M.EI1")
+@pytest.mark.parametrize("end", [lambda s: s.ask("end 9"), lambda s: s.close(), lambda s: s.__exit__(None, None, None)])
+def test_a_stop_is_kept_and_then_raised(tmp_path, end):
+    s = application(tmp_path, RING).session(steps=2)
+    assert texts(s.until(1))[0] == "0 MAIN < S.COLD"
+    assert s.stop == fbsim.Stop(0, "MAIN", "steps")
+    with pytest.raises(fbsim.Stopped):
+        s.give(1, "M.EI1")
+    with pytest.raises(fbsim.Stopped) as caught:
+        end(s)
+    assert (caught.value.stop, caught.value.trace) == (s.stop, s.trace) and s.trace.stop == s.stop
+    s.close()
+
+
+def test_a_session_that_stops_raises_it_at_its_end_unless_it_may(tmp_path):
+    plant = application(tmp_path, RING)
+    with pytest.raises(fbsim.Stopped), plant.session(steps=2) as s:
+        pass
+    assert s.trace.stop.reason == "steps"
+    with plant.session(steps=2, stop=True) as s:
+        assert len(s.ask("end 9")) > 0 and s.answer == "stop 0 MAIN steps"
+    with pytest.raises(ZeroDivisionError), plant.session(steps=2) as s:
+        s.until(1)
+        1 / 0
+
+
+@pytest.mark.parametrize("use, count", [
+    (lambda s: s.give(4, "D.STOP"), "1: 1 of 1"), (lambda s: s.ask("end 4"), "4: 1 of 2"), (lambda s: s.until(4), None),
+])
+def test_rows_that_a_session_does_not_take_are_warned_of(tmp_path, use, count):
+    """At the line that ends it, which has them as `use` or its `with`."""
+    with warnings.catch_warnings(record=True) as found:
+        warnings.simplefilter("always")
+        with application(tmp_path, DELAY).session([(0, "D.START"), (4, "D.STOP")] if count != "1: 1 of 1" else ()) as s:
+            use(s)
+            if count is None:
+                s.ask("end 5")
+    said = f"stimuli: rows at or beyond the end {count}; the session did not take them"
+    assert [str(it.message) for it in found] == ([] if count is None else [said])
+    assert all((it.category, it.filename) == (fbsim.StimuliWarning, __file__) for it in found)
+
+
+@pytest.mark.parametrize("pattern, fault", [
+    ("* < X.EO", "there is no instance X"), ("* < D.EI", "D has no event output EI"),
+    ("B * D.*", "there is no resource B"),
+    ("* > D.START DT=1 DT=2", "no value of DT meets all conditions on it"), ("* > D.START N=1", "has no variable N"),
+])
+def test_a_break_with_a_name_that_nothing_has_is_a_fault(tmp_path, pattern, fault):
+    with application(tmp_path, DELAY).session() as s:
+        with pytest.raises(fbsim.InputFault, match=fault):
+            s.ask(f" break  {pattern}")
+        assert s.ask("break  * < d.eo") == [] and s.answer == "break 1"
 
 
 def test_first_stimuli_are_rows(tmp_path):
@@ -80,6 +126,21 @@ def test_faults_of_the_beginning_are_raised(tmp_path):
         pass
     with pytest.raises(fbsim.FileFault), fbsim.Application(tmp_path / "missing.iec").session():
         pass
+
+
+def test_a_refusal_at_the_beginning_has_its_place(tmp_path):
+    plant = application(tmp_path, DELAY)
+    with pytest.raises(fbsim.FileFault) as missing:
+        plant.session(tmp_path / "nope.csv")
+    assert (missing.value.kind, missing.value.file) == ("stimuli", str(tmp_path / "nope.csv"))
+    (tmp_path / "some.csv").write_text("tick,event,values\n1,D.START,\n2,X.START,\n")
+    for stimuli in (tmp_path / "some.csv", [(2, "X.START")]):
+        with pytest.raises(fbsim.Refused) as refused:
+            plant.session(stimuli)
+        assert refused.value.number == "E29"
+    with pytest.raises(fbsim.Refused) as refused:
+        plant.session(tmp_path / "some.csv")
+    assert (refused.value.file, refused.value.line) == (str(tmp_path / "some.csv"), 3)
 
 
 def test_the_plant_of_the_tank_in_the_loop():
@@ -267,7 +328,7 @@ def test_a_saved_session_is_a_case_that_runs_anywhere(tmp_path):
 
 
 def test_a_saved_session_that_stopped_stops_again(tmp_path):
-    with application(tmp_path, RING).session(steps=2) as s:
+    with application(tmp_path, RING).session(steps=2, stop=True) as s:
         s.until(1)
     assert s.save(tmp_path / "case").endswith("run ../plant.iec --steps 2 --stim stimuli.csv --horizon 1")
     made = again(tmp_path / "case", tmp_path / "elsewhere")

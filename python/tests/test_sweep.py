@@ -297,6 +297,44 @@ def test_a_kept_variant_that_stops_has_its_status(tmp_path):
     assert (tmp_path / "kept" / "trace").read_text().endswith("\nstop 1 MAIN steps\n")
 
 
+def test_a_sweep_without_rules_does_not_say_that_they_hold():
+    found = sweep({THERE: [4, 5]})
+    assert [it.state for it in found] == ["there are no rules"] * 2 and not found.broken()
+    assert [it.get_label() for it in found.plot(y="end").axes[0].lines] == ["there are no rules"]
+
+
+def test_rows_that_variants_do_not_take_are_warned_of(tmp_path):
+    where = tmp_path / "cache"
+    for _ in range(2):
+        with pytest.warns(fbsim.StimuliWarning) as caught:
+            found = sweep({"stimuli[6].tick": [500, 800], "steps": [1, 1000]}, stops=True, cache=where)
+        said = "stimuli: rows at or beyond the horizon 800: 1 of 7; the run does not take them"
+        assert [str(it.message) for it in caught] == [f"in 2 of 4 variants, as variant 2: {said}"]
+        assert caught[0].filename == __file__
+        assert [it.warnings for it in found] == [(), (), (said,), (said,)]
+        assert [it.stop and it.stop.where.split(",")[0] for it in found] == ["stop: BELT", None, "stop: BELT", None]
+
+
+def test_a_variant_of_another_sweep_is_not_kept(tmp_path):
+    found, other = sweep({THERE: [4]}), sweep({BACK: [4]})
+    with pytest.raises(fbsim.InputFault, match=f"^this variant is of another sweep: {BACK} = 4$"):
+        found.keep(other[0], tmp_path / "kept")
+    with pytest.raises(fbsim.InputFault, match="is not a variant$"):
+        found.keep(0, tmp_path / "kept")
+    assert not (tmp_path / "kept").exists()
+
+
+@pytest.mark.parametrize("rule, latencies", [
+    ("end", {}), ("stop", {}), ("D.DT", {}), ("x.most", {"x": ("* < S.COLD", "* < D.EO")}),
+])
+def test_two_columns_of_one_name_are_a_fault(tmp_path, rule, latencies):
+    (tmp_path / "some.rules").write_text(RULE.replace(RULE.split('"')[1], rule))
+    options = {"rules": tmp_path / "some.rules", "latencies": latencies, "executor": Here()}
+    found = application(tmp_path, ROUND).sweep({"D.DT": [5]}, horizon=5, steps=9, stops=True, **options)
+    with pytest.raises(fbsim.InputFault, match=f"^two columns of the frame are '{rule}'"):
+        found.frame()
+
+
 def test_rules_that_apply_in_no_variant_are_named():
     # (the first parcel comes at 100: README.md of the example)
     gate = "the gate is not lifted while the station works"
@@ -311,7 +349,7 @@ def test_rules_that_apply_in_no_variant_are_named():
 def test_a_rule_that_applies_in_one_variant_has_applied(recwarn):
     found = sweep({"horizon": [50, 800]}, rules=RULES)
     assert found.unapplied == [] and [it.state for it in found] == ["no rule applied", "all rules hold"]
-    assert [*recwarn] == [] and "never" not in repr(found)
+    assert [it.category for it in recwarn] == [fbsim.StimuliWarning] and "never" not in repr(found)
 
 
 def test_a_rule_that_there_is_not_is_a_fault(tmp_path):
@@ -364,6 +402,9 @@ def test_other_arguments_that_are_none(tmp_path):
     with pytest.raises(fbsim.InputFault, match="timeout is 0"):
         sweep({THERE: [1]}, timeout=0)
     (tmp_path / "a file").touch()
+    for name in (5, "a\0b"):
+        with pytest.raises(fbsim.InputFault, match="^a cache is named by "):
+            sweep({THERE: [4]}, cache=name)
     with pytest.raises(fbsim.InputFault, match="the cache .*/a file can't be made"):
         sweep({THERE: [1]}, cache=tmp_path / "a file")
 
@@ -478,13 +519,18 @@ def test_a_cache_asks_for_all_that_a_variant_depends_on(tmp_path, monkeypatch):
     for it in (tmp_path / "cache").iterdir():
         it.write_bytes(it.read_bytes()[:-9])
     assert (count(), count()) == (2, 0)
-    # Files that lack the verdicts.
+    # Files that somebody has changed.
     for it in (tmp_path / "cache").iterdir():
         it.unlink()
     assert (count(), count()) == (2, 0)
-    for it in (tmp_path / "cache").iterdir():
-        it.write_text(json.dumps(json.loads(it.read_text()) | {"verdicts": []}))
-    assert (count(), count()) == (2, 0)
+    for change in ({"verdicts": []}, {"end": 5}, {"latencies": {"x": {}}}, {"sum": ""}):
+        for it in (tmp_path / "cache").iterdir():
+            it.write_text(json.dumps(json.loads(it.read_text()) | change))
+        assert (count(), count()) == (2, 0)
+    for text in ("", "[]", "null", "{}"):
+        for it in (tmp_path / "cache").iterdir():
+            it.write_text(text)
+        assert (count(), count()) == (2, 0)
 
 
 def test_a_cache_keeps_stops_and_no_faults(tmp_path):

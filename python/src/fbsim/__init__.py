@@ -12,6 +12,7 @@ from fbsim.patterns import Pattern
 from fbsim.program import find_program
 from fbsim.sequence import check_sequence
 from fbsim.session import Session
+from fbsim.stimuli import StimuliWarning
 from fbsim.sweep import Jitter, RuleWarning, Sweep, jitter
 from fbsim.trace import Line, Lines, Report, Signal, Trace, Verdict
 from fbsim.variant import Variant
@@ -19,8 +20,8 @@ from fbsim.variant import Variant
 __all__ = [
     "Application", "Fault", "FileFault", "InputFault", "Jitter", "Latencies", "Line", "Lines", "Location",
     "OutOfMemory", "Pattern", "ProgramFault", "ProgramMissing", "ReferenceDiffers", "Refused", "Report", "RuleWarning",
-    "RulesBroken", "SequenceBroken", "Session", "Signal", "Stop", "Stopped", "Stream", "Sweep", "TimedOut", "Trace",
-    "Variant", "Verdict", "WriteFault", "check_sequence", "find_program", "jitter"
+    "RulesBroken", "SequenceBroken", "Session", "Signal", "StimuliWarning", "Stop", "Stopped", "Stream", "Sweep",
+    "TimedOut", "Trace", "Variant", "Verdict", "WriteFault", "check_sequence", "find_program", "jitter"
 ]
 
 # (for what fails while pytest loads a module of tests)

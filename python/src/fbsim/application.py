@@ -4,7 +4,6 @@ from __future__ import annotations
 
 import os
 import subprocess
-import tempfile
 from collections.abc import Generator, Iterable, Iterator, Mapping, Sequence
 from dataclasses import dataclass
 from pathlib import Path
@@ -13,9 +12,9 @@ from typing import IO, TYPE_CHECKING, Any, Literal
 from fbsim.faults import Fault, InputFault, Stop, Stopped, encoded, fault_of, needs, texts_of
 from fbsim.program import call, started
 from fbsim.session import Session
-from fbsim.stimuli import FileName, Stimuli, file_name, stimuli_text
-from fbsim.texts import whole
-from fbsim.trace import Line, Lines, Trace, ending, lines_of, temporary
+from fbsim.stimuli import FileName, Stimuli, file_name, stimuli_text, warn_of
+from fbsim.texts import temporary_file, whole
+from fbsim.trace import Line, Lines, Trace, ending, lines_of, parts_of, temporary
 
 if TYPE_CHECKING:
     from concurrent.futures import Executor
@@ -80,13 +79,14 @@ class Application:
 
         `stimuli` is a file, or rows (tick, INSTANCE.EVENT, {VARIABLE: value}). A run that stops before the horizon
         raises `Stopped`, unless `stop` is true. With `keys` the trace has form 2. A run that takes longer than
-        `timeout` seconds is ended, and `TimedOut` raised.
+        `timeout` seconds is ended, and `TimedOut` raised. A `StimuliWarning` counts the rows that the run did not take.
         """
         options = {"horizon": horizon, "steps": steps, "workers": workers, "trace": 2 if keys else None}
         words, given = self.call_words("run", stimuli, options)
         trace, file = temporary(self)
         with file as to:
             trace.take(call(words, given, to, statuses=(0, 1), timeout=timeout), horizon)
+        warn_of(trace.warnings, 3)
         if trace.stop and not stop:
             raise Stopped(trace.stop, trace)
         return trace
@@ -127,10 +127,10 @@ class Application:
         return call(words + ([] if only is None else ["--only", only]) + ["--lost"] * lost).stdout
 
     def session(
-        self, stimuli: Stimuli = None, *, steps: int | None = None, timeout: float | None = None
+        self, stimuli: Stimuli = None, *, steps: int | None = None, stop: bool = False, timeout: float | None = None
     ) -> Session:
         """Starts a run that goes on by calls, as `Session` says. An answer may take `timeout` seconds."""
-        return Session(self, stimuli, steps=steps, timeout=timeout)
+        return Session(self, stimuli, steps=steps, stop=stop, timeout=timeout)
 
     def sweep(
         self, parameters: Mapping[str, Iterable[object]], stimuli: Stimuli = None, *, horizon: int,
@@ -206,17 +206,15 @@ class Stream(Lines):
         if self.was_read:
             raise InputFault("the lines of a stream are read once: use run, whose trace is read any number of times")
         self.was_read = True
-        with tempfile.TemporaryFile() as given:
-            given.write(encoded(self.given))
-            given.seek(0)
-            with tempfile.TemporaryFile("w+", errors="replace") as said:
-                last, where, status = yield from self.lines(given, said)
-        end, stop = ending(last, status, self.horizon)
+        with temporary_file(encoded(self.given)) as given, temporary_file() as said:
+            last, text, status = yield from self.lines(given, said)
+        (end, stop), (untaken, where) = ending(last, status, self.horizon), parts_of(text)
         self.ended = end, stop and stop._replace(where=where)
+        warn_of(untaken, 3)
         if self.stop and not self.may_stop:
             raise Stopped(self.stop)
 
-    def lines(self, given: IO[bytes], said: IO[str]) -> Generator[Line, None, tuple[str, str, int]]:
+    def lines(self, given: IO[bytes], said: IO[bytes]) -> Generator[Line, None, tuple[str, str, int]]:
         """Goes over the lines, and returns the last line, what the program said and its status, or raises its fault."""
         how: dict[str, Any] = {"stderr": said, "encoding": "ascii", "errors": "replace"}
         with started(self.words, stdin=given, stdout=subprocess.PIPE, **how) as run:
@@ -227,9 +225,9 @@ class Stream(Lines):
                 fault = it
             status = run.wait()
         said.seek(0)
-        where = said.read()
+        text = said.read().decode("utf-8", "replace")
         if status not in (0, 1):
-            raise fault_of(status, where)
+            raise fault_of(status, text)
         if fault is not None or last is None:
             raise fault or InputFault("there are no lines")
-        return last, where.rstrip(), status
+        return last, text, status

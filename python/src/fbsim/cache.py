@@ -10,15 +10,20 @@ from collections.abc import Sequence
 from pathlib import Path
 from typing import TYPE_CHECKING, Any
 
-from fbsim.faults import InputFault, Stop
+from fbsim.faults import InputFault, Stop, of_system
 from fbsim.latencies import Latencies
 from fbsim.program import version
-from fbsim.stimuli import FileName
+from fbsim.stimuli import FileName, file_name
 from fbsim.trace import Line, Report, Verdict, lines_of
 from fbsim.variant import Variant
 
 if TYPE_CHECKING:
     from fbsim.sweep import Plan
+
+
+def sum_of(given: object) -> str:
+    """Returns the hash of what JSON can have."""
+    return hashlib.sha256(json.dumps(given, sort_keys=True).encode()).hexdigest()
 
 
 def line_of(text: str) -> Line:
@@ -46,7 +51,7 @@ class Cache:
     """A folder with a file for each variant that ran to its end or to its stop. Several sweeps may use it at a time."""
 
     def __init__(self, folder: FileName) -> None:
-        self.folder = Path(folder)
+        self.folder = Path(file_name(folder, "a cache"))
         try:
             self.folder.mkdir(parents=True, exist_ok=True)
         except OSError as it:
@@ -61,25 +66,33 @@ class Cache:
         except InputFault:
             return None
         inputs = [self.versions, made.files, made.types, made.horizon, made.steps, made.latencies]
-        return hashlib.sha256(json.dumps(inputs, sort_keys=True).encode()).hexdigest()
+        return sum_of(inputs)
 
     def load(self, key: str, number: int, parameters: dict[str, object]) -> Variant | None:
         """Returns the variant of a key, or None if the cache has none that can be read."""
         try:
             found = json.loads((self.folder / f"{key}.json").read_bytes())
+            if found.pop("sum") != sum_of(found):
+                return None
             verdicts = [Verdict(**it)._replace(notes=tuple(it["notes"])) for it in found["verdicts"]]
             latencies = {name: latencies_of(it) for name, it in found["latencies"].items()}
             stop = found["stop"] and Stop(*found["stop"])
-            return Variant(number, parameters, found["end"], stop, Report(tuple(verdicts)), latencies)
-        except (OSError, ValueError, LookupError, TypeError):
+            report, warnings = Report(tuple(verdicts)), tuple(found["warnings"])
+            return Variant(number, parameters, found["end"], stop, report, latencies, None, warnings)
+        except (OSError, ValueError, LookupError, TypeError, AttributeError):
             return None
 
     def store(self, key: str, it: Variant) -> None:
         """Writes a variant. Who reads at the same time finds all of it or nothing."""
         latencies = {name: table_of(given) for name, given in it.latencies.items()}
         verdicts = [verdict._asdict() for verdict in it.report.verdicts]
-        table = {"end": it.end, "stop": it.stop, "verdicts": verdicts, "latencies": latencies}
-        number, path = tempfile.mkstemp(dir=self.folder, prefix="part-")
-        with open(number, "w", encoding="ascii") as to:
-            json.dump(table, to)
-        os.replace(path, self.folder / f"{key}.json")
+        table = {
+            "end": it.end, "stop": it.stop, "verdicts": verdicts, "latencies": latencies, "warnings": it.warnings
+        }
+        try:
+            number, path = tempfile.mkstemp(dir=self.folder, prefix="part-")
+            with open(number, "w", encoding="ascii") as to:
+                json.dump({**table, "sum": sum_of(table)}, to)
+            os.replace(path, self.folder / f"{key}.json")
+        except OSError as fault:
+            raise of_system(fault) from fault

@@ -125,6 +125,11 @@ class FileFault(Fault):
         return f"file fault: {' '.join(it for it in (self.kind, self.file and f'{self.file}:', self.text) if it)}"
 
 
+def of_system(it: OSError, name: str = "") -> FileFault:
+    """Returns the fault of a file or a folder that the system does not make, read or write."""
+    return FileFault(it.strerror or str(it), "file", str(it.filename2 or it.filename or name) or None)
+
+
 class WriteFault(Fault):
     """The program could not write its output: the disk is full, or the pipe was closed."""
 

@@ -2,6 +2,7 @@
 
 from __future__ import annotations
 
+from collections import Counter
 from collections.abc import Iterable, Mapping, Sequence
 from typing import TYPE_CHECKING, Any
 
@@ -51,15 +52,17 @@ def frame_of_sweep(rows: Sequence[Variant]) -> DataFrame:
     pandas = needed("pandas", "frame")
     found = []
     for it in rows:
-        row: dict[str, Any] = {**it.parameters, "end": it.end, "stop": it.stop and str(it.stop)}
-        row |= {verdict.rule: verdict.verdict for verdict in it.report.verdicts}
+        row: list[tuple[str, Any]] = [*it.parameters.items(), ("end", it.end), ("stop", it.stop and str(it.stop))]
+        row += [(verdict.rule, verdict.verdict) for verdict in it.report.verdicts]
         for name, given in it.latencies.items():
-            row |= {f"{name}.count": given.count, f"{name}.waiting": given.waiting}
+            row += [(f"{name}.count", given.count), (f"{name}.waiting", given.waiting)]
             for statistic in ("least", "median", "most"):
-                row[f"{name}.{statistic}"] = getattr(given, statistic) if given.count else None
-        found.append(row)
-    if any(it.fault for it in rows):
-        found = [row | {"fault": it.fault and str(it.fault)} for row, it in zip(found, rows)]
+                row.append((f"{name}.{statistic}", getattr(given, statistic) if given.count else None))
+        row += [("fault", it.fault and str(it.fault))] * any(it.fault for it in rows)
+        found.append(dict(row))
+        for name, count in Counter(name for name, _ in row).items():
+            if count > 1:
+                raise InputFault(f"two columns of the frame are {name!r}: give the rule or the latencies another name")
     return pandas.DataFrame(found)
 
 
@@ -99,7 +102,8 @@ def bars(latencies: Latencies, width: int | None) -> Figure:
 
 
 MARKS = {
-    "all rules hold": "o", "no rule applied": "v", "a rule is broken": "x", "the run stopped": "s", "it failed": "^"
+    "all rules hold": "o", "there are no rules": ".", "no rule applied": "v", "a rule is broken": "x",
+    "the run stopped": "s", "it failed": "^"
 }
 
 

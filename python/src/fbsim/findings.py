@@ -5,6 +5,7 @@ from __future__ import annotations
 import csv
 import io
 import os
+import warnings
 from collections.abc import Callable, Sequence
 from dataclasses import dataclass
 from functools import partial
@@ -15,6 +16,7 @@ from fbsim.faults import Fault, InputFault, Stop
 from fbsim.program import call
 from fbsim.project import Bench, Scenario
 from fbsim.references import difference
+from fbsim.stimuli import StimuliWarning
 from fbsim.trace import Report, Trace, check_rules
 
 Made = TypeVar("Made")
@@ -66,8 +68,11 @@ class Findings:
 
 def judge(bench: Bench, scenario: Scenario, keep: Callable[[], bool]) -> Findings:
     """Runs a scenario, and returns what it comes to. Its trace is dropped unless it is to be kept."""
-    it = scenario
-    trace = bench.application.run(it.stimuli, horizon=it.horizon, steps=it.steps, stop=True, timeout=it.timeout)
+    it, run = scenario, bench.application.run
+    with warnings.catch_warnings():
+        # (the test that has it run warns of them)
+        warnings.simplefilter("ignore", StimuliWarning)
+        trace = run(it.stimuli, horizon=it.horizon, steps=it.steps, stop=True, timeout=it.timeout)
     report = Once(partial(check_rules, Trace(trace.path), bench.rules) if bench.rules else partial(Report, ()))
     report.look()
     differs = [] if scenario.reference is None else difference(scenario.reference, trace)

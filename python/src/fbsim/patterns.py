@@ -5,7 +5,6 @@ from __future__ import annotations
 import operator
 import re
 import string
-import tempfile
 from collections.abc import Callable, Iterable
 from functools import lru_cache
 from pathlib import Path
@@ -14,7 +13,7 @@ from typing import TYPE_CHECKING, Any, NamedTuple
 from fbsim.faults import InputFault, Refused
 from fbsim.program import call
 from fbsim.stimuli import Value
-from fbsim.texts import write
+from fbsim.texts import temporary_folder, write
 
 if TYPE_CHECKING:
     from fbsim.application import Application
@@ -149,8 +148,7 @@ class Pattern:
 @lru_cache(maxsize=4096)
 def unknown(words: tuple[str, ...], _: tuple[object, ...], pattern: str) -> str | None:
     """Returns which name of a pattern an application does not have, as the program says it, or None."""
-    with tempfile.TemporaryDirectory(prefix="fbsim-") as name:
-        folder = Path(name)
+    with temporary_folder() as folder:
         write(folder / "trace", "end 1\n")
         write(folder / "rules", f'[[rule]]\nname = "x"\nnever = "{pattern}"\n')
         try:

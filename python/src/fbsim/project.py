@@ -3,7 +3,6 @@
 from __future__ import annotations
 
 import re
-import tempfile
 import tomllib
 from collections.abc import Callable, Mapping
 from pathlib import Path
@@ -11,6 +10,7 @@ from typing import Any, NamedTuple
 
 from fbsim.application import Application
 from fbsim.faults import InputFault, Stop
+from fbsim.texts import temporary_folder, write
 from fbsim.trace import Trace, check_rules
 
 # The kinds of values, by their names in messages.
@@ -102,7 +102,7 @@ def checked(table: Mapping[str, Any], keys: Mapping[str, str], needed: tuple[str
 def read_bench(path: Path) -> Bench:
     """Reads a file fbsim.toml."""
     try:
-        text = path.read_text(encoding="utf-8")
+        text = path.read_text(encoding="utf-8-sig")
         table = tomllib.loads(text)
     except (OSError, ValueError) as it:
         raise InputFault(f"{path}: {it}") from it
@@ -116,6 +116,8 @@ def read_bench(path: Path) -> Bench:
         scenario_of(it, top, here, f"{path}: scenario {k + 1}", heads[k] if k < len(heads) else 0)
         for k, it in enumerate(top.get("scenario", []))
     ]
+    if rules is None and (top.get("unapplied") or any(it.strict for it in scenarios)):
+        raise InputFault(f"{path}: unapplied and strict are about rules, and there are no rules")
     sequences = [
         {"name": it.get("type"), **checked(it, SEQUENCE_KEYS, ("type", "steps"), f"{path}: sequence {k}")}
         for k, it in enumerate(top.get("sequence", []), 1)
@@ -167,9 +169,9 @@ def names_of_rules(bench: Bench, path: Path) -> list[str]:
     """Returns the names of the rules, as the program reads them: it reports on a trace without lines."""
     if bench.rules is None:
         return []
-    with tempfile.TemporaryDirectory(prefix="fbsim-") as folder:
-        empty = Path(folder, "empty.trace")
-        empty.write_text("end 1\n")
+    with temporary_folder() as folder:
+        empty = folder / "empty.trace"
+        write(empty, "end 1\n")
         known = bench.application if bench.application.declaration else None
         names = [it.rule for it in check_rules(Trace(empty, known), bench.rules).verdicts]
     for name in bench.unapplied:

@@ -3,15 +3,13 @@
 from __future__ import annotations
 
 import re
-import tempfile
 from collections.abc import Iterable, Mapping, Sequence
-from pathlib import Path
 from typing import NamedTuple
 
 from fbsim.application import Application
 from fbsim.faults import InputFault, SequenceBroken, needs, texts_of
 from fbsim.stimuli import FileName, Row
-from fbsim.texts import constant, of_application, read, write
+from fbsim.texts import constant, of_application, read, temporary_folder, write
 from fbsim.trace import Line
 
 INSTANCE = "BLOCK"
@@ -93,9 +91,9 @@ def check_sequence(
         span = of_application(around)
         text = around[:span[0].start()] + text + around[span[-1].end():] if span else around + text
     rows = [row for it in sequence for row in it.rows]
-    with tempfile.TemporaryDirectory(prefix="fbsim-") as folder:
-        write(Path(folder, "harness.iec"), text)
-        trace = Application(Path(folder, "harness.iec"), types).run(rows, horizon=sequence[-1].last + 1)
+    with temporary_folder() as folder:
+        write(folder / "harness.iec", text)
+        trace = Application(folder / "harness.iec", types).run(rows, horizon=sequence[-1].last + 1)
         lines = [it for it in trace if it.sign == "<" and it.instance == INSTANCE]
     faults = []
     for number, step in enumerate(sequence, 1):

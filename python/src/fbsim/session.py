@@ -6,20 +6,23 @@ import os
 import select
 import shlex
 import subprocess
-import tempfile
 import time
 import weakref
 from collections import deque
 from collections.abc import Iterator, Mapping, Sequence
+from contextlib import contextmanager, suppress
 from types import TracebackType
 from typing import IO, TYPE_CHECKING
 
-from fbsim.faults import Fault, InputFault, Location, ProgramFault, Refused, Stop, Stopped, TimedOut, encoded, fault_of
+from fbsim.faults import (
+    Fault, FileFault, InputFault, Location, ProgramFault, Refused, Stop, Stopped, TimedOut, encoded, fault_of, of_system
+)
 from fbsim.program import begun, kill, seconds
 from fbsim.stimuli import (
-    MOST_BYTES, MOST_ROWS, FileName, Row, Stimuli, Value, file_name, made_folder, row_of, stimuli_text, words_of
+    MOST_BYTES, MOST_ROWS, FileName, Row, Stimuli, Value, file_name, made_folder, row_of, stimuli_text, warn_of,
+    words_of
 )
-from fbsim.texts import whole, write, write_script
+from fbsim.texts import temporary_file, whole, write, write_script
 from fbsim.trace import Line, Lines, Trace, ending, lines_of, temporary
 
 if TYPE_CHECKING:
@@ -28,7 +31,7 @@ if TYPE_CHECKING:
 ANSWERS = ("= ", "! ", "stop ", "end ")
 
 
-def leave(process: subprocess.Popen[bytes], said: IO[str], owner: int) -> None:
+def leave(process: subprocess.Popen[bytes], said: IO[bytes], owner: int) -> None:
     """Ends the program of a session, and closes what leads to it."""
     kill(process, owner)
     for it in (process.stdin, process.stdout, said):
@@ -43,7 +46,7 @@ class Talk:
 
     def __init__(self, words: Sequence[str], timeout: float | None) -> None:
         self.timeout, self.lines, self.rest = seconds(timeout), deque[bytes](), b""
-        self.said = tempfile.TemporaryFile("w+", errors="replace")
+        self.said = temporary_file()
         pipes = {"stdin": subprocess.PIPE, "stdout": subprocess.PIPE, "stderr": self.said}
         try:
             self.process = begun(words, **pipes)
@@ -89,7 +92,7 @@ class Talk:
         except subprocess.TimeoutExpired:
             raise TimedOut(f"the session did not end within {self.timeout:g} seconds, and was ended") from None
         self.said.seek(0)
-        said = self.said.read().strip()
+        said = self.said.read().decode("utf-8", "replace").strip()
         self.leave()
         return status, said
 
@@ -99,25 +102,27 @@ class Session(Lines):
 
     `rows` are the stimuli that it took, `answer` is the last answer, as `at 800`, and `stop` is why it stopped. Its own
     lines are those so far: `s.where("* < GATE.LIFT").count()`. It ends by `ask("end 800")`, or by `close` at its least
-    tick, as its `with` does. Then `end` is its horizon, `trace` its trace, and each further call an InputFault. An
-    exception in the body of `with` breaks it off, and is passed on.
+    tick, as its `with` does. Then `end` is its horizon, `trace` its trace, and each further call an InputFault. If it
+    has stopped, its end raises `Stopped`, unless `stop` is true; a `StimuliWarning` counts the rows that it did not
+    take. An exception in the body of `with` breaks it off, and is passed on.
     """
 
     application: Application
 
     def __init__(
-        self, application: Application, stimuli: Stimuli = None, *, steps: int | None = None,
+        self, application: Application, stimuli: Stimuli = None, *, steps: int | None = None, stop: bool = False,
         timeout: float | None = None
     ) -> None:
-        self.application = application
+        self.application, self.may_stop = application, stop
         self.rows: list[Row] = []
         self.answer, self.is_broken_off = "", False
         self.end: int | None = None
         self.stop: Stop | None = None
         self._options = [] if steps is None else ["--steps", str(whole(steps, "steps"))]
-        words = ["session", *application.words, *self._options]
+        words, file = ["session", *application.words, *self._options], None
         if isinstance(stimuli, (str, os.PathLike)):
-            words, stimuli = [*words, "--stim", file_name(stimuli, "stimuli")], ()
+            file, stimuli = file_name(stimuli, "stimuli"), ()
+            words += ["--stim", file]
         self._talk: Talk | None = Talk(words, timeout)
         self._trace, self._file = temporary(application)
         weakref.finalize(self, self._file.close)
@@ -125,8 +130,10 @@ class Session(Lines):
             self.ask("peek")  # (the rows of a file come before the answer)
             for row in stimuli or ():
                 self.give(*row_of(row))
-        except BaseException:
+        except BaseException as it:
             self._break_off()
+            if isinstance(it, (Refused, FileFault)):
+                application.check(file)  # (it says where)
             raise
 
     def __repr__(self) -> str:
@@ -139,7 +146,7 @@ class Session(Lines):
 
     def __exit__(self, kind: type[BaseException] | None, _: object, __: TracebackType | None) -> None:
         if kind is None:
-            self.close()
+            self._end()
         else:
             self._break_off()
 
@@ -166,17 +173,15 @@ class Session(Lines):
         if self._talk is None:
             state = "was broken off" if self.is_broken_off else "has ended"
             raise InputFault(f"the session {state}: {command!r} comes too late")
-        name = (command.split() or [""])[0]
-        try:
+        name, _, rest = command.strip(" ").partition(" ")
+        if name == "break" and rest:
+            self.pattern_of(rest)
+        with self._broken_off_by_faults():
             self._talk.send(command)
             texts, answers = self._answers(name, self._talk)
+            self.answer = "\n".join(it.removeprefix("= ") for it in answers)
             if name == "end" and not answers[-1].startswith("! "):
-                self._finish(self._talk)
-        except BaseException:
-            # (an answer that is not read to its end would be taken for that of the next command)
-            self._break_off()
-            raise
-        self.answer = "\n".join(it.removeprefix("= ") for it in answers)
+                self._finish(self._talk, 4)
         if self.answer.startswith("! E"):
             raise Refused(self.answer[2:5], [Location(None, None, None, self.answer[7:])])
         if self.answer.startswith("! "):
@@ -199,14 +204,7 @@ class Session(Lines):
 
     def close(self) -> None:
         """Ends the session at its least tick, unless it has ended."""
-        if self._talk is not None:
-            try:
-                assert self._talk.process.stdin
-                self._talk.process.stdin.close()
-                self._finish(self._talk)
-            except BaseException:
-                self._break_off()
-                raise
+        self._end()
 
     def save(self, folder: FileName) -> str:
         """Writes an ended session into a folder, as a case: its trace, its rows, and run.sh. Returns the command.
@@ -259,8 +257,28 @@ class Session(Lines):
         ended = f"the program ended with status {status} and without its answer"
         return ProgramFault(said and f"{ended}: {said}" or ended) if status in (0, 1) else fault_of(status, said)
 
-    def _finish(self, talk: Talk) -> None:
-        """Reads what comes up to the end of the program."""
+    @contextmanager
+    def _broken_off_by_faults(self) -> Iterator[None]:
+        """Breaks the session off if the body raises an exception, and raises a fault for one of the system."""
+        try:
+            yield
+        except BaseException as it:
+            # (an answer that is not read to its end would be taken for that of the next command)
+            self._break_off()
+            if isinstance(it, OSError) and not isinstance(it, Fault):
+                raise of_system(it, str(self._trace.path)) from it
+            raise
+
+    def _end(self) -> None:
+        """Ends the session, as `close` does."""
+        if self._talk is not None:
+            with self._broken_off_by_faults():
+                assert self._talk.process.stdin
+                self._talk.process.stdin.close()
+                self._finish(self._talk, 5)
+
+    def _finish(self, talk: Talk, level: int) -> None:
+        """Reads what comes up to the end of the program, and says how it ended. Its caller is so many calls above."""
         limit = talk.limit()
         while (text := talk.line(limit)) is not None:
             self._take(text)
@@ -269,10 +287,17 @@ class Session(Lines):
             raise self._fault(status, said)
         self._talk = None
         self._file.close()
+        untaken = [it for it in self.rows if self.end is not None and it[0] >= self.end]
+        if untaken:
+            what = f"stimuli: rows at or beyond the end {self.end}: {len(untaken)} of {len(self.rows)}"
+            warn_of([f"{what}; the session did not take them"], level)
+        if self.stop and not self.may_stop:
+            raise Stopped(self.stop, self._trace)
 
     def _break_off(self) -> None:
         """Ends the program at once, unless the session has ended."""
         if self._talk is not None:
             self._talk.leave()
             self._talk, self.is_broken_off = None, True
-            self._file.close()
+            with suppress(OSError):  # (the disk is full)
+                self._file.close()

@@ -5,10 +5,11 @@ from __future__ import annotations
 import csv
 import io
 import os
+import warnings
 from collections.abc import Iterable, Mapping
 from pathlib import Path
 
-from fbsim.faults import FileFault, InputFault, encoded, needs
+from fbsim.faults import InputFault, encoded, needs, of_system
 from fbsim.texts import value_text, whole
 
 Value = int | bool
@@ -17,6 +18,16 @@ Row = tuple[int, str] | tuple[int, str, Mapping[str, Value]]
 Stimuli = FileName | Iterable[Row] | None
 # What the program takes in a list of stimuli: rows, and bytes of their text (docs/formats/refusals.md, "Limits").
 MOST_ROWS, MOST_BYTES = 100_000, 16 * 1024 * 1024
+
+
+class StimuliWarning(UserWarning):
+    """Rows of stimuli that a run did not take, since they are at or beyond its end."""
+
+
+def warn_of(texts: Iterable[str], level: int) -> None:
+    """Warns of rows that a run did not take, at the place of a caller so many calls above."""
+    for it in texts:
+        warnings.warn(it, StimuliWarning, stacklevel=level)
 
 
 def file_name(given: object, what: str) -> str:
@@ -36,7 +47,7 @@ def made_folder(given: object) -> Path:
     try:
         path.mkdir(parents=True, exist_ok=True)
     except OSError as it:
-        raise FileFault(it.strerror or "it can't be made", "file", str(path)) from it
+        raise of_system(it, str(path)) from it
     return path
 
 

@@ -8,7 +8,6 @@ import random
 import re
 import shlex
 import sys
-import tempfile
 import warnings
 from collections.abc import Callable, Iterable, Iterator, Mapping, Sequence
 from concurrent.futures import Executor, Future, ProcessPoolExecutor, as_completed
@@ -23,8 +22,10 @@ from fbsim.cache import Cache
 from fbsim.faults import Fault, InputFault, needs, texts_of
 from fbsim.patterns import Pattern, ask_patterns
 from fbsim.program import call, seconds
-from fbsim.stimuli import FileName, Stimuli, stimuli_text
-from fbsim.texts import read, whole, with_latency, with_parameter, with_stimulus, write, write_script
+from fbsim.stimuli import FileName, Stimuli, made_folder, stimuli_text, warn_of
+from fbsim.texts import (
+    read, temporary_folder, whole, with_latency, with_parameter, with_stimulus, write, write_script
+)
 from fbsim.trace import Report, Trace, check_rules, temporary
 from fbsim.variant import Variant
 
@@ -138,8 +139,8 @@ def said(parameters: Mapping[str, object]) -> str:
 def run_batch(plan: Plan, batch: Sequence[Chosen]) -> list[Variant]:
     """Runs variants one after another, in files of a temporary folder, up to the first fault unless they are kept."""
     made: list[Variant] = []
-    with tempfile.TemporaryDirectory(prefix="fbsim-") as name:
-        folder, kept = Path(name), dict[str, str]()
+    with temporary_folder() as folder:
+        kept = dict[str, str]()
         for number, values in batch:
             parameters = dict(zip(plan.names, values))
             try:
@@ -166,7 +167,7 @@ def run_variant(variant: Plan, folder: Path, number: int, parameters: dict[str, 
         trace.take(call(variant.words(), "", to, (0, 1), variant.timeout, folder), variant.horizon)
     report = check_rules(trace, "rules", folder=folder) if "rules" in variant.files else Report(())
     latencies = {name: trace.latencies(*it) for name, it in variant.latencies.items()}
-    return Variant(number, parameters, trace.end, trace.stop, report, latencies)
+    return Variant(number, parameters, trace.end, trace.stop, report, latencies, None, trace.warnings)
 
 
 class Sweep:
@@ -177,6 +178,9 @@ class Sweep:
         if self.unapplied:
             said = f"rules that applied in none of {len(self)} variants: {', '.join(map(repr, self.unapplied))}"
             warnings.warn(said, RuleWarning, stacklevel=3)
+        beyond = [it for it in self.rows if it.warnings]
+        for it in beyond[:1]:
+            warn_of([f"in {len(beyond)} of {len(self)} variants, as variant {it.number}: {it.warnings[0]}"], 4)
 
     def __len__(self) -> int:
         return len(self.rows)
@@ -226,8 +230,10 @@ class Sweep:
 
     def keep(self, variant: Variant, folder: FileName) -> str:
         """Writes the files of a variant into a folder, with run.sh, which runs it, and returns the line of its run."""
-        plan, path = self.plan.variant(tuple(variant.parameters.values())), Path(folder)
-        path.mkdir(parents=True, exist_ok=True)
+        needs(variant, Variant, "a variant")
+        if tuple(variant.parameters) != self.plan.names:
+            raise InputFault(f"this variant is of another sweep: {said(variant.parameters)}")
+        plan, path = self.plan.variant(tuple(variant.parameters.values())), made_folder(folder)
         for name, text in plan.files.items():
             write(path / name, text)
         after = ["status=$?", "fbsim expect rules trace || exit", 'exit "$status"'] if "rules" in plan.files else []
@@ -286,9 +292,9 @@ def names_of_rules(application: Application, rules: FileName | None) -> tuple[st
     """Returns the names of rules, which may name only what the application has: it reports on a trace of no lines."""
     if rules is None:
         return ()
-    with tempfile.TemporaryDirectory(prefix="fbsim-") as folder:
-        write(Path(folder, "trace"), "end 1\n")
-        return tuple(it.rule for it in check_rules(Trace(Path(folder, "trace"), application), rules).verdicts)
+    with temporary_folder() as folder:
+        write(folder / "trace", "end 1\n")
+        return tuple(it.rule for it in check_rules(Trace(folder / "trace", application), rules).verdicts)
 
 
 def planned(
@@ -388,19 +394,18 @@ def submitted(executor: Executor, plan: Plan, batch: Sequence[Chosen]) -> Future
 def returned(call: Future[list[Variant]], plan: Plan, batch: Sequence[Chosen]) -> list[Variant]:
     """Returns the variants that an executor has run. What it lost, or did not run, are variants with that fault."""
     numbers = [it for it, _ in batch]
+    named = f"variants {numbers[0]} to {numbers[-1]}" if len(numbers) > 1 else f"variant {numbers[0]}"
     try:
-        rows, why, cause = call.result(), "it returned others", None
+        rows, fault = call.result(), Fault(f"the executor did not run {named}: it returned others")
         # (without `keeps_faults`, the first fault ends a batch)
         ends = not plan.keeps_faults and bool(rows) and rows[-1].fault is not None
         if [it.number for it in rows] == (numbers[:len(rows)] if ends else numbers):
             return rows
-    except BrokenProcessPool:
+    except (Fault, BrokenProcessPool):
         raise
     except Exception as it:
-        why, cause = f"{type(it).__name__}: {it}".rstrip(": "), it
-    named = f"variants {numbers[0]} to {numbers[-1]}" if len(numbers) > 1 else f"variant {numbers[0]}"
-    fault = Fault(f"the executor did not run {named}: {why}")
-    fault.__cause__ = cause
+        fault = Fault(f"the executor did not run {named}: {type(it).__name__}: {it}".rstrip(": "))
+        fault.__cause__ = it
     fault.add_note(f"variant {numbers[0]}: {said(dict(zip(plan.names, batch[0][1])))}")
     return [Variant(it, dict(zip(plan.names, values)), None, None, Report(()), {}, fault) for it, values in batch]
 

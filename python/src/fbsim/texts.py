@@ -11,11 +11,15 @@ import io
 import json
 import os
 import re
+import tempfile
 import tomllib
+from collections.abc import Iterator
+from contextlib import contextmanager
 from operator import index
 from pathlib import Path
+from typing import IO
 
-from fbsim.faults import FileFault, InputFault
+from fbsim.faults import FileFault, InputFault, of_system
 
 # A comment or a token of a declaration (docs/formats/declaration.md, "Tokens").
 TOKEN = re.compile(r"(\(\*.*?\*\)|//[^\n]*)|[A-Za-z0-9_]+(?:#-?[A-Za-z0-9_]+)?|:=|[^\sA-Za-z0-9_]", re.DOTALL)
@@ -32,7 +36,32 @@ def read(path: str | os.PathLike[str]) -> str:
 
 def write(path: Path, text: str) -> None:
     """Writes a file with a text that was read."""
-    path.write_bytes(text.encode("utf-8", "surrogateescape"))
+    try:
+        path.write_bytes(text.encode("utf-8", "surrogateescape"))
+    except OSError as it:
+        raise of_system(it, str(path)) from it
+
+
+@contextmanager
+def temporary_folder() -> Iterator[Path]:
+    """Makes a folder that is removed at the end."""
+    try:
+        made = tempfile.TemporaryDirectory(prefix="fbsim-")
+    except OSError as it:
+        raise of_system(it) from it
+    with made as name:
+        yield Path(name)
+
+
+def temporary_file(content: bytes = b"") -> IO[bytes]:
+    """Makes a file without a name, to be read from its beginning."""
+    try:
+        made = tempfile.TemporaryFile()
+        made.write(content)
+        made.seek(0)
+    except OSError as it:
+        raise of_system(it) from it
+    return made
 
 
 # How a script of a kept case begins. A program that is named by a path from here is found after the change of folder.

@@ -18,7 +18,7 @@ from pathlib import Path
 from typing import IO, TYPE_CHECKING, NamedTuple
 
 from fbsim import figures
-from fbsim.faults import FileFault, InputFault, ProgramFault, RulesBroken, Stop, needs, texts_of
+from fbsim.faults import FileFault, InputFault, ProgramFault, RulesBroken, Stop, needs, of_system, texts_of
 from fbsim.latencies import Latencies, paired
 from fbsim.patterns import NAME, PORT, Pattern, ask_patterns, ask_signal
 from fbsim.program import call
@@ -162,8 +162,15 @@ def ending(text: str, status: int | None = None, horizon: int | None = None) -> 
         raise InputFault(f"the last line is neither end nor stop: {text[:80].rstrip()}")
     end, stop = (int(parts[1]), None) if parts[1] else (None, Stop(int(parts[2]), parts[3], parts[4]))
     if status is not None and (status, end) not in ((0, horizon), (1, None)):
-        raise ProgramFault(f"a run up to {horizon} has the status {status}, and its trace the last line: {text.rstrip()}")
+        raise ProgramFault(f"a run up to {horizon} has the status {status}, and its last line is {text.rstrip()}")
     return end, stop
+
+
+def parts_of(said: str) -> tuple[tuple[str, ...], str]:
+    """Returns what the program said of a run in two parts: what it warned of, and where the run stopped."""
+    lines = said.splitlines()
+    count = sum(1 for _ in itertools.takewhile(lambda it: it.startswith("stimuli: "), lines))
+    return tuple(lines[:count]), "\n".join(lines[count:])
 
 
 class Lines(ABC):
@@ -317,9 +324,7 @@ class Trace(Lines):
 
     def take(self, made: subprocess.CompletedProcess[str], horizon: int) -> None:
         """Takes what the program said of the run whose trace this is. They must say the same of its end."""
-        said = made.stderr.splitlines()
-        count = sum(1 for _ in itertools.takewhile(lambda it: it.startswith("stimuli: "), said))
-        self.warnings, self.where_stopped = tuple(said[:count]), "\n".join(said[count:])
+        self.warnings, self.where_stopped = parts_of(made.stderr)
         ending(self.last, made.returncode, horizon)
 
     def text(self) -> str:
@@ -332,7 +337,7 @@ class Trace(Lines):
         try:
             shutil.copyfile(self.path, file_name(path, "a trace"))
         except OSError as it:
-            raise FileFault(it.strerror or "it can't be written", "file", str(it.filename2 or it.filename)) from it
+            raise of_system(it, str(path)) from it
 
     def expect(self, rules: str | os.PathLike[str], strict: bool = False) -> Report:
         """Checks the rules of a file by `fbsim expect`, and raises `RulesBroken` if one does not hold.
@@ -359,7 +364,10 @@ def remove_own(path: str, owner: int) -> None:
 
 def temporary(application: Application | None) -> tuple[Trace, IO[bytes]]:
     """Returns a trace whose temporary file is removed with it, and the open file, in which its lines will be."""
-    number, path = tempfile.mkstemp(prefix="fbsim-", suffix=".trace")
+    try:
+        number, path = tempfile.mkstemp(prefix="fbsim-", suffix=".trace")
+    except OSError as it:
+        raise of_system(it) from it
     trace = Trace(path, application)
     trace.is_own = True
     weakref.finalize(trace, remove_own, path, os.getpid())

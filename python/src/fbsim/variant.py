@@ -22,6 +22,8 @@ class Variant(NamedTuple):
     report: Report
     latencies: dict[str, Latencies]
     fault: Fault | None = None
+    #: What the program warned of in its run, as in those of a trace.
+    warnings: tuple[str, ...] = ()
 
     @property
     def broken(self) -> list[str]:
@@ -40,5 +42,6 @@ class Variant(NamedTuple):
             return "it failed"
         if self.broken or self.stop:
             return "a rule is broken" if self.broken else "the run stopped"
-        rules = self.report.verdicts
-        return "no rule applied" if rules and not any(it.applied for it in rules) else "all rules hold"
+        if not self.report.verdicts:
+            return "there are no rules"
+        return "all rules hold" if any(it.applied for it in self.report.verdicts) else "no rule applied"
