@@ -17,7 +17,7 @@
   README.md, "Install" (tools/citations.py).
 - Lines of docs/formats/ have at most 120 columns, except those of tables and of code.
 - README.md has at most 2,000 words, docs/FROM_4DIAC.md 1,200, each entry of docs/DECISIONS.md at most 80, each row of docs/maintain/PROOFS.md at most 100.
-- The version of CHANGELOG.md is that of the program, of the Python package and of the files for VS Code.
+- The version of CHANGELOG.md is that of the program, of the Python package and of the files for VS Code (tools/versions.py).
 - The licence of LICENSE is named where users look for it.
 - The figures of README.md and CONTRIBUTING.md are those of their sources, or have a date (tools/figures.py).
 - The functions without a clause are as many as docs/maintain/PROOFS.md and README.md say (tools/clauses.py).
@@ -36,7 +36,7 @@ import citations
 import clauses
 import figures
 import package_pages
-import unbuilt
+import versions
 from kit import TOP
 
 ROW = re.compile(r"\| `(fb\w+(?:::\w+)?)` \|.*\|")
@@ -292,12 +292,6 @@ def length_faults():
     return faults + [f"docs/maintain/PROOFS.md: {len(it.split())} words are more than {MOST_WORDS_OF_A_ROW}: {it[:60]}" for it in wide]
 
 
-def version_faults():
-    """Returns the files that have another version than CHANGELOG.md."""
-    lines = {"editors/vscode/package.json": '"version": "{}"', "python/src/fbsim/__init__.py": '__version__ = "{}"', "crates/fbsim_line/src/line.rt": 'const VERSION: &str = "{}";'}
-    return [f"{page}: lacks {line.format(unbuilt.version())}, the version of CHANGELOG.md" for page, line in lines.items() if line.format(unbuilt.version()) not in text_of(page)]
-
-
 def licence_faults():
     """Returns the files that do not name the licence."""
     names = {"README.md": "licence is Apache-2.0 ([LICENSE](LICENSE)", "CONTRIBUTING.md": "LICENSE, Apache-2.0", "share/man/man1/fbsim.1": "Apache License, Version 2.0"}
@@ -311,7 +305,7 @@ def main():
     proved = [it for it in crates() if it != "fbsim" and not it.endswith("_tests")]
     faults = has_all("docs/maintain/ARCHITECTURE.md", crates()) + has_all("docs/maintain/PROOFS.md", proved, may_repeat=True)
     faults += module_faults() + proof_faults() + definition_faults()
-    faults += comment_faults() + block_faults() + example_faults() + length_faults() + tool_faults() + kit_faults() + version_faults() + licence_faults() + figures.faults() + synopsis_faults() + package_pages.faults() + clauses.faults() + citations.faults(pages) + width_faults()
+    faults += comment_faults() + block_faults() + example_faults() + length_faults() + tool_faults() + kit_faults() + versions.faults() + licence_faults() + figures.faults() + synopsis_faults() + package_pages.faults() + clauses.faults() + citations.faults(pages) + width_faults()
     places = [it for kind in ("src/**/*.rt", "specs/**/*.antt", "proofs/**/*.antt") for it in glob.glob(f"{TOP}/crates/*/{kind}", recursive=True)]
     known = {word for it in places for word in re.findall(r"[A-Z]\w+", text_of(os.path.relpath(it, TOP)))}
     known |= {os.path.basename(it).removesuffix(".antt") for it in places}

@@ -10,7 +10,7 @@ First it installs the system packages of tools/system_packages.txt that are miss
   editors/ colour declarations right (tools/editors.py); each place that answers "out of memory" or "file fault" is listed with its
   cause (tools/memory_answers.py)
 - tools: those that compare figures and sections of pages, install packages, and try stored cases and wrong implementations distinguish right from wrong
-  (tools/figures_test.py, tools/clauses_test.py, tools/citations_test.py, tools/system_packages_test.py, tools/cases_test.py, tools/texts_test.py, tools/memory_answers_test.py,
+  (tools/figures_test.py, tools/clauses_test.py, tools/versions_test.py, tools/citations_test.py, tools/system_packages_test.py, tools/cases_test.py, tools/texts_test.py, tools/memory_answers_test.py,
   tools/must_fail_test.py)
 - proofs, from scratch: every crate and its tests are proved, and every wrong implementation in crates/*/must-fail is refused
 - tests and programs
@@ -87,6 +87,7 @@ import system_packages
 import system_packages_test
 import texts_test
 import traces
+import versions_test
 import waves
 import way
 import wide
@@ -373,7 +374,7 @@ def main(words):
         print("0 passed, 1 failed")
         return 1
     failed = explained.main([]) or documents.main() or notice.main() or bottling.main() or interpreter.main([]) or second_session.main() or editors.main() or memory_answers.main() or way.main()
-    if subprocess.run(["examples/check"]).returncode or failed or cases_test.main() or texts_test.main() or figures_test.main() or clauses_test.main() or citations_test.main() or system_packages_test.main() or memory_answers_test.main():
+    if subprocess.run(["examples/check"]).returncode or failed or cases_test.main() or texts_test.main() or figures_test.main() or clauses_test.main() or versions_test.main() or citations_test.main() or system_packages_test.main() or memory_answers_test.main():
         print("0 passed, 1 failed")
         return 1
     with tempfile.TemporaryDirectory(prefix="gate-") as room:
