@@ -10,7 +10,7 @@ First it installs the system packages of tools/system_packages.txt that are miss
   editors/ colour declarations right (tools/editors.py); each place that answers "out of memory" or "file fault" is listed with its
   cause (tools/memory_answers.py)
 - tools: those that compare figures and sections of pages, install packages, and try stored cases and wrong implementations distinguish right from wrong
-  (tools/figures_test.py, tools/clauses_test.py, tools/versions_test.py, tools/citations_test.py, tools/system_packages_test.py, tools/cases_test.py, tools/texts_test.py, tools/memory_answers_test.py,
+  (TESTS_OF_TOOLS and
   tools/must_fail_test.py)
 - proofs, from scratch: every crate and its tests are proved, and every wrong implementation in crates/*/must-fail is refused
 - tests and programs
@@ -29,7 +29,7 @@ First it installs the system packages of tools/system_packages.txt that are miss
 Then it prints the processor seconds and the memory of each crate. The last line is 'N passed, M failed', and the status is 0 if none
 failed. With crates it does the same only for these and those below them, on a copy of their files. --jobs N uses N processors.
 
-It runs the kit's own `rt ci`, so it proves and judges like that. Some kits cache on the machine what passed, by the checksums of
+It runs the kit's own `rt ci`, so it proves and judges like that; tools/kit.py has all that it replaces there. Some kits cache on the machine what passed, by the checksums of
 everything that it depends on. With such a kit a later run, in another clone too, proves and tries only what changed and what depends
 on that. With others each run is from scratch. Five things differ: a crate that has only tests is proved only with them, and LLVM does
 not optimize them; all wrong implementations of a crate are in one check, each in its own function (tools/must_fail.py); each check
@@ -65,6 +65,8 @@ import graphs
 import hostile
 import insides
 import interpreter
+import kit
+import kit_test
 import launcher
 import limits
 import long
@@ -112,6 +114,17 @@ if os.WIFSIGNALED(status):
 sys.exit(os.WEXITSTATUS(status))
 """
 TASKS = ("proof", "tests", "edits", "runs")
+TESTS_OF_TOOLS = (
+    cases_test,
+    texts_test,
+    figures_test,
+    clauses_test,
+    versions_test,
+    citations_test,
+    kit_test,
+    system_packages_test,
+    memory_answers_test,
+)
 # The folder of a copy of a crate in which a wrong implementation is tried.
 OF_EDITS = re.compile(r"/(rt-edit|gate-edits)-")
 # What a line of a crate takes of each task, where its proof takes one. LLVM compiles tests with all that they reach.
@@ -130,51 +143,6 @@ for it do
 done
 exec {given} "$@"
 """
-# The line in src/lib.rt of a crate that has only tests.
-TESTS_ALONE = re.compile(r"(//.*\n)*#!\[tactic\(auto\)\]\n(\s*#\[cfg\(test\)\]\nmod \w+;\n)+")
-
-
-class Crate(rt.Crate):
-    """A crate as `rt ci` sees it. One that has only tests is proved with them, and not again without: then it has no code."""
-
-    # A folder like the kit's toolchain, for tests.
-    toolchain = None
-
-    def ci(self, flags, tests):
-        if not tests and self.has_tests_alone():
-            rt.say("all of it is tests: see what is said of these", self.out)
-            return 0
-        return super().ci(flags, tests)
-
-    def prove(self, *commands):
-        """Proves as the kit does. Tests are compiled by a clang that does not optimize, if there is one."""
-        kits = f"{rt.KIT}/toolchain"
-        return super().prove(*([self.toolchain or it if it == kits and "--test" in words else it for it in words] for words in commands))
-
-    def compile_by(self, backend, words, to):
-        """Compiles and links a proved program. The kit asks for LLVM's program, and then for that of Rattle's own compiler, when
-        nothing else runs any more. Here both are built at the same time."""
-        if backend == "llvm":
-            with ThreadPoolExecutor(1) as other:
-                self.own = other.submit(super().compile_by, "rattle", words, to)
-                return super().compile_by(backend, words, to)
-        return self.own.result()
-
-    def has_tests_alone(self):
-        return bool(TESTS_ALONE.fullmatch(rtlib.text_of(f"{self.folder}/src/lib.rt") or ""))
-
-
-rt.Crate = Crate
-if KEEPS:
-
-    class Kept(rt.Kept):
-        """The runs that passed on this machine. For a crate that has only tests nothing else is cached."""
-
-        def keep(self, crate, tests, key):
-            if tests or not crate.has_tests_alone():
-                super().keep(crate, tests, key)
-
-    rt.Kept = Kept
 
 
 class Times:
@@ -183,16 +151,19 @@ class Times:
     def __init__(self, room):
         self.log, self.runs, self.start = f"{room}/times", {}, time.time()
         open(self.log, "w").close()
-        guarded = [*rtlib.guarded(), os.path.realpath("/proc/self/exe"), "-ISc", MEASURE, self.log]
-        rtlib.guarded = lambda: guarded
-        self.run, rt.run = rt.run, self.timed_run
+        kit.begin_commands_with([os.path.realpath("/proc/self/exe"), "-ISc", MEASURE, self.log])
+        kit.wrap_runs(self.timed)
 
-    def timed_run(self, crate, *given):
-        """Runs a program or tests. Nothing else runs at the same time."""
-        before = used_by_children()
-        is_well = self.run(crate, *given)
-        self.runs[crate.name] = self.runs.get(crate.name, 0) + used_by_children() - before
-        return is_well
+    def timed(self, run):
+        """Returns a call that runs a program or tests and adds its time. Nothing else runs at the same time."""
+
+        def timed_run(crate, *given):
+            before = used_by_children()
+            is_well = run(crate, *given)
+            self.runs[crate.name] = self.runs.get(crate.name, 0) + used_by_children() - before
+            return is_well
+
+        return timed_run
 
     def of_crates(self):
         """Returns the seconds by crate and task, those of edits that the crate's common check did not settle ("alone", a part of "edits"),
@@ -239,7 +210,6 @@ def used_by_children():
 def call_after_each_run():
     """Has the gate make the calls of calls.py each time it has run the program, for both compilers, and with the first compiler also
     the calls with changed texts and with refused memory. Tests are also run with refused memory when they have passed."""
-    run = rt.run
 
     def tries(made):
         yield pages.main(made) == 0
@@ -270,16 +240,19 @@ def call_after_each_run():
         yield python_package.try_all(made)
         yield refuse.try_all(made)
 
-    def run_and_call(crate, tests, ending=""):
-        is_well = run(crate, tests, ending)
-        if is_well and not tests and crate.name == calls.PROGRAM:
-            made = f"{crate.folder}/out/{crate.name}{ending}"
-            return calls.make_all(made) and (bool(ending) or all([*tries(made)]))
-        if is_well and tests and not ending:
-            return refuse.try_tests(crate.name, f"{crate.folder}/out/{crate.name}_tests")
-        return is_well
+    def calling(run):
+        def run_and_call(crate, tests, ending=""):
+            is_well = run(crate, tests, ending)
+            if is_well and not tests and crate.name == calls.PROGRAM:
+                made = f"{crate.folder}/out/{crate.name}{ending}"
+                return calls.make_all(made) and (bool(ending) or all([*tries(made)]))
+            if is_well and tests and not ending:
+                return refuse.try_tests(crate.name, f"{crate.folder}/out/{crate.name}_tests")
+            return is_well
 
-    rt.run = run_and_call
+        return run_and_call
+
+    kit.wrap_runs(calling)
 
 
 def share_processors():
@@ -293,7 +266,7 @@ def share_processors():
             tasks[key] = (waits, int(lines * WORK.get(key[1], 1)) + more, needs, call)
         return in_lanes(tasks, MOST_JOBS)
 
-    rt.in_lanes = by_work
+    kit.share_lanes_by(by_work)
 
 
 class Beside:
@@ -327,7 +300,7 @@ def tell_before_the_last_line(times, look):
         line.append(f"{passed + (not failed[0])} passed, {missed + failed[0]} failed{texts[0][counts.end() :]}")
         print(*line, **how)
 
-    rt.print = tell
+    kit.print_by(tell)
     return lambda: any(failed), line
 
 
@@ -350,10 +323,9 @@ def copy_of(names, room):
 def ci(names, room):
     """Runs the kit's `rt ci` with one task for all wrong implementations of a crate, and returns its status. A kit that caches nothing
     takes no names of crates, so it gets a copy of these crates."""
+    kit.try_edits_by(add_edits, try_all)
     if KEEPS:
-        rt.add_edits = add_edits
         return rt.ci(False, names)
-    rt.must_fail_all = try_all
     if names:
         os.chdir(copy_of(names, room))
     return rt.ci()
@@ -366,7 +338,7 @@ def main(words):
     os.chdir(TOP)
     if words[:1] == ["--jobs"] and len(words) > 1 and words[1].isdigit() and int(words[1]):
         jobs, words = int(words[1]), words[2:]
-        rt.processors = lambda: jobs
+        kit.use_processors(jobs)
     if any(it.startswith("-") for it in words):
         print(__doc__, file=sys.stderr)
         return 2
@@ -374,12 +346,12 @@ def main(words):
         print("0 passed, 1 failed")
         return 1
     failed = explained.main([]) or documents.main() or notice.main() or bottling.main() or interpreter.main([]) or second_session.main() or editors.main() or memory_answers.main() or way.main()
-    if subprocess.run(["examples/check"]).returncode or failed or cases_test.main() or texts_test.main() or figures_test.main() or clauses_test.main() or versions_test.main() or citations_test.main() or system_packages_test.main() or memory_answers_test.main():
+    if subprocess.run(["examples/check"]).returncode or failed or any(it.main() for it in TESTS_OF_TOOLS):
         print("0 passed, 1 failed")
         return 1
     with tempfile.TemporaryDirectory(prefix="gate-") as room:
         look = Beside("tools/must_fail_test.py")
-        Crate.toolchain = toolchain_with(room, "clang", QUICK_CLANG)
+        kit.use_crates_of_the_gate(toolchain_with(room, "clang", QUICK_CLANG))
         call_after_each_run()
         share_processors()
         (has_failed, last_line), tree = tell_before_the_last_line(Times(room), look), package.tree()
