@@ -332,6 +332,12 @@ def faults_of_places(room):
         status, out, err = bench.call("./suite", *words)
         if status or not late or f"ok 2 - night\n# stimuli: rows at or beyond the horizon 9000: {late} of " not in out:
             yield f"stimuli beyond the horizon: {status}, {out}{err}"
+    # (where a shell would look for the folder of the suite first, there is one without a bench)
+    bench = Bench(room, "called")
+    bench.write("other/line/README.md", "")
+    status, out, err = bench.call("sh", "-c", "cd .. && CDPATH=$PWD/line/other line/suite --one shift")
+    if status or out or err:
+        yield f"a suite that is called by a path where CDPATH is set: {status}, {out}{err}"
     bench = Bench(room, "into")
     status, out, err = bench.call("./suite", out="shift")
     if status != 3 or "shift: this folder is for results" not in err or content(f"{bench.folder}/shift/trace") != content(f"{EXAMPLE}/shift/trace"):
