@@ -5,6 +5,7 @@ import inspect
 import numpy
 import pytest
 from common import EXAMPLES, example_in
+from hypothesis.strategies import integers
 
 import fbsim
 from fbsim import strategies
@@ -37,18 +38,26 @@ OF_APPLICATIONS = {
     "values of a session": lambda: APP.session().give(1, "BEFORE.SENSE", 5),
     "a command with half a character": lambda: APP.session().ask("show \ud800"),
     "values of a row": lambda: APP.session(row(values=5)),
+    "rows of a session": lambda: APP.session(5),
+    "an application of a text": lambda: fbsim.Trace("trace", "conveyor.iec"),
+    "events of a strategy": lambda: strategies.stimuli(None, integers(0, 9)),
+    "variables of a strategy": lambda: strategies.stimuli({"A.B": None}, integers(0, 9)),
 }
 OF_SWEEPS = {
     "parameters of a number": lambda: APP.sweep(5, horizon=5),
     "parameters of a list": lambda: APP.sweep([1], horizon=5),
     "a name of a number": lambda: APP.sweep({5: [1]}, horizon=5),
     "latencies of a number": lambda: APP.sweep(LINK, horizon=5, latencies=5),
+    "latencies with a number for a name": lambda: APP.sweep(LINK, horizon=5, latencies={5: PAIR}),
+    "latencies by what nothing has": lambda: APP.sweep(LINK, horizon=5, latencies={"x": (*PAIR, "nxt")}),
     "a sample of a text": lambda: APP.sweep(LINK, horizon=5, sample="x"),
     "a sample below one": lambda: APP.sweep(LINK, horizon=5, sample=-1),
     "a seed of a list": lambda: APP.sweep(LINK, horizon=5, sample=1, seed=[]),
     "an executor of a number": lambda: APP.sweep(LINK, horizon=5, executor=5),
     "a jitter of a text": lambda: fbsim.jitter("a", 2),
     "a jitter of a fraction": lambda: fbsim.jitter(1.5, 2),
+    "a table up to a text": lambda: fbsim.jitter(1, 2).table("x"),
+    "a declaration of a number": lambda: fbsim.check_sequence("E_SR", [["S"]], declaration=5),
     "steps of a number": lambda: fbsim.check_sequence("E_SR", 5),
     "a step of a text": lambda: fbsim.check_sequence("E_SR", ["S"]),
     "a step of a number": lambda: fbsim.check_sequence("E_SR", [[5]]),
@@ -60,6 +69,9 @@ OF_TRACES = {
     "signals of a number": lambda it: it.signals(5),
     "a plot of a number": lambda it: it.plot(5),
     "a pairing of a number": lambda it: it.latencies(*PAIR, pair=5),
+    "a pairing by nothing": lambda it: it.latencies(*PAIR, pair=""),
+    "a pairing by what the second has not": lambda it: it.latencies(*PAIR, pair="TAKEN"),
+    "a pairing by what nothing has": lambda it: it.latencies(PAIR[0], PAIR[0] + " TAKEN=77", pair="nxt"),
     "a percentile of a text": lambda it: it.latencies(*PAIR).percentile("x"),
     "a trace with NUL": lambda it: fbsim.Trace("a\0b").count(),
     "a file in no folder": lambda it: it.save("/nowhere/x"),

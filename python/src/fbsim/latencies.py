@@ -106,7 +106,6 @@ class Latencies:
 
 def paired(lines: Iterable[Line], first: Pattern, second: Pattern, pair: str) -> Latencies:
     """Returns the latencies of lines that are paired as `Lines.latencies` says."""
-    needs(pair, str, "a pairing: it is queue, next or the name of a variable")
     found, is_plain = Latencies(), pair in ("queue", "next")
     waiting: defaultdict[object, deque[Line]] = defaultdict(deque)
     ahead: dict[object, Line] = {}

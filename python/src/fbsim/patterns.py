@@ -10,7 +10,7 @@ from functools import lru_cache
 from pathlib import Path
 from typing import TYPE_CHECKING, Any, NamedTuple
 
-from fbsim.faults import InputFault, Refused
+from fbsim.faults import InputFault, Refused, needs
 from fbsim.program import call
 from fbsim.stimuli import Value
 from fbsim.texts import temporary_folder, write
@@ -175,6 +175,15 @@ def ask_patterns(application: Application | None, patterns: Iterable[str]) -> No
     for it in patterns:
         if (fault := ask(application, it)) is not None:
             raise InputFault(f'"{it}": {fault}')
+
+
+def ask_pair(application: Application | None, patterns: Iterable[str], pair: str) -> None:
+    """Raises an InputFault if lines can't be paired so: by `queue`, `next`, or a variable that no event of one has."""
+    needs(pair, str, "a pairing: it is queue, next or the name of a variable")
+    if pair not in ("queue", "next"):
+        if not re.fullmatch(NAME, pair.upper()):
+            raise InputFault(f"pair is {pair!r}, and neither queue nor next nor the name of a variable")
+        ask_patterns(application, [f"{it} {pair}={pair}" for it in patterns])
 
 
 def ask_signal(application: Application | None, instance: str, variable: str) -> None:

@@ -8,7 +8,7 @@ from typing import NamedTuple
 
 from fbsim.application import Application
 from fbsim.faults import InputFault, SequenceBroken, needs, texts_of
-from fbsim.stimuli import FileName, Row
+from fbsim.stimuli import FileName, Row, file_name
 from fbsim.texts import constant, of_application, read, temporary_folder, write
 from fbsim.trace import Line
 
@@ -87,7 +87,7 @@ def check_sequence(
     instance = f"{INSTANCE} : {type_name}{given and f'({given})'};"
     text = f"APPLICATION HARNESS FBS {instance} END_FBS END_APPLICATION\n"
     if declaration is not None:
-        around = read(declaration)
+        around = read(file_name(declaration, "a declaration"))
         span = of_application(around)
         text = around[:span[0].start()] + text + around[span[-1].end():] if span else around + text
     rows = [row for it in sequence for row in it.rows]

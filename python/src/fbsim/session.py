@@ -19,7 +19,7 @@ from fbsim.faults import (
 )
 from fbsim.program import begun, kill, seconds
 from fbsim.stimuli import (
-    MOST_BYTES, MOST_ROWS, FileName, Row, Stimuli, Value, file_name, made_folder, row_of, stimuli_text, warn_of,
+    MOST_BYTES, MOST_ROWS, FileName, Row, Stimuli, Value, file_name, made_folder, rows_of, stimuli_text, warn_of,
     words_of
 )
 from fbsim.texts import temporary_file, whole, write, write_script
@@ -128,8 +128,8 @@ class Session(Lines):
         weakref.finalize(self, self._file.close)
         try:
             self.ask("peek")  # (the rows of a file come before the answer)
-            for row in stimuli or ():
-                self.give(*row_of(row))
+            for row in rows_of(() if stimuli is None else stimuli):
+                self.give(*row)
         except BaseException as it:
             self._break_off()
             if isinstance(it, (Refused, FileFault)):
@@ -221,7 +221,7 @@ class Session(Lines):
             words = ["fbsim", "run", *words, "--stim", "stimuli.csv", "--horizon", str(horizon)]
             return write_script(path, "a session", shlex.join(words))
         with open(path / "commands", "w", encoding="ascii") as to:
-            for tick, event, values in map(row_of, self.rows):
+            for tick, event, values in rows_of(self.rows):
                 to.write(f"give {tick} {event} {words_of(values)}\n")
             to.write(f"end {horizon}\n")
         line = shlex.join(["fbsim", "session", *words]) + " < commands | grep -v '^[=!]'"

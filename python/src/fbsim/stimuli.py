@@ -6,7 +6,7 @@ import csv
 import io
 import os
 import warnings
-from collections.abc import Iterable, Mapping
+from collections.abc import Iterable, Iterator, Mapping
 from pathlib import Path
 
 from fbsim.faults import InputFault, encoded, needs, of_system
@@ -61,6 +61,13 @@ def row_of(given: object) -> tuple[int, str, Mapping[str, Value]]:
     raise InputFault(f"{given!r} is no row of stimuli: it is (tick, INSTANCE.EVENT, {{VARIABLE: value}})")
 
 
+def rows_of(given: object) -> Iterator[tuple[int, str, Mapping[str, Value]]]:
+    """Goes over rows."""
+    if not isinstance(given, Iterable) or hasattr(given, "columns"):
+        raise InputFault(f"stimuli are a file or rows, and not of the type {type(given).__name__}")
+    yield from map(row_of, given)
+
+
 def words_of(values: Mapping[str, Value]) -> str:
     """Returns values as words of stimuli: `COVERED=TRUE COUNT=2`."""
     needs(values, Mapping, "the values of an event: {VARIABLE: value}")
@@ -72,10 +79,8 @@ def stimuli_text(rows: Iterable[Row], is_limited: bool = True) -> str:
     text = io.StringIO()
     table = csv.writer(text, lineterminator="\n")
     table.writerow(["tick", "event", "values"])
-    if not isinstance(rows, Iterable) or hasattr(rows, "columns"):
-        raise InputFault(f"stimuli are a file or rows, and not of the type {type(rows).__name__}")
     count = 0
-    for count, (tick, event, values) in enumerate(map(row_of, rows), 1):
+    for count, (tick, event, values) in enumerate(rows_of(rows), 1):
         table.writerow([tick, event, words_of(values)])
     if count > MOST_ROWS and is_limited:
         raise InputFault(

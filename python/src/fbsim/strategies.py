@@ -8,7 +8,7 @@ from operator import itemgetter
 from hypothesis import strategies
 from hypothesis.strategies import SearchStrategy
 
-from fbsim.faults import InputFault
+from fbsim.faults import InputFault, needs
 from fbsim.stimuli import Value
 
 
@@ -20,6 +20,10 @@ def stimuli(
 
     `events` has for each INSTANCE.EVENT the strategies of its variables: {"BEFORE.SENSE": {"COVERED": booleans()}}.
     """
+    what = "a table: {INSTANCE.EVENT: {VARIABLE: strategy}}"
+    needs(events, Mapping, what)
+    for values in events.values():
+        needs(values, Mapping, what)
     if not events or max_size == 0:
         raise InputFault("these are always no stimuli: there is no event, or max_size is 0")
     rows = [

@@ -20,7 +20,7 @@ from fbsim import figures
 from fbsim.application import Application
 from fbsim.cache import Cache
 from fbsim.faults import Fault, InputFault, needs, texts_of
-from fbsim.patterns import Pattern, ask_patterns
+from fbsim.patterns import Pattern, ask_pair, ask_patterns
 from fbsim.program import call, seconds
 from fbsim.stimuli import FileName, Stimuli, made_folder, stimuli_text, warn_of
 from fbsim.texts import (
@@ -62,8 +62,8 @@ class Jitter:
 
     def table(self, horizon: int) -> list[tuple[int, int]]:
         """Returns the table of latencies of a link for a run: pairs of a tick and the latency from it on."""
-        chance = random.Random(self.seed)
-        ticks = sorted(chance.sample(range(1, horizon), min(self.changes, horizon - 1)))
+        chance, later = random.Random(self.seed), range(1, whole(horizon, "horizon"))
+        ticks = sorted(chance.sample(later, min(self.changes, len(later))))
         return [(tick, chance.randint(self.least, self.most)) for tick in [0, *ticks]]
 
 
@@ -270,6 +270,7 @@ def between(application: Application, name: str, given: object) -> Between:
     for it in given[:2]:
         Pattern(it)
     ask_patterns(application, given[:2])
+    ask_pair(application, given[:2], *given[2:] or ["queue"])
     return tuple(given)  # type: ignore[return-value]
 
 
@@ -306,6 +307,7 @@ def planned(
     needs(parameters, Mapping, "a table of parameters: {NAME: values}")
     needs(latencies, Mapping, "a table of latencies: {NAME: (pattern, pattern)}")
     texts_of(parameters, "names of parameters")
+    texts_of(latencies, "names of latencies")
     whole(seed, "seed")
     if sample is not None and whole(sample, "sample") < 1:
         raise InputFault(f"sample is {sample!r}, and not at least 1")

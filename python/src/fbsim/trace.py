@@ -20,7 +20,7 @@ from typing import IO, TYPE_CHECKING, NamedTuple
 from fbsim import figures
 from fbsim.faults import FileFault, InputFault, ProgramFault, RulesBroken, Stop, needs, of_system, texts_of
 from fbsim.latencies import Latencies, paired
-from fbsim.patterns import NAME, PORT, Pattern, ask_patterns, ask_signal
+from fbsim.patterns import NAME, PORT, Pattern, ask_pair, ask_patterns, ask_signal
 from fbsim.program import call
 from fbsim.stimuli import Value, file_name
 
@@ -228,7 +228,9 @@ class Lines(ABC):
         `pair` is `queue`: the k-th first with the k-th second; `next`: each first with the next second after it; or the
         name of a variable: a first with the second that has the same value of it.
         """
-        return paired(self, self.pattern_of(first), self.pattern_of(second), pair)
+        patterns = self.pattern_of(first), self.pattern_of(second)
+        ask_pair(self.application, [first, second], pair)
+        return paired(self, *patterns, pair)
 
     def frame(self) -> DataFrame:
         """Returns a pandas data frame: a row for each line, a column for each part and for each variable."""
@@ -264,6 +266,8 @@ class Trace(Lines):
     """
 
     def __init__(self, path: str | os.PathLike[str], application: Application | None = None) -> None:
+        if application is not None and not hasattr(application, "words_from"):
+            raise InputFault(f"{application!r} is not an application")
         self.path, self.application, self.where_stopped = Path(file_name(path, "a trace")), application, ""
         # Whether the program wrote the file for this trace, and else its state when it was last read to its end.
         self.is_own, self.known = False, (0, 0, 0)
