@@ -1,8 +1,8 @@
 #!/usr/bin/env python3
 """tools/junit_reports.py [PROGRAM]: reads the reports of `expect --junit` with Debian's junitparser, and compares them with those without it.
 
-The rules and traces are those of examples/bottling and a few here: rules that hold, break, are undecided and never apply, with names that
-XML must escape. Suites, cases, failures and skips are those of the Test Anything Protocol, and so are line, tick and how often a rule was
+The rules and traces are those of examples/bottling and a few here: rules that hold, break, are undecided, never apply and are cut short by a
+stop, with names that XML must escape. Suites, cases, failures and skips are those of the Test Anything Protocol, and so are line, tick and how often a rule was
 decided."""
 
 import glob
@@ -26,7 +26,10 @@ RULES = "".join(RULE % it for it in (
     ("tab \\t and # here", 'count = "* * *"\nleast = 1'),
     ("never", 'before = "R > A.X"\nwithin = 1\nsee = "R > A.P"'),
 ))
-TRACES = {"held": "1 R > A.P\n2 R > A.Q\nend 9\n", "waits & <ends>": "1 R > A.P\nend 2\n", "empty": "end 1\n"}
+TRACES = {
+    "held": "1 R > A.P\n2 R > A.Q\nend 9\n", "waits & <ends>": "1 R > A.P\nend 2\n", "empty": "end 1\n",
+    "stopped": "1 R > A.P\n2 R > A.Q\nstop 9 R steps\n",
+}
 
 
 def expected_cases(report, traces):

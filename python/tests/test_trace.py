@@ -221,6 +221,36 @@ def test_rules_are_kept_broken_or_undecided(tmp_path):
     assert caught.value.broken[1].line is None
 
 
+@pytest.mark.parametrize("more, ticks, applied", [
+    ("see", (1, 3), False), ("not", (1, 3), False), ("see", (1, 2), True), ("not", (0, 2), True),
+    ('same = ["N"]\nsee', (1, 3), False), ("each = true\nsee", (1, 3), False), ("each = true\nsee", (1, 2), True),
+])
+def test_a_rule_of_whose_events_all_wait_has_not_applied(tmp_path, more, ticks, applied):
+    # (the deadline is 3 ticks, the end 4: the first START waits unless an answer follows, or it is of tick 0)
+    answer = ["2 MAIN < C.EO N=1"] * (applied and "see" in more)
+    lines = [f"{ticks[0]} MAIN > C.START N=1", *answer, f"{ticks[1]} MAIN > C.START N=1", "end 4"]
+    (tmp_path / "some.rules").write_text(f'[[rule]]\nname = "x"\nafter = "* > C.START"\nwithin = 3\n{more} = "* < C.EO"\n')
+    (verdict,) = trace_in(tmp_path, *lines).expect(tmp_path / "some.rules").verdicts
+    assert (verdict.verdict, verdict.decided, verdict.applied) == ("undecided", 2, applied)
+
+
+def test_rules_over_a_trace_that_ends_with_a_stop(tmp_path):
+    trace = trace_in(tmp_path, "0 MAIN > C.START DT=3", "3 MAIN < C.EO", "stop 5 MAIN steps")
+    (tmp_path / "some.rules").write_text(
+        '[[rule]]\nname = "x"\nafter = "* > C.START"\nwithin = 3\nsee = "* < C.EO"\n'
+        '[[rule]]\nname = "y"\nafter = "* < C.EO"\nwithin = 3\nnot = "* < C.EO"\n'
+    )
+    held, open_one = trace.expect(tmp_path / "some.rules").verdicts
+    stop = "the trace ended in a stop at tick 5"
+    assert (held.verdict, held.notes, held.applied) == ("kept", (stop,), True)
+    assert (open_one.verdict, open_one.notes, open_one.applied) == ("undecided", (stop,), False)
+    with pytest.raises(fbsim.RulesBroken) as caught:
+        trace.expect(tmp_path / "some.rules", strict=True)
+    assert [it.message for it in caught.value.broken] == [
+        "stopped: the rule holds up to the stop that ends the trace", "undecided: the trace ends before that",
+    ]
+
+
 def test_rules_over_a_text_that_is_no_trace(tmp_path):
     (tmp_path / "some.rules").write_text('[[rule]]\nname = "x"\nnever = "* < *"\n')
     with pytest.raises(fbsim.Refused) as caught:

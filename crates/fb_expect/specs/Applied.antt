@@ -1,7 +1,7 @@
 -- In how many of several traces each rule applied (docs/FORMATS.md, "The report (TAP)" and "The report (JUnit)"; this project's own).
-use Rattle.std.specs.Prelude.{ℕ, ◌+◌, Bool, true, false, not, ◌==◌, if◌then◌else◌, nat_lt, List, [], ◌∷◌, ◌++◌, length, map, count_by, slice_index_or, codes, decimal}
+use Rattle.std.specs.Prelude.{ℕ, ◌+◌, Bool, false, not, ◌==◌, if◌then◌else◌, List, [], ◌∷◌, ◌++◌, length, map, count_by, slice_index_or, codes, decimal}
 use Rattle.std.specs.List.{list_all, list_any, range_with_len}
-use Rattle.fb_expect.specs.Reports.{escape, first_word, is_last_open, joined}
+use Rattle.fb_expect.specs.Reports.{escape, first_word, joined}
 use Rattle.fb_expect.specs.Suites.{failed, suite_head_by, xml}
 use Rattle.fb_expect.specs.Words.{Text}
 use Rattle.fb_expect.specs.declared.judging.Judged.{Judged}
@@ -9,15 +9,11 @@ use Rattle.fb_expect.specs.declared.rule.Rule.{Rule}
 
 -- ---- Rules that applied
 
--- Whether a rule applied in a trace at which this came of it: it was decided at least once. If its last P waits, one P is not enough.
-abbrev pub applies : Rule → Judged → Bool
-applies r j = if is_last_open r.need j.verdict then nat_lt 1 j.decided else not (j.decided == 0)
-
--- the same of each rule
+-- Whether each rule applied in a trace at which this came of it: it was decided there at least once.
 abbrev pub marks : List Rule → List Judged → List Bool
 marks [] js = []
 marks (r ∷ rs) [] = []
-marks (r ∷ rs) (j ∷ js) = applies r j ∷ marks rs js
+marks (r ∷ rs) (j ∷ js) = j.is_applied ∷ marks rs js
 
 abbrev pub applies_at : List Rule → (index : ℕ) → List Judged → Bool
 applies_at rules index js = slice_index_or (marks rules js) index false

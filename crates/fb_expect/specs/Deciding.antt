@@ -1,13 +1,17 @@
 -- How often rules are decided by the lines of a trace (docs/FORMATS.md, "The report (TAP)"; this project's own).
-use Rattle.std.specs.Prelude.{◌≡◌, ◌⊎◌, ℕ, zero, suc, ◌+◌, ◌-◌, ◌≤◌, Bool, true, false, List, [], ◌∷◌, ◌++◌, length, count_by, Option, Some, None, is_some}
+use Rattle.std.specs.Prelude.{◌≡◌, ◌⊎◌, ◌↔◌, IsTrue, ℕ, zero, suc, ◌+◌, ◌-◌, ◌<◌, ◌≤◌, Bool, true, false, not, ◌==◌, nat_lt, List, [], ◌∷◌, ◌++◌, length, count_by, Option, Some, None, is_some}
+use Rattle.fb_expect.specs.Hits.{IsFirst, tick_at}
 use Rattle.fb_expect.specs.Rules.{IsFromStart, IsSince, windows_over}
-use Rattle.fb_expect.specs.Watching.{KnowsStretch}
+use Rattle.fb_expect.specs.Traces.{tick_of}
+use Rattle.fb_expect.specs.Watching.{IsBelow, IsMet, Knows, KnowsStretch}
 use Rattle.fb_expect.specs.declared.ending.End.{End}
 use Rattle.fb_expect.specs.declared.hit.Hit.{Hit}
 use Rattle.fb_expect.specs.declared.rule.Need.{Need}
 use Rattle.fb_expect.specs.declared.rule.Need.TheVariants as need
 use Rattle.fb_expect.specs.declared.tally.Tally.{Tally}
 use Rattle.fb_expect.specs.declared.tally.Tally.TheVariants as tally
+use Rattle.fb_expect.specs.declared.watch.Mark.{Mark}
+use Rattle.fb_expect.specs.declared.watch.Watch.{Watch}
 
 -- how many lines are P
 abbrev pub count_first : List Hit → ℕ
@@ -31,7 +35,53 @@ IsDecided (need.Before within) hs end n = n ≡ count_first hs
 IsDecided (need.Never from_start) hs end n = AreInside from_start hs (length hs) n
 IsDecided (need.Count least most every) hs end n = n ≡ windows_over every end
 
+-- ---- Whether a rule was decided at least once
+
+-- A P is decided: a Q follows it in time, or its time is over when the trace ends.
+pub record IsSettled (within : ℕ) (hs : List Hit) (end : End) (i : ℕ) : Type 0 where
+  pub first : IsFirst hs i
+  pub settled : IsMet within hs i ⊎ (tick_at hs i + within < tick_of end)
+
+-- whether some P is
+abbrev pub Settles : (within : ℕ) → List Hit → End → Bool → Type 0
+Settles within hs end applied = IsTrue applied ↔ ((i : ℕ) × IsSettled within hs end i)
+
+-- Whether a rule that judges each line by itself was decided at least once. Each P of a rule `before` is, each line in a stretch, and each window.
+abbrev pub IsApplied : Need → List Hit → End → (often : ℕ) → (applied : Bool) → Type 0
+IsApplied (need.See within) hs end often applied = Settles within hs end applied
+IsApplied (need.Not within) hs end often applied = Settles within hs end applied
+IsApplied (need.Before within) hs end often applied = applied ≡ not (often == 0)
+IsApplied (need.Never from_start) hs end often applied = applied ≡ not (often == 0)
+IsApplied (need.Count least most every) hs end often applied = applied ≡ not (often == 0)
+
 -- ---- While a trace is read
+
+-- The marked line is the first P, and no P is of an earlier tick.
+pub record IsFirstMark (hs : List Hit) (m : Mark) : Type 0 where
+  pub index : ℕ
+  pub line : m.line ≡ index + 1
+  pub tick : m.tick ≡ tick_at hs index
+  pub first : IsFirst hs index
+  pub before : (i : ℕ) → i < index → IsFirst hs i → ⊥
+  pub least : (i : ℕ) → IsFirst hs i → tick_at hs index ≤ tick_at hs i
+
+abbrev pub KnowsFirst : List Hit → Option Mark → Type 0
+KnowsFirst hs None = (i : ℕ) → IsFirst hs i → ⊥
+KnowsFirst hs (Some m) = IsFirstMark hs m
+
+-- the first P with one more line, of no earlier tick and of this number
+abbrev pub FirstOn : Option Mark → (line : ℕ) → Hit → Option Mark → Type 0
+FirstOn old line hit new = (hs : List Hit) → line ≡ length hs + 1 → IsBelow hs hit.tick → KnowsFirst hs old → KnowsFirst (hs ++ hit ∷ []) new
+
+-- the first P is before what waits, or nothing does
+abbrev pub comes_before : (first : Mark) → (waiting : Option Mark) → Bool
+comes_before first None = true
+comes_before first (Some m) = nat_lt first.line m.line
+
+-- all lines were read: whether the rule, of which this is known, was decided
+abbrev pub Applies : Need → Watch → Option Mark → End → (often : ℕ) → (applied : Bool) → Type 0
+Applies n w first end often applied =
+    (hs : List Hit) → IsBelow hs (tick_of end) → KnowsFirst hs first → Knows n hs w → IsApplied n hs end often applied
 
 -- the lines in stretches, of this many lines: those of stretches that are over, and those of the one since this many lines
 abbrev pub judged_up_to : (since : Option ℕ) → (closed lines : ℕ) → ℕ

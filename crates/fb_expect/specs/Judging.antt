@@ -1,13 +1,13 @@
 -- What comes of rules at a trace (this project's own).
-use Rattle.std.specs.Prelude.{◌≡◌, ◌⊎◌, ℕ, ◌+◌, ◌≤◌, List, [], ◌∷◌, ◌++◌, length, map, All, Option, Some, None, IfSome}
+use Rattle.std.specs.Prelude.{◌≡◌, ◌⊎◌, ℕ, ◌+◌, ◌≤◌, Bool, List, [], ◌∷◌, ◌++◌, length, map, All, Option, Some, None, IfSome}
 use Rattle.std.specs.Io.BufRead.{take_through}
 use Rattle.std.specs.Io.KnownBytes.{Consumes}
 use Rattle.fb_types.specs.declared.run.Form.{Form}
 use Rattle.fb_types.specs.declared.run.Form.TheVariants.{One, Two}
 use Rattle.fb_expect.specs.Events.{Event, IsLine}
-use Rattle.fb_expect.specs.Deciding.{IsDecided, Tallies}
+use Rattle.fb_expect.specs.Deciding.{IsApplied, IsDecided, KnowsFirst, Tallies}
 use Rattle.fb_expect.specs.Hits.{hits_of}
-use Rattle.fb_expect.specs.Paired.{IsPairVerdict, KnowsPairs, pair_hits_of, within_of}
+use Rattle.fb_expect.specs.Paired.{IsPairApplied, IsPairVerdict, KnowsPairs, pair_hits_of, within_of}
 use Rattle.fb_expect.specs.Passing.{Covers}
 use Rattle.fb_expect.specs.Rules.{IsVerdict}
 use Rattle.fb_expect.specs.Sights.{sights_of}
@@ -32,11 +32,18 @@ abbrev pub IsVerdictBy : Option Pairing → Rule → List Event → End → Verd
 IsVerdictBy None r es end v = IsVerdict r.need (hits_of r es) end v
 IsVerdictBy (Some p) r es end v = IsPairVerdict (within_of r.need) p (pair_hits_of r es) end v
 
+-- whether such a rule, which was decided so often or has so many P's, was decided at least once
+abbrev pub IsAppliedBy : Option Pairing → Rule → List Event → End → (often : ℕ) → (applied : Bool) → Type 0
+IsAppliedBy None r es end often applied = IsApplied r.need (hits_of r es) end often applied
+IsAppliedBy (Some p) r es end often applied = IsPairApplied r.need p (pair_hits_of r es) end often applied
+
 -- What came of a rule at the events of a trace with this end.
 pub record IsJudged (es : List Event) (end : End) (r : Rule) (j : Judged) : Type 0 where
   pub verdict : IsVerdictBy r.pairing r es end j.verdict
   pub decided : IsDecided r.need (hits_of r es) end j.decided
+  pub applied : IsAppliedBy r.pairing r es end j.decided j.is_applied
   pub sights : j.sights ≡ sights_of r es
+  pub ended : j.end ≡ end
 
 -- What came of each rule, in their order.
 abbrev pub AreJudged : List Event → End → List Rule → List Judged → Type 0
@@ -126,8 +133,15 @@ Concludes r s number end v =
 pub record Follows (es : List Event) (w : Watcher) : Type 0 where
   pub knows : KnowsState w.rule.now es w.state
   pub counts : Tallies w.rule.now.need (hits_of w.rule.now es) w.tally
+  pub first : KnowsFirst (hits_of w.rule.now es) w.first
   pub saw : w.sights ≡ sights_of w.rule.now es
   pub covers : Covers w.ports.marks w.rule.now
+
+-- The whole trace was read: whether the rule, which was decided so often or has so many P's, was decided at least once.
+abbrev pub Applies : Watcher → (often : ℕ) → End → (applied : Bool) → Type 0
+Applies w often end applied =
+    (es : List Event) → AreBelow es (tick_of end) → Follows es w → IsDecided w.rule.now.need (hits_of w.rule.now es) end often
+    → IsAppliedBy w.rule.now.pairing w.rule.now es end often applied
 
 abbrev pub rules_of : List Watcher → List Rule
 rules_of ws = map (λ w. w.rule.now) ws

@@ -1,5 +1,5 @@
 -- What rules ask of the lines of a trace that pair each P with a Q: by equal values, or by turns (this project's own).
-use Rattle.std.specs.Prelude.{◌≡◌, ℕ, zero, suc, ◌+◌, ◌<◌, ◌≤◌, Bool, true, false, not, ◌&&◌, ◌||◌, ◌==◌, nat_lt, if◌then◌else◌, List, [], ◌∷◌, ◌++◌, length, map, filter, position, remove, Option, Some, None, slice_index_or}
+use Rattle.std.specs.Prelude.{◌≡◌, ◌⊎◌, ◌↔◌, IsTrue, ℕ, zero, suc, ◌+◌, ◌<◌, ◌≤◌, Bool, true, false, not, ◌&&◌, ◌||◌, ◌==◌, nat_lt, if◌then◌else◌, List, [], ◌∷◌, ◌++◌, length, map, count_by, filter, position, remove, Option, Some, None, slice_index_or}
 use Rattle.std.specs.Option.{option_map_or}
 use Rattle.fb_expect.specs.Events.{Event}
 use Rattle.fb_expect.specs.Hits.{hit_of}
@@ -124,6 +124,35 @@ within_of (need.Before within) = within
 within_of (need.Never from_start) = 0
 within_of (need.Count least most every) = 0
 
+-- ---- Whether the rule was decided at least once
+
+-- a P is answered in time
+pub record IsMet (within : ℕ) (p : Pairing) (hs : List PairHit) (i : ℕ) : Type 0 where
+  pub answer : ℕ
+  pub answers : answers p hs i answer ≡ true
+  pub soon : (hit_at hs answer).tick ≤ (hit_at hs i).tick + within
+
+-- A P is decided: it is answered in time, or its time is over when the trace ends.
+pub record IsSettled (within : ℕ) (p : Pairing) (hs : List PairHit) (end : End) (i : ℕ) : Type 0 where
+  pub first : (hit_at hs i).first ≡ true
+  pub settled : IsMet within p hs i ⊎ ((hit_at hs i).tick + within < tick_of end)
+
+-- whether some P is
+abbrev pub Settles : (within : ℕ) → Pairing → List PairHit → End → Bool → Type 0
+Settles within p hs end applied = IsTrue applied ↔ ((i : ℕ) × IsSettled within p hs end i)
+
+-- how many lines are P
+abbrev pub count_first : List PairHit → ℕ
+count_first hs = count_by (λ h. h.first) hs
+
+-- Whether a rule was decided at least once. Only a rule `see` pairs lines.
+abbrev pub IsPairApplied : Need → Pairing → List PairHit → End → (often : ℕ) → (applied : Bool) → Type 0
+IsPairApplied (need.See within) p hs end often applied = Settles within p hs end applied
+IsPairApplied (need.Not within) p hs end often applied = applied ≡ not (often == 0)
+IsPairApplied (need.Before within) p hs end often applied = applied ≡ not (often == 0)
+IsPairApplied (need.Never from_start) p hs end often applied = applied ≡ not (often == 0)
+IsPairApplied (need.Count least most every) p hs end often applied = applied ≡ not (often == 0)
+
 -- ---- While a trace is read
 
 -- whether the line at an index waits: it is a P, and no line answers it
@@ -144,12 +173,6 @@ one_if here w = if here then w ∷ [] else []
 abbrev pub picks : (ℕ → Bool) → (ℕ → Waiting) → ℕ → List Waiting
 picks test make zero = []
 picks test make (suc n) = picks test make n ++ one_if (test n) (make n)
-
--- a P is answered in time
-pub record IsMet (within : ℕ) (p : Pairing) (hs : List PairHit) (i : ℕ) : Type 0 where
-  pub answer : ℕ
-  pub answers : answers p hs i answer ≡ true
-  pub soon : (hit_at hs answer).tick ≤ (hit_at hs i).tick + within
 
 -- Exactly the lines that wait are kept, in their order, and every other P is answered in time.
 pub record KnowsWaiting (within : ℕ) (p : Pairing) (hs : List PairHit) (ws : List Waiting) : Type 0 where
@@ -222,6 +245,24 @@ AreBelow hs t = (i : ℕ) → (hit_at hs i).tick ≤ t
 abbrev pub PairsOn : (within : ℕ) → Pairing → Pairs → (line : ℕ) → PairHit → Pairs → Type 0
 PairsOn within p old line hit new =
     (hs : List PairHit) → line ≡ length hs + 1 → AreBelow hs hit.tick → KnowsPairs within p hs old → KnowsPairs within p (hs ++ hit ∷ []) new
+
+-- this is how many lines are P, where that is counted
+abbrev pub CountsFirst : Need → List PairHit → (often : ℕ) → Type 0
+CountsFirst (need.See within) hs often = often ≡ count_first hs
+CountsFirst (need.Not within) hs often = Unit {0}
+CountsFirst (need.Before within) hs often = Unit {0}
+CountsFirst (need.Never from_start) hs often = Unit {0}
+CountsFirst (need.Count least most every) hs often = Unit {0}
+
+-- all lines were read, of which this many are P: whether some P is decided
+abbrev pub PairsSettle : (within : ℕ) → Pairing → Pairs → End → (often : ℕ) → (applied : Bool) → Type 0
+PairsSettle within p pairs end often applied =
+    (hs : List PairHit) → AreBelow hs (tick_of end) → often ≡ count_first hs → KnowsPairs within p hs pairs → Settles within p hs end applied
+
+-- all lines were read: whether the rule, of which this is known, was decided
+abbrev pub PairsApply : Need → Pairing → Pairs → End → (often : ℕ) → (applied : Bool) → Type 0
+PairsApply n p pairs end often applied =
+    (hs : List PairHit) → AreBelow hs (tick_of end) → CountsFirst n hs often → KnowsPairs (within_of n) p hs pairs → IsPairApplied n p hs end often applied
 
 -- the whole trace was read
 abbrev pub PairsEnd : (within : ℕ) → Pairing → Pairs → End → Verdict → Type 0

@@ -3,6 +3,8 @@ use Rattle.std.specs.Prelude.{ℕ, ◌+◌, ◌*◌, Bool, true, false, not, ◌
 use Rattle.std.specs.List.{list_all}
 use Rattle.fb_expect.specs.Shown.{shown}
 use Rattle.fb_expect.specs.Words.{Text}
+use Rattle.fb_expect.specs.declared.ending.End.{End}
+use Rattle.fb_expect.specs.declared.ending.End.TheVariants.{Horizon, Stop, Cut}
 use Rattle.fb_expect.specs.declared.judging.Judged.{Judged}
 use Rattle.fb_expect.specs.declared.pattern.Pattern.{Pattern}
 use Rattle.fb_expect.specs.declared.rule.Need.{Need}
@@ -71,16 +73,27 @@ unfoldable pub never_block : (trace : Text) → Text
 never_block trace =
     joined (codes "  ---\n" ∷ quoted_line (codes "message") (codes "never applied: no line of the trace decides this rule") ∷ quoted_line (codes "trace") trace ∷ codes "  ...\n" ∷ [])
 
+-- a rule that must hold to the horizon, which the trace does not reach
+unfoldable pub stopped_block : (trace : Text) → Text
+stopped_block trace =
+    joined (codes "  ---\n" ∷ quoted_line (codes "message") (codes "stopped: the rule holds up to the stop that ends the trace") ∷ quoted_line (codes "trace") trace ∷ codes "  ...\n" ∷ [])
+
 -- ---- Points
 
+-- whether a trace ends with a stop
+abbrev pub is_stopped : End → Bool
+is_stopped (Horizon h) = false
+is_stopped (Stop t) = true
+is_stopped (Cut t) = false
+
 -- whether a verdict that was decided so often is well
-abbrev pub is_well_by : (strict : Bool) → Verdict → (decided : ℕ) → Bool
-is_well_by strict Holds decided = not (strict && (decided == 0))
-is_well_by strict Undecided decided = not strict
-is_well_by strict (Broken b) decided = false
+abbrev pub is_well_by : (strict : Bool) → Verdict → (decided : ℕ) → (stopped : Bool) → Bool
+is_well_by strict Holds decided stopped = not (strict && ((decided == 0) || stopped))
+is_well_by strict Undecided decided stopped = not strict
+is_well_by strict (Broken b) decided stopped = false
 
 abbrev pub is_well : (strict : Bool) → Judged → Bool
-is_well strict j = is_well_by strict j.verdict j.decided
+is_well strict j = is_well_by strict j.verdict j.decided (is_stopped j.end)
 
 abbrev pub are_well : (strict : Bool) → List Judged → Bool
 are_well strict js = list_all (is_well strict) js
@@ -99,17 +112,19 @@ head well number r of =
     joined (first_word well ∷ decimal number ∷ codes " - " ∷ escape 35 r.name ∷ trace_mark of ∷ [])
 
 -- the end of the line of a rule that holds, and the block after it
-abbrev pub tail_of_held : (strict is_applied : Bool) → (trace : Text) → Text
-tail_of_held strict true trace = codes "\n"
-tail_of_held true false trace = joined (codes "\n" ∷ never_block trace ∷ [])
-tail_of_held false false trace = codes " # SKIP never applied\n"
+abbrev pub tail_of_held : (strict is_applied stopped : Bool) → (trace : Text) → Text
+tail_of_held true true true trace = joined (codes "\n" ∷ stopped_block trace ∷ [])
+tail_of_held true true false trace = codes "\n"
+tail_of_held false true stopped trace = codes "\n"
+tail_of_held true false stopped trace = joined (codes "\n" ∷ never_block trace ∷ [])
+tail_of_held false false stopped trace = codes " # SKIP never applied\n"
 
 -- the end of the line, and the block after it
-abbrev pub tail : (strict : Bool) → (trace : Text) → Verdict → (decided : ℕ) → Text
-tail strict trace Holds decided = tail_of_held strict (not (decided == 0)) trace
-tail strict trace (Broken b) decided = joined (codes "\n" ∷ breach_block trace b ∷ [])
-tail true trace Undecided decided = joined (codes "\n" ∷ undecided_block trace ∷ [])
-tail false trace Undecided decided = codes " # SKIP undecided\n"
+abbrev pub tail : (strict : Bool) → (trace : Text) → Verdict → (decided : ℕ) → (stopped : Bool) → Text
+tail strict trace Holds decided stopped = tail_of_held strict (not (decided == 0)) stopped trace
+tail strict trace (Broken b) decided stopped = joined (codes "\n" ∷ breach_block trace b ∷ [])
+tail true trace Undecided decided stopped = joined (codes "\n" ∷ undecided_block trace ∷ [])
+tail false trace Undecided decided stopped = codes " # SKIP undecided\n"
 
 -- ---- How often
 
@@ -124,19 +139,36 @@ can_wait (Before within) = false
 can_wait (Never from_start) = false
 can_wait (Count least most every) = false
 
--- whether all P's are decided: the last one is not, where such a rule is undecided
+-- whether P's are left undecided: the last one is, where such a rule is undecided
 abbrev pub is_last_open : Need → Verdict → Bool
 is_last_open need Undecided = can_wait need
 is_last_open need Holds = false
 is_last_open need (Broken b) = false
 
-abbrev pub how_often_by : (is_open : Bool) → ℕ → Text
-how_often_by true n = joined (codes "# applied " ∷ decimal n ∷ times n ∷ codes ", the last is undecided\n" ∷ [])
-how_often_by false n = joined (codes "# decided " ∷ decimal n ∷ times n ∷ codes "\n" ∷ [])
+-- what is said of the P's that are left undecided: they are the last ones, or all
+abbrev pub what_is_open : (is_applied : Bool) → Text
+what_is_open true = codes ", the last is undecided\n"
+what_is_open false = codes ", none is decided\n"
+
+abbrev pub how_often_by : (is_open is_applied : Bool) → ℕ → Text
+how_often_by true is_applied n = joined (codes "# applied " ∷ decimal n ∷ times n ∷ what_is_open is_applied ∷ [])
+how_often_by false is_applied n = joined (codes "# decided " ∷ decimal n ∷ times n ∷ codes "\n" ∷ [])
 
 -- how often the rule was decided, as a comment
 abbrev pub how_often : Need → Judged → Text
-how_often need j = how_often_by (is_last_open need j.verdict) j.decided
+how_often need j = how_often_by (is_last_open need j.verdict) j.is_applied j.decided
+
+-- ---- How the trace ends
+
+-- what is said of a stop
+unfoldable pub stop_words : (tick : ℕ) → Text
+stop_words t = joined (codes "the trace ended in a stop at tick " ∷ decimal t ∷ [])
+
+-- the same, as a comment
+abbrev pub stop_comment : End → Text
+stop_comment (Horizon h) = []
+stop_comment (Stop t) = joined (codes "# " ∷ stop_words t ∷ codes "\n" ∷ [])
+stop_comment (Cut t) = []
 
 -- ---- What the trace does not have
 
@@ -167,10 +199,14 @@ may_comment (Some p) s = comment p s
 abbrev pub comments : Rule → Sights → Text
 comments r s = joined (comment r.first s.first ∷ may_comment r.second s.second ∷ may_comment r.third s.third ∷ [])
 
+-- how often the rule was decided, and a stop
+abbrev pub facts : Need → Judged → Text
+facts need j = joined (how_often need j ∷ stop_comment j.end ∷ [])
+
 -- The point of a rule at a trace.
 unfoldable pub point : (strict : Bool) → Of → (number : ℕ) → Rule → Judged → Text
 point strict of number r j =
-    joined (head (is_well strict j) number r of ∷ tail strict of.trace.now j.verdict j.decided ∷ how_often r.need j ∷ comment r.first j.sights.first
+    joined (head (is_well strict j) number r of ∷ tail strict of.trace.now j.verdict j.decided (is_stopped j.end) ∷ facts r.need j ∷ comment r.first j.sights.first
     ∷ may_comment r.second j.sights.second ∷ may_comment r.third j.sights.third ∷ [])
 
 -- The points of all rules at a trace, numbered after those before.

@@ -1,8 +1,10 @@
 -- The report of rules at traces as JUnit XML: a suite for each trace, a case for each rule (docs/FORMATS.md, "The report (JUnit)"; this project's own).
 use Rattle.std.specs.Prelude.{ℕ, ◌+◌, Bool, true, false, not, ◌&&◌, ◌||◌, ◌==◌, if◌then◌else◌, nat_le, nat_lt, List, [], ◌∷◌, ◌++◌, length, count_by, codes, decimal}
-use Rattle.fb_expect.specs.Reports.{is_well, joined, message_of}
+use Rattle.fb_expect.specs.Reports.{is_stopped, is_well, joined, message_of, stop_words}
 use Rattle.fb_expect.specs.Shown.{shown}
 use Rattle.fb_expect.specs.Words.{Text}
+use Rattle.fb_expect.specs.declared.ending.End.{End}
+use Rattle.fb_expect.specs.declared.ending.End.TheVariants.{Horizon, Stop, Cut}
 use Rattle.fb_expect.specs.declared.judging.Judged.{Judged}
 use Rattle.fb_expect.specs.declared.rule.Rule.{Rule}
 use Rattle.fb_expect.specs.declared.verdict.Breach.{Breach}
@@ -44,16 +46,36 @@ failed_at b =
 abbrev pub or_skipped : (strict : Bool) → (why : Text) → Text
 or_skipped strict why = if strict then failed why else skipped why
 
-abbrev pub inside_of : (strict : Bool) → Verdict → (decided : ℕ) → Text
-inside_of strict Holds decided = if decided == 0 then or_skipped strict (codes "never applied") else []
-inside_of strict Undecided decided = or_skipped strict (codes "undecided")
-inside_of strict (Broken b) decided = failed_at b
+-- of a rule that holds
+abbrev pub held_inside : (strict is_applied stopped : Bool) → Text
+held_inside true true true = failed (codes "stopped")
+held_inside true true false = []
+held_inside false true stopped = []
+held_inside strict false stopped = or_skipped strict (codes "never applied")
+
+abbrev pub inside_of : (strict : Bool) → Verdict → (decided : ℕ) → (stopped : Bool) → Text
+inside_of strict Holds decided stopped = held_inside strict (not (decided == 0)) stopped
+inside_of strict Undecided decided stopped = or_skipped strict (codes "undecided")
+inside_of strict (Broken b) decided stopped = failed_at b
+
+-- what is said of a stop
+abbrev pub stop_output : End → Text
+stop_output (Horizon h) = []
+stop_output (Stop t) = joined (codes "<system-out>" ∷ stop_words t ∷ codes "</system-out>" ∷ [])
+stop_output (Cut t) = []
+
+-- what a case has inside
+unfoldable pub case_inside : (strict : Bool) → Judged → Text
+case_inside strict j = joined (inside_of strict j.verdict j.decided (is_stopped j.end) ∷ stop_output j.end ∷ [])
+
+-- what a case begins with
+unfoldable pub case_front : (trace : Text) → Rule → (decided : ℕ) → Text
+case_front trace r n =
+    joined (codes "<testcase classname=\"" ∷ xml trace ∷ codes "\" name=\"" ∷ xml r.name ∷ codes "\" assertions=\"" ∷ decimal n ∷ codes "\">" ∷ [])
 
 -- The case of a rule at a trace. Its assertions are how often the rule was decided.
 unfoldable pub case_of : (strict : Bool) → (trace : Text) → Rule → Judged → Text
-case_of strict trace r j =
-    joined (codes "<testcase classname=\"" ∷ xml trace ∷ codes "\" name=\"" ∷ xml r.name ∷ codes "\" assertions=\"" ∷ decimal j.decided ∷ codes "\">"
-    ∷ inside_of strict j.verdict j.decided ∷ codes "</testcase>\n" ∷ [])
+case_of strict trace r j = joined (case_front trace r j.decided ∷ case_inside strict j ∷ codes "</testcase>\n" ∷ [])
 
 abbrev pub cases_of : (strict : Bool) → (trace : Text) → List Rule → List Judged → Text
 cases_of strict trace [] js = []

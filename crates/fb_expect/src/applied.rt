@@ -9,7 +9,7 @@ ghost use Rattle.fb_expect.specs.declared.rule.Rule.{Rule};
 use crate::judging::Judged;
 use crate::junit::{put_suite_head, xml};
 use crate::rule::Rule;
-use crate::tap::{digits_of, escape, first_word, is_last_open, join, point_count, put_all};
+use crate::tap::{digits_of, escape, first_word, join, point_count, put_all};
 use std::alloc::{AllocError, Global};
 
 /// In how many traces each rule applied, before the first trace.
@@ -18,17 +18,6 @@ pub fn no_counts(alloc: Global, rules: &[Rule]) -> Result<Vec<usize>, AllocError
 {
     let counts = vec![in alloc; 0; rules.len()]?;
     Ok(counts)
-}
-
-/// Whether a rule applied in a trace: it was decided at least once. If its last P waits, one P is not enough.
-fn applies(rule: &Rule, judged: &Judged) -> bool
-    ensures { result ≡ spec.applies rule.now judged.now }
-{
-    if is_last_open(rule.need, judged.verdict) {
-        judged.decided > 1
-    } else {
-        judged.decided != 0
-    }
 }
 
 /// One more, if a rule applied.
@@ -47,8 +36,7 @@ fn count_all(counts: &mut [usize], rules: &[Rule], judged: &[Judged])
     ensures { (all : List (List Judged)) → length all + 1 < 2 ^ 64 → length judged.now ≡ length rules.now → counts.old ≡ spec.counts_of rules.now all → counts.new ≡ spec.counts_of rules.now (all ++ judged.now ∷ []) }
 {
     for index in 0..counts.len().min(rules.len()).min(judged.len()) {
-        let is_applied = applies(&rules[index], &judged[index]);
-        counts[index] = count_on(counts[index], is_applied);
+        counts[index] = count_on(counts[index], judged[index].is_applied);
     }
 }
 

@@ -3,7 +3,7 @@
 ghost use Rattle.std.specs.Prelude.{◌≡◌, ◌+◌, ◌^◌, ◌<◌, ◌≤◌, List, [], IfErr, IfNone, IfOk, IfSome, OnOk, IsTrue, Some, length, true};
 ghost use Rattle.std.specs.Io.KnownBytes.{IsAtEnd};
 ghost use Rattle.fb_expect.specs.Events.{Event, IsLine, event_of};
-ghost use Rattle.fb_expect.specs.Judging.{AllFollow, AllMove, AreJudged, Concludes, Follows, IsEndRefusal, IsFollowed, IsFormOf, IsJudged, IsRefusal, Judges, KnowsState, Moves, StateOn, rules_of};
+ghost use Rattle.fb_expect.specs.Judging.{AllFollow, AllMove, Applies, AreJudged, Concludes, Follows, IsEndRefusal, IsFollowed, IsFormOf, IsJudged, IsRefusal, Judges, KnowsState, Moves, StateOn, rules_of};
 ghost use Rattle.fb_expect.specs.Hits.{hit_of};
 ghost use Rattle.fb_expect.specs.Lines.{IsOneLine};
 ghost use Rattle.fb_expect.specs.Paired.{PairsOn, pair_hit_of, within_of};
@@ -20,10 +20,11 @@ use crate::lines::{is_over, next_line};
 use crate::pairs::{PairLine, Pairs};
 use crate::port_set::{PortSet, ports_of};
 use crate::rule::{Need, Rule};
+use crate::settled::{first_after, is_applied};
 use crate::sight::{Sights, begin_sights, see_line};
 use crate::tally::{Tally, begin_tally, count_line, decided_by};
 use crate::verdict::{Verdict, verdict_of};
-use crate::watch::{Watch, begin, step};
+use crate::watch::{Mark, Watch, begin, step};
 use fb_types::Form;
 use std::alloc::{AllocError, Global};
 use std::io::BufRead;
@@ -42,6 +43,8 @@ pub struct Watcher<'a> {
     rule: &'a Rule,
     state: State,
     tally: Tally,
+    /// The first P.
+    first: Option<Mark>,
     sights: Sights,
     /// The ports whose lines matter to the rule.
     ports: PortSet,
@@ -53,6 +56,7 @@ impl Drop for Watcher<'_> {
             rule: _,
             state: _,
             tally: _,
+            first: _,
             sights: _,
             ports: _,
         } = self;
@@ -63,11 +67,15 @@ impl Drop for Watcher<'_> {
 #[derive(Clone, Copy)]
 pub struct Judged {
     pub verdict: Verdict,
-    /// How often the rule was decided: at each P of a rule `after` or `before`, at each line in a stretch, and at the
-    /// end of each window.
+    /// How often the rule was decided: at each P of a rule `after` or `before`, also if it waits at the end, at each line
+    /// in a stretch, and at the end of each window.
     pub decided: u64,
+    /// Whether it was decided at least once. P's that wait at the end of the trace are not decided.
+    pub is_applied: bool,
     /// What the trace has of its patterns.
     pub sights: Sights,
+    /// How the trace ends.
+    pub end: End,
 }
 
 /// Whether a trace may be cut off: end without a last line, or within a line, which then does not count.
@@ -108,6 +116,7 @@ fn begun<'a>(alloc: Global, rules: &'a [Rule]) -> Result<Vec<Watcher<'a>>, Alloc
             rule,
             state: state_of(alloc, rule),
             tally: begin_tally(rule.need),
+            first: None,
             sights: begin_sights(rule),
             ports: ports_of(rule),
         });
@@ -202,6 +211,7 @@ fn take_line_for_rule(
     let hit = hit_of(rule, entry);
     state_on(alloc, rule, &mut watcher.state, number, hit, entry)?;
     watcher.tally = count_line(watcher.tally, number, hit);
+    watcher.first = first_after(watcher.first, number, hit);
     watcher.sights = see_line(rule, watcher.sights, hit, entry);
     Ok(())
 }
@@ -232,15 +242,29 @@ fn verdict_at(rule: &Rule, state: &State, number: u64, end: End) -> Verdict
     }
 }
 
+/// Whether a rule was decided at least once, which was decided so often or has so many P's.
+fn has_applied(watcher: &Watcher<'_>, often: u64, end: End) -> bool
+    ensures { Applies watcher.now often end result }
+{
+    let need = watcher.rule.need;
+    match &watcher.state {
+        State::Alone(watch) => is_applied(need, *watch, watcher.first, often, end),
+        State::Paired(pairs) => pairs.is_applied(need, often, end),
+    }
+}
+
 /// The result of a rule.
 fn conclude_one(watcher: &Watcher<'_>, number: u64, end: End) -> Judged
     ensures { (es : List Event) → number ≡ length es + 1 → AreBelow es (tick_of end) → Follows es watcher.now → IsJudged es end watcher.now.rule.now result }
 {
     let rule = watcher.rule;
+    let decided = decided_by(rule.need, watcher.tally, number, end);
     Judged {
         verdict: verdict_at(rule, &watcher.state, number, end),
-        decided: decided_by(rule.need, watcher.tally, number, end),
+        decided,
+        is_applied: has_applied(watcher, decided, end),
         sights: watcher.sights,
+        end,
     }
 }
 

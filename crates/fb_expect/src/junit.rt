@@ -1,12 +1,14 @@
 //! Reports as JUnit XML: a suite for each trace, and a case in it for each rule.
 
-ghost use Rattle.std.specs.Prelude.{◌≡◌, ◌++◌, IfOk, OnOk};
+ghost use Rattle.std.specs.Prelude.{◌≡◌, ◌++◌, IfOk, OnOk, true};
+ghost use Rattle.fb_expect.specs.Reports.{is_stopped};
 ghost use Rattle.fb_expect.specs.Suites as spec;
 
+use crate::ending::End;
 use crate::judging::Judged;
 use crate::rule::Rule;
 use crate::shown::shown;
-use crate::tap::{digits_of, is_well, join, message_of, put_all};
+use crate::tap::{digits_of, is_stopped, is_well, join, message_of, put_all, stop_words};
 use crate::verdict::{Breach, Verdict};
 use std::alloc::{AllocError, Global};
 
@@ -87,9 +89,39 @@ fn or_skipped(alloc: Global, is_strict: bool, why: &[u8]) -> Result<Vec<u8>, All
     }
 }
 
-/// What a case has inside.
+/// What a case has inside of a rule that holds and was decided.
+fn applied_inside(alloc: Global, is_strict: bool, is_stopped: bool) -> Result<Vec<u8>, AllocError>
+    ensures { IfOk result (λ t. t.items ≡ spec.held_inside is_strict true is_stopped) }
+{
+    if !is_strict {
+        return Ok(Vec::new(alloc));
+    }
+    if is_stopped {
+        join(alloc, &[b"<failure message=\"", b"stopped", b"\"/>"])
+    } else {
+        Ok(Vec::new(alloc))
+    }
+}
+
+/// What is said of a stop, if a trace ends with one.
+fn stop_output(alloc: Global, end: End) -> Result<Vec<u8>, AllocError>
+    ensures { IfOk result (λ t. t.items ≡ spec.stop_output end) }
+{
+    match end {
+        End::Stop(tick) => {
+            let words = stop_words(alloc, tick)?;
+            join(
+                alloc,
+                &[b"<system-out>", words.as_slice(), b"</system-out>"],
+            )
+        }
+        End::Horizon(_) | End::Cut(_) => Ok(Vec::new(alloc)),
+    }
+}
+
+/// How the rule of a case failed or was skipped.
 fn inside_of(alloc: Global, is_strict: bool, judged: &Judged) -> Result<Vec<u8>, AllocError>
-    ensures { IfOk result (λ t. t.items ≡ spec.inside_of is_strict judged.now.verdict judged.now.decided) }
+    ensures { IfOk result (λ t. t.items ≡ spec.inside_of is_strict judged.now.verdict judged.now.decided (is_stopped judged.now.end)) }
 {
     match judged.verdict {
         Verdict::Broken(breach) => failed_at(alloc, breach),
@@ -98,13 +130,45 @@ fn inside_of(alloc: Global, is_strict: bool, judged: &Judged) -> Result<Vec<u8>,
             if judged.decided == 0 {
                 or_skipped(alloc, is_strict, b"never applied")
             } else {
-                Ok(Vec::new(alloc))
+                applied_inside(alloc, is_strict, is_stopped(judged.end))
             }
         }
     }
 }
 
-/// Appends the case of a rule at a trace, whose name is a value in quotes.
+/// What a case has inside: how the rule failed or was skipped, and a stop that ends the trace.
+#[tactic(auto, unfolding(crate::specs::Suites::case_inside))]
+fn case_inside(alloc: Global, is_strict: bool, judged: &Judged) -> Result<Vec<u8>, AllocError>
+    ensures { IfOk result (λ t. t.items ≡ spec.case_inside is_strict judged.now) }
+{
+    let inside = inside_of(alloc, is_strict, judged)?;
+    let output = stop_output(alloc, judged.end)?;
+    join(alloc, &[inside.as_slice(), output.as_slice()])
+}
+
+/// What the case of a rule at a trace begins with, whose names are values in quotes.
+#[tactic(auto, unfolding(crate::specs::Suites::case_front))]
+fn case_front(alloc: Global, trace: &str, rule: &Rule, decided: u64) -> Result<Vec<u8>, AllocError>
+    ensures { IfOk result (λ t. t.items ≡ spec.case_front trace.now rule.now decided) }
+{
+    let trace = xml(alloc, trace.as_bytes())?;
+    let name = xml(alloc, rule.name.as_slice())?;
+    let often = digits_of(alloc, u128::from(decided))?;
+    join(
+        alloc,
+        &[
+            b"<testcase classname=\"",
+            trace.as_slice(),
+            b"\" name=\"",
+            name.as_slice(),
+            b"\" assertions=\"",
+            often.as_bytes(),
+            b"\">",
+        ],
+    )
+}
+
+/// Appends the case of a rule at a trace.
 #[tactic(auto, unfolding(crate::specs::Suites::case_of))]
 fn put_case(
     alloc: Global,
@@ -116,23 +180,11 @@ fn put_case(
 ) -> Result<(), AllocError>
     ensures { OnOk result (text.new.items ≡ text.old.items ++ spec.case_of is_strict trace.now rule.now judged.now) }
 {
-    let trace = xml(alloc, trace.as_bytes())?;
-    let name = xml(alloc, rule.name.as_slice())?;
-    let often = digits_of(alloc, u128::from(judged.decided))?;
-    let inside = inside_of(alloc, is_strict, judged)?;
+    let front = case_front(alloc, trace, rule, judged.decided)?;
+    let inside = case_inside(alloc, is_strict, judged)?;
     put_all(
         text,
-        &[
-            b"<testcase classname=\"",
-            trace.as_slice(),
-            b"\" name=\"",
-            name.as_slice(),
-            b"\" assertions=\"",
-            often.as_bytes(),
-            b"\">",
-            inside.as_slice(),
-            b"</testcase>\n",
-        ],
+        &[front.as_slice(), inside.as_slice(), b"</testcase>\n"],
     )
 }
 

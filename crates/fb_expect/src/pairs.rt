@@ -4,13 +4,13 @@
 
 ghost use Rattle.std.specs.Prelude.{◌≡◌, ◌++◌, ◌∷◌, ℕ, [], MatchOption, OnOk, false, true};
 ghost use Rattle.fb_expect.specs.Paired as spec;
-ghost use Rattle.fb_expect.specs.Paired.{KnowsPairs, PairsEnd, PairsOn};
+ghost use Rattle.fb_expect.specs.Paired.{KnowsPairs, PairsApply, PairsEnd, PairsOn, PairsSettle};
 ghost use Rattle.fb_expect.specs.declared.rule.Pairing.{Pairing as PairingModel};
 
 use crate::alike::are_same;
 use crate::ending::End;
 use crate::hit::Hit;
-use crate::rule::Pairing;
+use crate::rule::{Need, Pairing};
 use crate::verdict::{Breach, Fault, Verdict};
 use crate::watch::{Mark, is_past};
 use fb_types::Items;
@@ -189,6 +189,31 @@ impl Pairs {
                 Ok(())
             }
             None => self.pair(alloc, pairing, taken),
+        }
+    }
+
+    /// Whether some P is decided at the end of the trace: one that waits no more, or too long. There are `often` P's.
+    fn settles(&self, within: u64, often: u64, end: End) -> bool
+        ensures { (p : PairingModel) → PairsSettle within p self.now end often result }
+    {
+        if self.late.is_some() {
+            return true;
+        }
+        if overdue(self.waiting.as_slice(), within, end.tick()).is_some() {
+            return true;
+        }
+        (self.waiting.len() as u64) < often
+    }
+
+    /// Whether the rule was decided at least once. `often` is the count of P.
+    pub(crate) fn is_applied(&self, need: Need, often: u64, end: End) -> bool
+        ensures { (p : PairingModel) → PairsApply need p self.now end often result }
+    {
+        match need {
+            Need::See { within } => self.settles(within, often, end),
+            Need::Not { .. } | Need::Before { .. } | Need::Never { .. } | Need::Count { .. } => {
+                often != 0
+            }
         }
     }
 

@@ -1,8 +1,9 @@
 //! Reports in the form of the Test Anything Protocol, version 14.
 
-ghost use Rattle.std.specs.Prelude.{◌≡◌, ◌+◌, ◌*◌, ◌^◌, ◌<◌, ◌++◌, IfOk, OnOk, decimal, length, map, option_map, string_bytes};
+ghost use Rattle.std.specs.Prelude.{◌≡◌, ◌+◌, ◌*◌, ◌^◌, ◌<◌, ◌++◌, IfOk, OnOk, decimal, length, map, option_map, string_bytes, true};
 ghost use Rattle.fb_expect.specs.Reports as spec;
 
+use crate::ending::End;
 use crate::judging::Judged;
 use crate::pattern::Pattern;
 use crate::rule::{Need, Rule};
@@ -205,17 +206,65 @@ fn never_block(alloc: Global, trace: &str) -> Result<Vec<u8>, AllocError>
     )
 }
 
+/// The block of a rule that has to hold up to the horizon, which the trace does not reach.
+#[tactic(auto, unfolding(crate::specs::Reports::stopped_block))]
+fn stopped_block(alloc: Global, trace: &str) -> Result<Vec<u8>, AllocError>
+    ensures { IfOk result (λ t. t.items ≡ spec.stopped_block trace.now) }
+{
+    let message = quoted_line(
+        alloc,
+        b"message",
+        b"stopped: the rule holds up to the stop that ends the trace",
+    )?;
+    let trace = quoted_line(alloc, b"trace", trace.as_bytes())?;
+    join(
+        alloc,
+        &[b"  ---\n", message.as_slice(), trace.as_slice(), b"  ...\n"],
+    )
+}
+
+/// Whether a trace ends with a stop.
+pub(crate) fn is_stopped(end: End) -> bool
+    ensures { result ≡ spec.is_stopped end }
+{
+    match end {
+        End::Stop(_) => true,
+        End::Horizon(_) | End::Cut(_) => false,
+    }
+}
+
+/// The end of the line of a rule that holds and was decided, and the block after it.
+fn tail_of_applied(
+    alloc: Global,
+    is_strict: bool,
+    is_stopped: bool,
+    trace: &str,
+) -> Result<Vec<u8>, AllocError>
+    ensures { IfOk result (λ t. t.items ≡ spec.tail_of_held is_strict true is_stopped trace.now) }
+{
+    if !is_strict {
+        return join(alloc, &[b"\n"]);
+    }
+    if is_stopped {
+        let block = stopped_block(alloc, trace)?;
+        join(alloc, &[b"\n", block.as_slice()])
+    } else {
+        join(alloc, &[b"\n"])
+    }
+}
+
 /// The end of the line of a rule that holds, and the block after it.
 fn tail_of_held(
     alloc: Global,
     is_strict: bool,
     is_applied: bool,
+    is_stopped: bool,
     trace: &str,
 ) -> Result<Vec<u8>, AllocError>
-    ensures { IfOk result (λ t. t.items ≡ spec.tail_of_held is_strict is_applied trace.now) }
+    ensures { IfOk result (λ t. t.items ≡ spec.tail_of_held is_strict is_applied is_stopped trace.now) }
 {
     if is_applied {
-        return join(alloc, &[b"\n"]);
+        return tail_of_applied(alloc, is_strict, is_stopped, trace);
     }
     if is_strict {
         let block = never_block(alloc, trace)?;
@@ -227,10 +276,13 @@ fn tail_of_held(
 
 /// The end of a point's line, and the block after it.
 fn tail(alloc: Global, is_strict: bool, trace: &str, judged: &Judged) -> Result<Vec<u8>, AllocError>
-    ensures { IfOk result (λ t. t.items ≡ spec.tail is_strict trace.now judged.now.verdict judged.now.decided) }
+    ensures { IfOk result (λ t. t.items ≡ spec.tail is_strict trace.now judged.now.verdict judged.now.decided (spec.is_stopped judged.now.end)) }
 {
     match judged.verdict {
-        Verdict::Holds => tail_of_held(alloc, is_strict, judged.decided != 0, trace),
+        Verdict::Holds => {
+            let is_applied = judged.decided != 0;
+            tail_of_held(alloc, is_strict, is_applied, is_stopped(judged.end), trace)
+        }
         Verdict::Broken(breach) => {
             let block = breach_block(alloc, trace, breach)?;
             join(alloc, &[b"\n", block.as_slice()])
@@ -261,7 +313,7 @@ fn can_wait(need: Need) -> bool
 }
 
 /// Whether the last P is not decided.
-pub(crate) fn is_last_open(need: Need, verdict: Verdict) -> bool
+fn is_last_open(need: Need, verdict: Verdict) -> bool
     ensures { result ≡ spec.is_last_open need verdict }
 {
     match verdict {
@@ -270,30 +322,69 @@ pub(crate) fn is_last_open(need: Need, verdict: Verdict) -> bool
     }
 }
 
-/// Appends how often a rule was decided.
-fn put_how_often(
+/// What is said of P's that are left undecided: they are the last ones, or all.
+fn what_is_open(is_applied: bool) -> &'static [u8]
+    ensures { result.now ≡ spec.what_is_open is_applied }
+{
+    if is_applied {
+        b", the last is undecided\n"
+    } else {
+        b", none is decided\n"
+    }
+}
+
+/// How often a rule was decided.
+fn how_often(alloc: Global, need: Need, judged: &Judged) -> Result<Vec<u8>, AllocError>
+    ensures { IfOk result (λ t. t.items ≡ spec.how_often need judged.now) }
+{
+    let digits = digits_of(alloc, u128::from(judged.decided))?;
+    let digits = digits.as_bytes();
+    let times = times(judged.decided);
+    if is_last_open(need, judged.verdict) {
+        let open = what_is_open(judged.is_applied);
+        join(alloc, &[b"# applied ", digits, times, open])
+    } else {
+        join(alloc, &[b"# decided ", digits, times, b"\n"])
+    }
+}
+
+/// What is said of a stop in this tick.
+#[tactic(auto, unfolding(crate::specs::Reports::stop_words))]
+pub(crate) fn stop_words(alloc: Global, tick: u64) -> Result<Vec<u8>, AllocError>
+    ensures { IfOk result (λ t. t.items ≡ spec.stop_words tick) }
+{
+    let digits = digits_of(alloc, u128::from(tick))?;
+    join(
+        alloc,
+        &[b"the trace ended in a stop at tick ", digits.as_bytes()],
+    )
+}
+
+/// The comment on a stop, if a trace ends with one.
+fn stop_comment(alloc: Global, end: End) -> Result<Vec<u8>, AllocError>
+    ensures { IfOk result (λ t. t.items ≡ spec.stop_comment end) }
+{
+    match end {
+        End::Stop(tick) => {
+            let words = stop_words(alloc, tick)?;
+            join(alloc, &[b"# ", words.as_slice(), b"\n"])
+        }
+        End::Horizon(_) | End::Cut(_) => Ok(Vec::new(alloc)),
+    }
+}
+
+/// Appends how often a rule was decided, and a stop that ends the trace.
+fn put_facts(
     alloc: Global,
     text: &mut Vec<u8>,
     need: Need,
     judged: &Judged,
 ) -> Result<(), AllocError>
-    ensures { OnOk result (text.new.items ≡ text.old.items ++ spec.how_often need judged.now) }
+    ensures { OnOk result (text.new.items ≡ text.old.items ++ spec.facts need judged.now) }
 {
-    let digits = digits_of(alloc, u128::from(judged.decided))?;
-    let times = times(judged.decided);
-    if is_last_open(need, judged.verdict) {
-        put_all(
-            text,
-            &[
-                b"# applied ",
-                digits.as_bytes(),
-                times,
-                b", the last is undecided\n",
-            ],
-        )
-    } else {
-        put_all(text, &[b"# decided ", digits.as_bytes(), times, b"\n"])
-    }
+    let often = how_often(alloc, need, judged)?;
+    let stop = stop_comment(alloc, judged.end)?;
+    put_all(text, &[often.as_slice(), stop.as_slice()])
 }
 
 /// The words for what a trace does not have of a pattern.
@@ -354,7 +445,7 @@ pub(crate) fn is_well(is_strict: bool, judged: &Judged) -> bool
     ensures { result ≡ spec.is_well is_strict judged.now }
 {
     match judged.verdict {
-        Verdict::Holds => !(is_strict && judged.decided == 0),
+        Verdict::Holds => !(is_strict && (judged.decided == 0 || is_stopped(judged.end))),
         Verdict::Undecided => !is_strict,
         Verdict::Broken(_) => false,
     }
@@ -387,7 +478,7 @@ fn put_point(
     let head = head(alloc, is_well(is_strict, judged), number, rule, of)?;
     let tail = tail(alloc, is_strict, of.trace, judged)?;
     put_all(text, &[head.as_slice(), tail.as_slice()])?;
-    put_how_often(alloc, text, rule.need, judged).and(put_comments(text, rule, judged.sights))
+    put_facts(alloc, text, rule.need, judged).and(put_comments(text, rule, judged.sights))
 }
 
 /// The count of points of this many rules at this many traces.

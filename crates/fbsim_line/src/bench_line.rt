@@ -73,7 +73,7 @@ const DEPLOY_HELP: &str =
     "The file with the deployment of the declaration, in TOML, at most 1 MiB; without it one resource MAIN has every instance.";
 
 const STRICT_HELP: &str =
-    "Counts a rule that a trace leaves undecided, or to which it never applied, as broken.";
+    "Counts a rule that a trace leaves undecided, or that a stop cuts short, or that never applied, as broken.";
 
 const APPLIED_HELP: &str =
     "Reports for each rule in how many of the traces it applied, and counts one that applied in none as broken.";

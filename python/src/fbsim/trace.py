@@ -34,7 +34,7 @@ if TYPE_CHECKING:
 POINT = re.compile(
     r"^(not )?ok \d+ - (.*?)(?: # SKIP (undecided|never applied))?\n"
     r'(?:  ---\n  message: "(.*)"\n  trace: .*\n(?:  line: (\d+)\n  tick: (\d+)\n)?  \.\.\.\n)?'
-    r"# (decided|applied) (\d+) times?(?:, .*)?\n"
+    r"# (?:decided|applied) (\d+) times?(, none is decided)?(?:, .*)?\n"
     r"((?:# .*\n)*)", re.MULTILINE
 )
 
@@ -346,7 +346,7 @@ class Trace(Lines):
     def expect(self, rules: str | os.PathLike[str], strict: bool = False) -> Report:
         """Checks the rules of a file by `fbsim expect`, and raises `RulesBroken` if one does not hold.
 
-        With `strict`, a rule that is undecided or never applied counts as broken.
+        With `strict`, a rule that is undecided or never applied counts as broken, and any of a trace that ends with a stop.
         """
         report = check_rules(self, rules, strict)
         if report.broken:
@@ -382,7 +382,7 @@ class Verdict(NamedTuple):
     """What a rule comes to: kept, broken, undecided or never applied. A broken one has a message and its line.
 
     `decided` is how often the rule was decided, or applied if it is undecided. `applied` is whether it was decided at
-    least once. `notes` says which patterns no line of the trace meets.
+    least once. `notes` says which patterns no line of the trace meets, and whether the trace ends with a stop.
     """
 
     rule: str
@@ -436,9 +436,8 @@ def read_report(text: str, trace: Trace, status: int, number_of_rules: int | Non
         line_number, tick = (int(it[k]) if it[k] else None for k in (5, 6))
         verdict, rule = "broken" if it[1] else it[3] or "kept", re.sub(r"\\([\\#])", r"\1", it[2])
         notes, line = tuple(note[2:] for note in it[9].splitlines()), wanted.get(line_number or 0, "")
-        # (of a rule that is undecided at the end, as the program then says, the last time is)
-        applied = verdict == "broken" or int(it[8]) > (it[7] == "applied")
-        verdicts.append(Verdict(rule, verdict, it[4] or "", line_number, tick, line, notes, int(it[8]), applied))
+        decided, applied = int(it[7]), int(it[7]) > 0 and not it[8]
+        verdicts.append(Verdict(rule, verdict, it[4] or "", line_number, tick, line, notes, decided, applied))
     return Report(tuple(verdicts))
 
 

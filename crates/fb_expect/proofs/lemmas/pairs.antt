@@ -1,2 +1,3 @@
 pub mod AnsweredLines
 pub mod Coupled
+pub mod PairsSettled

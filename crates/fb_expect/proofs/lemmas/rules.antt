@@ -7,6 +7,7 @@ pub mod Counts
 pub mod Stepping
 pub mod Concluding
 pub mod Verdicts
+pub mod Settling
 pub mod Following
 pub mod Idle
 pub mod AppliedCounts

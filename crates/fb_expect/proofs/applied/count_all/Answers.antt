@@ -1,5 +1,5 @@
 use Rattle.std.proofs.Common.{◌∙◌, length-set}
-use Rattle.fb_expect.proofs.lemmas.Common.{arith}
+use Rattle.fb_expect.proofs.lemmas.Common.{arith, refl}
 use Rattle.fb_expect.proofs.lemmas.rules.AppliedCounts.{counted, one-done, rest-left}
 use Rattle.fb_expect.proofs.applied.count_all.Goals as goal
 
@@ -11,8 +11,7 @@ loop-index-preserved c =
     record {
       same = length-set l.counts l.index c.count_on.result ∙ l.invariant.same;
       done =
-          one-done rs js c.args.counts.now l.counts l.index c.index-rules-index.result _ c.applies-is_applied.result c.count_on.result
-          (omega (arith, c.loop-index-test.true, c.min-index-end.ensures)) c.index-rules-index.is c.applies-is_applied.ensures c.count_on.ensures l.invariant.same l.invariant.done l.invariant.rest;
+          one-done rs js c.args.counts.now l.counts l.index _ _ c.count_on.result (omega (arith, c.loop-index-test.true, c.min-index-end.ensures)) refl c.count_on.ensures l.invariant.same l.invariant.done l.invariant.rest;
       rest = rest-left c.args.counts.now l.counts l.index c.count_on.result l.invariant.rest;
     }
 

@@ -1,6 +1,12 @@
-use Rattle.fb_expect.proofs.lemmas.Common.{[], length, ap, ◌∙◌, arith, take_all, rules_of}
+use Rattle.fb_expect.proofs.lemmas.Common.{ℕ, zero, suc, [], length, ap, sym, ◌∙◌, arith, take_all, true≢false, rules_of}
+use Rattle.fb_expect.specs.Hits.{IsFirst}
 use Rattle.fb_expect.proofs.lemmas.rules.Following.{all-one, begun-one}
 use Rattle.fb_expect.proofs.judging.begun.Goals as goal
+
+-- no line is a P before the first line
+none-first : (i : ℕ) → IsFirst [] i → ⊥
+none-first zero is = absurd (true≢false (sym is))
+none-first (suc i) is = absurd (true≢false (sym is))
 
 pub loop-rule-init : goal.loop-rule-init
 loop-rule-init c =
@@ -25,7 +31,7 @@ loop-rule-preserved c =
     let one = c.push_reserved.ensures in
     record {
       rules = begun-one ws _ c.args.rules.now c.loop-rule.rule-index c.rule-item.result _ c.loop-rule-test.true c.rule-item.is inv.rules one.items;
-      follow = all-one [] ws _ _ one.items inv.follow (record { knows = c.state_of.ensures; counts = c.begin_tally.ensures; saw = c.begin_sights.ensures; covers = c.ports_of.ensures });
+      follow = all-one [] ws _ _ one.items inv.follow (record { knows = c.state_of.ensures; counts = c.begin_tally.ensures; first = λ i is. none-first i is; saw = c.begin_sights.ensures; covers = c.ports_of.ensures });
       len = omega (arith, inv.len, one.len);
       room = omega (arith, inv.room, one.capacity);
     }

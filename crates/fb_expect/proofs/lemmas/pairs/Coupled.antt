@@ -32,7 +32,7 @@ tick-new hs h = ap (λ (p : PairHit). p.tick) (get_or-append_seam hs h [] no_hit
 first-old : (hs : List PairHit) (h : PairHit) (i : ℕ) → i < length hs → (hit_at (hs ++ h ∷ []) i).first ≡ (hit_at hs i).first
 first-old hs h i lt = ap (λ (p : PairHit). p.first) (get_or_append_left hs (h ∷ []) no_hit i lt)
 
-inside : (hs : List PairHit) (i : ℕ) → (hit_at hs i).first ≡ true → i < length hs
+pub inside : (hs : List PairHit) (i : ℕ) → (hit_at hs i).first ≡ true → i < length hs
 inside hs i is =
     elim (cases_lt i (length hs)) as (λ _. i < length hs) [
       | inl lt ↦ lt
@@ -40,12 +40,12 @@ inside hs i is =
     ]
 
 -- a line that waits is a P, and none answers it
-none-answers : (p : Pairing) (hs : List PairHit) (i : ℕ) → waits p hs i ≡ true → (j : ℕ) → answers p hs i j ≡ true → ⊥
+pub none-answers : (p : Pairing) (hs : List PairHit) (i : ℕ) → waits p hs i ≡ true → (j : ℕ) → answers p hs i j ≡ true → ⊥
 none-answers p hs i wait j found =
     let off = not-on (some_below (answers p hs i) (length hs)) (and-parts (hit_at hs i).first (not (some_below (answers p hs i) (length hs))) wait).1 in
     never (answers p hs i j) found (below-none (answers p hs i) (length hs) j off (answers-inside p hs i j found))
 
-waits-first : (p : Pairing) (hs : List PairHit) (i : ℕ) → waits p hs i ≡ true → (hit_at hs i).first ≡ true
+pub waits-first : (p : Pairing) (hs : List PairHit) (i : ℕ) → waits p hs i ≡ true → (hit_at hs i).first ≡ true
 waits-first p hs i wait = (and-parts (hit_at hs i).first (not (some_below (answers p hs i) (length hs))) wait).0
 
 -- the first that is kept is the first that waits
@@ -63,7 +63,7 @@ after-head p hs w i wait r =
       | inr le ↦ le
     ]
 
-in-time-all :
+pub in-time-all :
     (within tick : ℕ) (p : Pairing) (hs : List PairHit) (ws : List Waiting) → KnowsWaiting within p hs ws → IsInTime within tick ws → (i : ℕ) → waits p hs i ≡ true
     → tick ≤ (hit_at hs i).tick + within
 in-time-all within tick p hs [] knows soon i wait =
@@ -254,7 +254,7 @@ on-late within line p old h is hs number below knows = by old.late is knows
     by (Some b) on known = late-kept within p hs h b below known
     by None on known = never false on refl
 
-waiting-of : (within : ℕ) (p : Pairing) (hs : List PairHit) (ws : List Waiting) (late : Option Breach) → is_some late ≡ false → KnowsBy within p hs ws late → KnowsWaiting within p hs ws
+pub waiting-of : (within : ℕ) (p : Pairing) (hs : List PairHit) (ws : List Waiting) (late : Option Breach) → is_some late ≡ false → KnowsBy within p hs ws late → KnowsWaiting within p hs ws
 waiting-of within p hs ws (Some b) off known = never true refl off
 waiting-of within p hs ws None off known = known
 

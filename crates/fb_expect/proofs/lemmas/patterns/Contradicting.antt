@@ -68,7 +68,7 @@ either test n = test (value.Whole (pos n)) || test (value.Whole (neg_ℤ (pos n)
 abbrev truths : (Value → Bool) → Bool
 truths test = test (value.Bool true) || test (value.Bool false)
 
-truth-passes : (test : Value → Bool) → truths test ≡ true → some_value test ≡ true
+pub truth-passes : (test : Value → Bool) → truths test ≡ true → some_value test ≡ true
 unfolding some_value
 truth-passes test is = or-left (truths test) (some_below (either test) magnitudes) is
 
@@ -86,7 +86,7 @@ none-passes : (test : Value → Bool) → truths test ≡ false → ((k : ℕ) �
 unfolding some_value
 none-passes test truth whole = or-none (truths test) (some_below (either test) magnitudes) truth (none-at (either test) magnitudes whole)
 
-nothing-passes : (test : Value → Bool) → truths test ≡ false → ((z : ℤ) → IsIn numbers z → test (value.Whole z) ≡ false) → some_value test ≡ false
+pub nothing-passes : (test : Value → Bool) → truths test ≡ false → ((z : ℤ) → IsIn numbers z → test (value.Whole z) ≡ false) → some_value test ≡ false
 nothing-passes test truth whole =
     none-passes test truth
     (λ k lt.

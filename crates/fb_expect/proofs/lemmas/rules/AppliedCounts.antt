@@ -8,7 +8,7 @@ use Rattle.std.proofs.lemmas.Grind.{get_or-set_at}
 use Rattle.std.proofs.lemmas.List.Folds.{list_all-map}
 use Rattle.std.proofs.lemmas.List.FromFn.{fill_by_all, get_or-map-range_with_len, length-map-range_with_len}
 use Rattle.std.proofs.lemmas.List.Sums.{count_by-le-length, sum_by-cons, sum_by_push}
-use Rattle.fb_expect.specs.Applied.{applies, applies_at, count_at, counts_of, have_applied, one_if}
+use Rattle.fb_expect.specs.Applied.{applies_at, count_at, counts_of, have_applied, one_if}
 
 one_by : (b : Bool) → ◌≡◌ {A = ℕ} (cond b 1 0) (one_if b)
 one_by true = refl
@@ -38,24 +38,24 @@ counted all rs js old new i room each is same end done =
 
 -- ---- Rule by rule
 
-mark-at : (rs : List Rule) (js : List Judged) (i : ℕ) (r : Rule) (d : Judged) → i < length rs → i < length js → r ≡ get_or rs i r → applies_at rs i js ≡ applies r (get_or js i d)
-mark-at [] js i r d lt lt' is = absurd (omega arith)
-mark-at (s ∷ rs) [] i r d lt lt' is = absurd (omega arith)
-mark-at (s ∷ rs) (j ∷ js) zero r d lt lt' is = ap (λ (x : Rule). applies x j) (sym is)
-mark-at (s ∷ rs) (j ∷ js) (suc i) r d lt lt' is = mark-at rs js i r d (omega (arith, lt)) (omega (arith, lt')) is
+mark-at : (rs : List Rule) (js : List Judged) (i : ℕ) (d : Judged) → i < length rs → i < length js → applies_at rs i js ≡ (get_or js i d).is_applied
+mark-at [] js i d lt lt' = absurd (omega arith)
+mark-at (s ∷ rs) [] i d lt lt' = absurd (omega arith)
+mark-at (s ∷ rs) (j ∷ js) zero d lt lt' = refl
+mark-at (s ∷ rs) (j ∷ js) (suc i) d lt lt' = mark-at rs js i d (omega (arith, lt)) (omega (arith, lt'))
 
 pub one-done :
-    (rs : List Rule) (js : List Judged) (old now : List ℕ) (i : ℕ) (r : Rule) (d : Judged) (b : Bool) (n : ℕ) → (i < length old) × (i < length rs) × (i < length js) → r ≡ get_or rs i r
-    → b ≡ applies r (get_or js i d) → (get_or now i 0 + 1 < 2 ^ 64 → n ≡ get_or now i 0 + one_if b) → length now ≡ length old
+    (rs : List Rule) (js : List Judged) (old now : List ℕ) (i : ℕ) (d : Judged) (b : Bool) (n : ℕ) → (i < length old) × (i < length rs) × (i < length js)
+    → b ≡ (get_or js i d).is_applied → (get_or now i 0 + 1 < 2 ^ 64 → n ≡ get_or now i 0 + one_if b) → length now ≡ length old
     → ((k : ℕ) → k < i → get_or old k 0 + 1 < 2 ^ 64 → get_or now k 0 ≡ get_or old k 0 + one_if (applies_at rs k js)) → ((k : ℕ) → i ≤ k → get_or now k 0 ≡ get_or old k 0)
     → (k : ℕ) → k < i + 1 → get_or old k 0 + 1 < 2 ^ 64 → get_or (set now i n) k 0 ≡ get_or old k 0 + one_if (applies_at rs k js)
-one-done rs js old now i r d b n lt is is-b is-n same done rest k below room =
+one-done rs js old now i d b n lt is-b is-n same done rest k below room =
     elim (cases_lt k i) [
       | inl less ↦ (let other : k ≢ i = omega (arith, less) in get_or-set_other now i k n 0 other ∙ done k less room)
       | inr le ↦
           (let here : k ≡ i = omega (arith, le, below) in
           let kept = rest k le in
-          let one = mark-at rs js i r d lt.1 lt.2 is in
+          let one = mark-at rs js i d lt.1 lt.2 in
           get_or-set_at now i k n 0 here (omega (arith, same, lt.0))
           ∙ is-n (subst (λ (m : ℕ). get_or now m 0 + 1 < 2 ^ 64) here (omega (arith, kept, room)))
           ∙ ap₂ (λ (m : ℕ) (c : Bool). m + one_if c) (ap (λ (m : ℕ). get_or now m 0) (sym here) ∙ kept)

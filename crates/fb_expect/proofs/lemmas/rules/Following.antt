@@ -1,16 +1,19 @@
 -- Rules along the events of a trace.
-use Rattle.fb_expect.proofs.lemmas.Common.{◌≡◌, ℕ, suc, zero, ◌+◌, ◌<◌, ◌≤◌, List, [], ◌∷◌, ◌++◌, length, get_or, take, Result, Ok, Err, refl, sym, ap, subst, ◌∙◌, arith, inl, inr, OnOk, Option, Some, None, length-map, map-append, Event, AllFollow, AreJudged, rules_of, AreBelow, tick_of, IsBelow, Steps, Concludes as WatchConcludes, End, Hit, Judged, Watcher, Pairing, Rule, Watch}
+use Rattle.fb_expect.proofs.lemmas.Common.{◌≡◌, ℕ, suc, zero, ◌+◌, ◌<◌, ◌≤◌, Bool, cond, List, [], ◌∷◌, ◌++◌, length, get_or, take, Result, Ok, Err, refl, sym, ap, subst, ◌∙◌, arith, inl, inr, OnOk, Option, Some, None, length-map, map-append, Event, AllFollow, AreJudged, rules_of, AreBelow, tick_of, IsBelow, Steps, Concludes as WatchConcludes, End, Hit, Judged, Watcher, Need, Pairing, Rule, Watch}
 use Rattle.fb_types.proofs.Common.{set, cases_eq, get_or-set_other, get_or-set_same, take_more, All-push}
 use Rattle.std.proofs.Math.ListN.{length-set}
-use Rattle.fb_expect.specs.Deciding.{Decides, Tallies}
+use Rattle.std.proofs.lemmas.List.Sums.{sum_by-cons}
+use Rattle.fb_expect.specs.Deciding.{Applies as AloneApplies, Decides, FirstOn, IsDecided, KnowsFirst, Tallies, count_first}
 use Rattle.fb_expect.specs.Hits.{hit_of, hits_of}
 use Rattle.fb_expect.specs.Passing.{Covers}
-use Rattle.fb_expect.specs.Judging.{Concludes, Follows, IsJudged, IsVerdictBy, KnowsState, KnowsStateBy, Moves, StateOn}
-use Rattle.fb_expect.specs.Paired.{KnowsPairs, PairHit, PairsEnd, PairsOn, pair_hit_of, pair_hits_of, within_of, AreBelow as ArePairsBelow}
+use Rattle.fb_expect.specs.Judging.{Applies, Concludes, Follows, IsAppliedBy, IsJudged, IsVerdictBy, KnowsState, KnowsStateBy, Moves, StateOn}
+use Rattle.fb_expect.specs.Paired.{CountsFirst, KnowsPairs, PairHit, PairsApply, PairsEnd, PairsOn, count_first as count_pairs, pair_hit_of, pair_hits_of, within_of, AreBelow as ArePairsBelow}
 use Rattle.fb_expect.specs.Sights.{sights_of}
 use Rattle.fb_expect.specs.Traces.{RiseFrom, last_tick}
 use Rattle.fb_expect.specs.Watching.{Knows}
+use Rattle.fb_expect.specs.declared.judging.State.{State}
 use Rattle.fb_expect.specs.declared.judging.State.TheVariants.{Alone, Paired}
+use Rattle.fb_expect.specs.declared.rule.Need.TheVariants as need
 use Rattle.fb_expect.specs.declared.pairs.Pairs.{Pairs}
 use Rattle.fb_expect.specs.declared.port_set.PortSet.{PortSet}
 use Rattle.fb_expect.specs.declared.verdict.Verdict.{Verdict}
@@ -93,9 +96,10 @@ pub moves :
     (number : ℕ) (e : Event) (old new : Watcher) (hit : Hit) → new.rule ≡ old.rule → new.ports ≡ old.ports → hit ≡ hit_of old.rule.now e
     → StateOn old.rule.now number e old.state new.state
     → ((hs : List Hit) → number ≡ length hs + 1 → Tallies old.rule.now.need hs old.tally → Tallies old.rule.now.need (hs ++ hit ∷ []) new.tally)
+    → FirstOn old.first number hit new.first
     → ((es : List Event) → old.sights ≡ sights_of old.rule.now es → new.sights ≡ sights_of old.rule.now (es ++ e ∷ []))
     → Moves number e old new
-moves number e old new hit same ports is state counts sees =
+moves number e old new hit same ports is state counts firsts sees =
     record {
       rule = same;
       follows = λ es counted below f.
@@ -107,6 +111,9 @@ moves number e old new hit same ports is state counts sees =
           turned es (record {
             knows = state es counted below f.knows;
             counts = subst (λ (hs : List Hit). Tallies r.need hs new.tally) hits (counts (hits_of r es) long f.counts);
+            first =
+                (let low : IsBelow (hits_of r es) hit.tick = subst (λ (h : Hit). IsBelow (hits_of r es) h.tick) (sym is) (below-hits r es e.tick below) in
+                subst (λ (hs : List Hit). KnowsFirst hs new.first) hits (firsts (hits_of r es) long low f.first));
             saw = sees es f.saw;
             covers = subst (λ (s : PortSet). Covers s.marks r) (sym ports) f.covers;
           }));
@@ -115,18 +122,55 @@ moves number e old new hit same ports is state counts sees =
     turned : (es : List Event) → Follows (es ++ e ∷ []) (record new { rule = old.rule }) → Follows (es ++ e ∷ []) new
     turned es f = subst (λ w. Follows (es ++ e ∷ []) (record new { rule = w })) (sym same) f
 
+-- ---- Whether the rule was decided
+
+-- the P's are as many where lines are paired
+pairs-first : (r : Rule) (es : List Event) → count_first (hits_of r es) ≡ count_pairs (pair_hits_of r es)
+pairs-first r [] = refl
+pairs-first r (e ∷ es) =
+    sum_by-cons (λ (h : Hit). cond h.first 1 0) (hit_of r e) (hits_of r es) ∙ ap (λ (n : ℕ). cond (hit_of r e).first 1 0 + n) (pairs-first r es)
+    ∙ sym (sum_by-cons (λ (h : PairHit). cond h.first 1 0) (pair_hit_of r e) (pair_hits_of r es))
+
+counts-first : (n : Need) (r : Rule) (es : List Event) (end : End) (often : ℕ) → IsDecided n (hits_of r es) end often → CountsFirst n (pair_hits_of r es) often
+counts-first (need.See within) r es end often is = is ∙ pairs-first r es
+counts-first (need.Not within) r es end often is = tt
+counts-first (need.Before within) r es end often is = tt
+counts-first (need.Never from_start) r es end often is = tt
+counts-first (need.Count least most every) r es end often is = tt
+
+pub applies-alone :
+    (w : Watcher) (s : Watch) (often : ℕ) (end : End) (applied : Bool) → w.state ≡ Alone s → AloneApplies w.rule.now.need s w.first end often applied → Applies w often end applied
+applies-alone w s often end applied is applies es below f decided = by w.rule.now.pairing (subst (λ (x : State). KnowsState w.rule.now es x) is f.knows)
+  where
+    by : (o : Option Pairing) → KnowsStateBy o w.rule.now es (Alone s) → IsAppliedBy o w.rule.now es end often applied
+    by (Some p) known = absurd known
+    by None known = applies (hits_of w.rule.now es) (below-hits w.rule.now es (tick_of end) below) f.first known
+
+pub applies-paired :
+    (w : Watcher) (s : Pairs) (often : ℕ) (end : End) (applied : Bool) → w.state ≡ Paired s → ((p : Pairing) → PairsApply w.rule.now.need p s end often applied)
+    → Applies w often end applied
+applies-paired w s often end applied is applies es below f decided = by w.rule.now.pairing (subst (λ (x : State). KnowsState w.rule.now es x) is f.knows)
+  where
+    by : (o : Option Pairing) → KnowsStateBy o w.rule.now es (Paired s) → IsAppliedBy o w.rule.now es end often applied
+    by None known = absurd known
+    by (Some p) known =
+        applies p (pair_hits_of w.rule.now es) (pair-below w.rule.now es (tick_of end) below) (counts-first w.rule.now.need w.rule.now es end often decided) known
+
 -- ---- The end
 
 pub concluded :
-    (number : ℕ) (end : End) (w : Watcher) (v : Verdict) (count : ℕ) → Concludes w.rule.now w.state number end v
-    → Decides w.rule.now.need w.tally number end count → (es : List Event) → number ≡ length es + 1 → AreBelow es (tick_of end) → Follows es w
-    → IsJudged es end w.rule.now (record { verdict = v; decided = count; sights = w.sights })
-concluded number end w v count ends decides es counted below f =
+    (number : ℕ) (end : End) (w : Watcher) (v : Verdict) (count : ℕ) (applied : Bool) → Concludes w.rule.now w.state number end v
+    → Decides w.rule.now.need w.tally number end count → Applies w count end applied → (es : List Event) → number ≡ length es + 1 → AreBelow es (tick_of end) → Follows es w
+    → IsJudged es end w.rule.now (record { verdict = v; decided = count; is_applied = applied; sights = w.sights; end = end })
+concluded number end w v count applied ends decides applies es counted below f =
     let r = w.rule.now in
+    let often : IsDecided r.need (hits_of r es) end count = decides (hits_of r es) (omega (arith, counted, length-map es (hit_of r))) f.counts in
     record {
       verdict = ends es counted below f.knows;
-      decided = decides (hits_of r es) (omega (arith, counted, length-map es (hit_of r))) f.counts;
+      decided = often;
+      applied = applies es below f often;
       sights = f.saw;
+      ended = refl;
     }
 
 -- ---- Ticks

@@ -13,6 +13,7 @@ use Rattle.fb_expect.specs.declared.rule.Need.TheVariants as need
 use Rattle.fb_expect.specs.declared.watch.Watch.TheVariants as watch
 use Rattle.fb_expect.proofs.lemmas.pairs.Coupled.{on-idle}
 use Rattle.fb_expect.proofs.lemmas.rules.Following.{alone-on, moves, paired-on}
+use Rattle.fb_expect.proofs.lemmas.rules.Settling.{first-idle}
 use Rattle.fb_expect.proofs.lemmas.rules.Tallying.{idle-tally}
 use Rattle.fb_expect.proofs.lemmas.rules.RulesOfAfter.{none-new, none-waits, waits-on}
 use Rattle.fb_expect.proofs.lemmas.patterns.Sighting.{lacks-all, lacks-kinds, seen, sight-more}
@@ -156,5 +157,5 @@ passed number e w off = record {
       let none = nothing w.rule.now e passes in
       (moves number e w w (hit_of w.rule.now e) refl refl refl (idle-state w.rule.now number e w.state passes)
       (λ hs long counts. idle-tally w.rule.now.need hs (hit_of w.rule.now e) w.tally none.first none.second none.third counts)
-      (λ fs same. same ∙ sym (same-sights w.rule.now fs e passes))).follows es counted below f);
+      (first-idle number (hit_of w.rule.now e) w.first none.first) (λ fs same. same ∙ sym (same-sights w.rule.now fs e passes))).follows es counted below f);
 }
