@@ -1,11 +1,14 @@
 """An empty root: some packages of Debian with all that they need, copied from this system, and nothing else.
 
 Commands in it have no network and see nothing outside it. So they have neither the kit nor the repository, and no package of this system
-that was not asked for. bubblewrap makes it, without rights of root."""
+that was not asked for. bubblewrap makes it, without rights of root. Where the kernel allows no namespaces, chroot makes it for root, with
+the network of this system."""
 
+import functools
 import glob
 import os
 import re
+import stat
 import subprocess
 from pathlib import Path
 
@@ -51,6 +54,16 @@ def without_links(path):
     return os.path.join(os.path.realpath(os.path.dirname(path)), os.path.basename(path))
 
 
+@functools.cache
+def has_namespaces():
+    """Whether bubblewrap can make a root here."""
+    words = ["bwrap", "--unshare-all", "--ro-bind", "/", "/", "--", "true"]
+    ran = subprocess.run(words, stdin=subprocess.DEVNULL, stdout=subprocess.PIPE, stderr=subprocess.STDOUT, text=True)
+    if ran.returncode:
+        print(f"packages: bubblewrap makes no root here, chroot does: {ran.stdout.strip()}", flush=True)
+    return ran.returncode == 0
+
+
 class Root:
     """A root in a folder, in which commands run as root or as a user. The user can write into his home alone."""
 
@@ -68,14 +81,20 @@ class Root:
         if self.drop is None:
             raise SystemExit("packages: as root, programs are called only as nobody, and setpriv failed here")
         (self.folder / HOME[1:]).chmod(0o777)
+        (self.folder / "tmp").chmod(0o1777)
         os.chmod(self.folder, 0o755)
+        if not has_namespaces():
+            for it in ("null", "zero", "urandom"):
+                os.mknod(self.folder / "dev" / it, stat.S_IFCHR | 0o666, os.stat(f"/dev/{it}").st_rdev)
+                os.chmod(self.folder / "dev" / it, 0o666)
 
     def add(self, *packages):
         """Adds packages of Debian, as they are on this system."""
         new = [it for it in with_all_needed(packages, self.known) if it not in self.packages]
         self.packages.update(new)
         listed = subprocess.run(["dpkg-query", "-L", *new], check=True, capture_output=True, text=True).stdout.splitlines()
-        paths = {without_links(it)[1:] for it in listed if it.startswith("/") and it != "/." and os.path.lexists(it)}
+        # (what only root reads is a folder for later)
+        paths = {without_links(it)[1:] for it in listed if it.startswith("/") and it != "/." and (os.path.islink(it) or os.access(it, os.R_OK))}
         paths |= {it[1:] for name in new for it in glob.glob(f"{INFO}/{name}.*") + glob.glob(f"{INFO}/{name}:*.*")}
         packing = subprocess.Popen(["tar", "-C", "/", "--no-recursion", "--null", "-T", "-", "-cf", "-"], stdin=subprocess.PIPE, stdout=subprocess.PIPE)
         unpacking = subprocess.Popen(["tar", "-C", self.folder, "--no-same-owner", "-p", "-xf", "-"], stdin=packing.stdout)
@@ -88,14 +107,19 @@ class Root:
         with open(self.folder / "var/lib/dpkg/status", "a") as it:
             it.write(f"{about}\n")
 
-    def run(self, words, is_root=False, folder=HOME, path=""):
-        """Runs a command as root or as the user, in a folder of the root, and returns its status and what it printed. `path` comes before the usual PATH."""
+    def box(self, is_root, folder):
+        """Returns the words that start a command in the root."""
+        if not has_namespaces():
+            return ["/usr/sbin/chroot", *([] if is_root else ["--userspec=1000:1000"]), str(self.folder), "env", "-C", folder]
         number, bind = ("0", "--bind") if is_root else ("1000", "--ro-bind")
         home = [] if is_root else ["--bind", f"{self.folder}{HOME}", HOME]
         box = ["bwrap", "--unshare-all", "--unshare-user", "--die-with-parent", "--new-session", "--uid", number, "--gid", number]
         box += [bind, str(self.folder), "/", "--proc", "/proc", "--dev", "/dev", "--tmpfs", "/tmp", *home, "--chdir", folder]
-        settings = {"PATH": path + ":" * bool(path) + PATHS[is_root], "HOME": "/root" if is_root else HOME, "LANG": "C.UTF-8", "PYTHONDONTWRITEBYTECODE": "1"}
         # (the user is another one outside, too, so that he can't write what is not his)
-        command = [*([] if is_root else self.drop), *box, *(["--cap-add", "ALL"] if is_root else []), "--", *words]
-        ran = subprocess.run(command, env=settings, stdin=subprocess.DEVNULL, stdout=subprocess.PIPE, stderr=subprocess.STDOUT, text=True)
+        return [*([] if is_root else self.drop), *box, *(["--cap-add", "ALL"] if is_root else []), "--"]
+
+    def run(self, words, is_root=False, folder=HOME, path=""):
+        """Runs a command as root or as the user, in a folder of the root, and returns its status and what it printed. `path` comes before the usual PATH."""
+        settings = {"PATH": path + ":" * bool(path) + PATHS[is_root], "HOME": "/root" if is_root else HOME, "LANG": "C.UTF-8", "PYTHONDONTWRITEBYTECODE": "1"}
+        ran = subprocess.run([*self.box(is_root, folder), *words], env=settings, stdin=subprocess.DEVNULL, stdout=subprocess.PIPE, stderr=subprocess.STDOUT, text=True)
         return ran.returncode, ran.stdout

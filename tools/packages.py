@@ -10,8 +10,10 @@ the same files alone. The program needs the C library alone, and README.md and t
 one of Linux. As SECURITY.md says, it calls nothing there that opens a connection, starts a program or changes a folder. ./gate runs this
 each time it has run the program."""
 
+import base64
 import contextlib
 import glob
+import hashlib
 import io
 import json
 import os
@@ -172,6 +174,11 @@ def faults_of_contents(made, program, folder):
         yield "the packages have several programs"
     if any("bin/fbsim" in it for it in [*sdist, *of_all]) or packaged.content.count(b"\0.symtab\0"):
         yield "there is a program in the source distribution, or one with a symbol table"
+    for name, files in (("wheel", wheel), ("wheel of the archive", of_all)):
+        listed = {it: digest for it, digest in re.findall(r"(?m)^(.*),sha256=([\w-]+),\d+$", files[f"{about}/RECORD"].content.decode())}
+        sums = {it: base64.urlsafe_b64encode(hashlib.sha256(file.content).digest()).decode().rstrip("=") for it, file in files.items() if it != f"{about}/RECORD"}
+        if listed != sums:
+            yield f"RECORD of the {name} has other files or sums"
     tags = [re.findall(r"(?m)^Tag: (.*)$", it[f"{about}/WHEEL"].content.decode()) for it in (wheel, of_all)]
     if tags != [[TAG], ["py3-none-any"]]:
         yield f"the wheels are tagged {tags}"
