@@ -38,7 +38,7 @@ OF_PYTHON = """benches, sweeps and figures for the IEC 61499 simulator fbsim
  The Python package runs applications, compares traces and sweeps over
  parameters. A plugin for pytest takes folders with a file fbsim.toml as
  tests. The command fbsim-import converts projects of 4diac, EcoStruxure
- and FBDK."""
+ and FBDK, and fbsim-page writes a page in which you step through a run."""
 # The packages of Debian that parts of the Python package need.
 SUGGESTED = ("pytest", "pandas", "matplotlib", "hypothesis", "distributed", "lxml", "lark", "jinja2")
 HOLDER = "2026 Cambiroa maintainers"

@@ -26,10 +26,10 @@ MODULES = {
     "numpy": "python3-numpy", "matplotlib": "python3-matplotlib", "distributed": "python3-distributed",
     "junitparser": "python3-junitparser", "lxml": "python3-lxml", "lark": "python3-lark",
     "jinja2": "python3-jinja2", "build": "python3-build", "wheel": "python3-wheel",
-    "setuptools": "python3-setuptools", "ensurepip": "python3-venv", "mypy": "mypy", "flake8": "flake8",
+    "setuptools": "python3-setuptools", "ensurepip": "python3-venv", "mypy": "mypy", "flake8": "flake8", "selenium": "python3-selenium",
 }
 # Folders of the package, with the lines of Python that each may have.
-MOST_LINES = {"fbsim": 3_520, "fbsim/importer": 4_960}
+MOST_LINES = {"fbsim": 3_520, "fbsim/importer": 4_960, "fbsim/page": 1_100}
 SECONDS = 1_200
 
 
@@ -50,7 +50,7 @@ class Copy:
             sys.exit("as root, programs are called only as nobody, and setpriv failed here")
         without = shutil.ignore_patterns("crates", "bench", "out", ".*", "__pycache__", "env", "wheel")
         shutil.copytree(TOP, self.top, ignore=without)
-        for name in ("bin", "home", "tmp", "page"):
+        for name in ("bin", "home", "tmp", "page", "pictures"):
             os.mkdir(f"{room}/{name}")
         for name in ("python", "examples"):
             shutil.copytree(f"{self.top}/{name}", f"{room}/fbsim/{name}")
@@ -76,7 +76,10 @@ class Copy:
     def test(self):
         """Runs the tests, and returns whether all pass and none was left out."""
         words = [PYTHON, "-m", "pytest", "-q", f"--junitxml={self.room}/tmp/report.xml"]
-        status, said = self.run(words, f"{self.top}/python", {"FBSIM": f"{self.room}/bin/fbsim"})
+        settings = {"FBSIM": f"{self.room}/bin/fbsim", "GATE_ARTEFACTS": f"{self.room}/pictures"}
+        status, said = self.run(words, f"{self.top}/python", settings)
+        # (what pages look like, for people)
+        shutil.copytree(f"{self.room}/pictures", os.environ.get("GATE_ARTEFACTS") or f"{TOP}/out", dirs_exist_ok=True)
         try:
             suite = xml.etree.ElementTree.parse(f"{self.room}/tmp/report.xml").getroot().find("testsuite")
             count, failed, left = int(suite.get("tests")), int(suite.get("failures")) + int(suite.get("errors")), int(suite.get("skipped"))
@@ -134,7 +137,8 @@ def try_all(program):
     lacking = missing()
     for it in lacking:
         print(f"python: the system package {it} is missing (tools/system_packages.py)")
-    if lacking or lacks("datamash", "datamash"):
+    programs = [("datamash", "datamash"), ("dot", "graphviz"), ("chromium", "chromium"), ("chromedriver", "chromium-driver")]
+    if lacking or any([lacks(*it) for it in programs]):
         return False
     with tempfile.TemporaryDirectory(prefix="python-") as room:
         copy = Copy(room, program)

@@ -7,7 +7,10 @@ import sys
 
 import pytest
 
-COMMANDS = {"fbsim-import": ("fbsim.importer", "import", ["lxml", "lark", "jinja2"])}
+COMMANDS = {
+    "fbsim-import": ("fbsim.importer", "import", ["lxml", "lark", "jinja2"]),
+    "fbsim-page": ("fbsim.page", "page", ["lark", "jinja2"]),
+}
 
 
 def without(names, folder, top, *words):
@@ -33,7 +36,10 @@ def test_a_command_names_the_extra_that_is_missing(command, tmp_path, top):
         assert (ran.returncode, ran.stdout, ran.stderr) == (5, "", f"{command}: {missing(extra, names)}\n")
 
 
-CALLS = [("frame", "pandas", "trace.frame()"), ("plot", "matplotlib", "trace.plot(['LAMP.Q'])")]
+CALLS = [
+    ("frame", "pandas", "trace.frame()"), ("plot", "matplotlib", "trace.plot(['LAMP.Q'])"),
+    ("page", "jinja2", "trace.page('run.html')")
+]
 
 
 @pytest.mark.parametrize("extra, package, call", CALLS)

@@ -84,6 +84,7 @@ class Application:
         options = {"horizon": horizon, "steps": steps, "workers": workers, "trace": 2 if keys else None}
         words, given = self.call_words("run", stimuli, options)
         trace, file = temporary(self)
+        trace.steps = steps
         with file as to:
             trace.take(call(words, given, to, statuses=(0, 1), timeout=timeout), horizon)
         warn_of(trace.warnings, 3)

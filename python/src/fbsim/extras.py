@@ -11,7 +11,7 @@ from typing import Any
 from fbsim.faults import Fault
 
 # The extras of pyproject.toml whose packages parts of this one import. Debian's names have python3- in front.
-EXTRAS = {"frame": ["pandas"], "plot": ["matplotlib"], "import": ["lxml", "lark", "jinja2"]}
+EXTRAS = {"frame": ["pandas"], "plot": ["matplotlib"], "import": ["lxml", "lark", "jinja2"], "page": ["lark", "jinja2"]}
 COMMAND_LINE = 5
 
 
@@ -30,9 +30,19 @@ def needed(module: str, extra: str) -> Any:
     return import_module(module)
 
 
+def command(name: str, extra: str, module: str, words: Sequence[str] | None) -> int:
+    """Is a command of a module that needs the packages of an extra."""
+    if said := lack(extra):
+        print(f"{name}: {said}", file=sys.stderr)
+        return COMMAND_LINE
+    return int(import_module(module).main(words))
+
+
 def import_files(words: Sequence[str] | None = None) -> int:
     """Is the command fbsim-import."""
-    if said := lack("import"):
-        print(f"fbsim-import: {said}", file=sys.stderr)
-        return COMMAND_LINE
-    return int(import_module("fbsim.importer.command").main(words))
+    return command("fbsim-import", "import", "fbsim.importer.command", words)
+
+
+def make_page(words: Sequence[str] | None = None) -> int:
+    """Is the command fbsim-page."""
+    return command("fbsim-page", "page", "fbsim.page.command", words)

@@ -18,11 +18,12 @@ from pathlib import Path
 from typing import IO, TYPE_CHECKING, NamedTuple
 
 from fbsim import figures
+from fbsim.extras import needed
 from fbsim.faults import FileFault, InputFault, ProgramFault, RulesBroken, Stop, needs, of_system, texts_of
 from fbsim.latencies import Latencies, paired
 from fbsim.patterns import NAME, PORT, Pattern, ask_pair, ask_patterns, ask_signal
 from fbsim.program import call
-from fbsim.stimuli import Value, file_name
+from fbsim.stimuli import FileName, Stimuli, Value, file_name
 
 if TYPE_CHECKING:
     from matplotlib.figure import Figure
@@ -271,6 +272,8 @@ class Trace(Lines):
         self.path, self.application, self.where_stopped = Path(file_name(path, "a trace")), application, ""
         # Whether the program wrote the file for this trace, and else its state when it was last read to its end.
         self.is_own, self.known = False, (0, 0, 0)
+        #: The limit of steps of its run, if it was given one.
+        self.steps: int | None = None
         #: What the program warned of in the run: rows of stimuli at or beyond the horizon.
         self.warnings: tuple[str, ...] = ()
 
@@ -352,6 +355,19 @@ class Trace(Lines):
         if report.broken:
             raise RulesBroken(report)
         return report
+
+    def page(
+        self, path: FileName, *, rules: FileName | None = None, stimuli: Stimuli = None, steps: int | None = None,
+        since: int | None = None, until: int | None = None
+    ) -> None:
+        """Writes a page of HTML in which you step through the run (docs/PAGE.md).
+
+        `rules` is a file of rules. The page has the lines from tick `since` on, before tick `until`, 100,000 at most.
+        A trace that `Application.run` made knows its limit of steps. For another one, `steps` is this limit, and with
+        `stimuli` their run must give this trace.
+        """
+        how = {"rules": rules, "stimuli": stimuli, "steps": steps, "since": since, "until": until}
+        needed("fbsim.page.build", "page").write_page(self, path, **how)
 
     def diff(self, other: Trace) -> str:
         """Returns what `fbsim diff` says of this trace and another one: nothing if they are the same."""
