@@ -45,7 +45,9 @@ pub use input_place::{InputFile, InputPlace, place_in_deployment, places_in_inpu
 pub use listing::{Findings, MOST_FINDINGS, discard_findings};
 pub use location::{Finding, FindingLocation};
 pub use messages::deployment::deployment_message;
-pub use messages::rules::{pattern_message, rule_span, rules_message, unknown_key_message};
+pub use messages::rules::{
+    location_span, pattern_message, rule_span, rules_message, unknown_key_message,
+};
 pub use messages::stimuli::{row_message, stimuli_message};
 pub use messages::stimulus::unfit_message;
 pub use messages::text::text_message;

@@ -25,7 +25,7 @@ use fb_expect::{
 use fb_read_positions::{Text, place_between};
 use fb_sim::discard;
 use fb_system::System;
-use fb_why::{pattern_message, rule_span, rules_message, unknown_key_message};
+use fb_why::{location_span, pattern_message, rule_span, rules_message, unknown_key_message};
 use fbsim_line::Expect;
 use std::alloc::{AllocError, Global};
 
@@ -65,42 +65,64 @@ fn note_at_key(
 ) -> Result<String, AllocError>
     ensures { IfOk result (λ note. IsPlacedNote expect.now.rules.now (string_bytes note)) }
 {
-    let (start, end) = rule_span(bytes, at.0, at.1);
-    match place_between(bytes, start, end) {
+    let span = rule_span(bytes, at.0, at.1);
+    note_at_span(alloc, expect, number, bytes, span, words)
+}
+
+/// The number of a refusal, and the words.
+fn numbered(alloc: Global, number: u8, words: &str) -> Result<String, AllocError> {
+    let tens = number / 10;
+    let ones = number % 10;
+    Ok(format!(in alloc; "E{tens}{ones}: {words}")?)
+}
+
+/// The words with the place of these bytes of the rules before them, and its source line after them.
+fn note_at_span(
+    alloc: Global,
+    expect: &Expect<'_>,
+    number: u8,
+    bytes: &[u8],
+    span: (usize, usize),
+    words: &str,
+) -> Result<String, AllocError>
+    ensures { IfOk result (λ note. IsPlacedNote expect.now.rules.now (string_bytes note)) }
+{
+    match place_between(bytes, span.0, span.1) {
         Some(place) => {
             let matter = matter_at(alloc, number, words, bytes, place)?;
             let column = place.column as u128;
             placed(alloc, expect.rules, place.line, column, matter.as_str())
         }
         // Nothing of the rules is nearer.
-        None => placed(alloc, expect.rules, 1, 1, words),
+        None => {
+            let matter = numbered(alloc, number, words)?;
+            placed(alloc, expect.rules, 1, 1, matter.as_str())
+        }
     }
 }
 
-/// The note to a text of a rule that is no pattern.
-fn note_of_pattern(
-    alloc: Global,
-    expect: &Expect<'_>,
-    number: u8,
-    bytes: &[u8],
-    at: (usize, RuleKey),
-) -> Result<String, AllocError> {
-    let words = pattern_message(alloc, bytes, at.0, at.1)?;
-    note_at_key(alloc, expect, number, bytes, at, words.as_str())
+/// What is wrong at this location of rules, in words.
+fn words_of(alloc: Global, bytes: &[u8], location: RulesLocation) -> Result<String, AllocError> {
+    match location {
+        RulesLocation::Pattern { rule, key } => pattern_message(alloc, bytes, rule, key),
+        _ => rules_message(alloc, bytes, location),
+    }
 }
 
-/// What is wrong at this location of rules.
+/// What is wrong at this location of rules, with its place if it has one.
 fn note_of_fault(
     alloc: Global,
     expect: &Expect<'_>,
     bytes: &[u8],
     location: RulesLocation,
 ) -> Result<String, AllocError> {
-    match location {
-        RulesLocation::Pattern { rule, key } => {
-            note_of_pattern(alloc, expect, location.number(), bytes, (rule, key))
+    let words = words_of(alloc, bytes, location)?;
+    match location_span(alloc, bytes, location) {
+        Some(span) => {
+            let number = location.number();
+            note_at_span(alloc, expect, number, bytes, span, words.as_str())
         }
-        _ => rules_message(alloc, bytes, location),
+        None => Ok(words),
     }
 }
 

@@ -2,27 +2,26 @@
 
 ghost use Rattle.std.specs.Prelude.{◌≤◌, length};
 
-use crate::further::item_at;
+use crate::further::{further_key, item_at};
 use crate::messages::deployment::push_further;
 use fb_expect::{
     PatternFault, PatternPart, RuleFault, RuleKey, RulesLocation, key_text, pattern_fault,
 };
-use fb_read_positions::words::{Text, front};
+use fb_read_positions::words::Text;
 use std::alloc::{AllocError, Global};
 use toml::{Table, Value};
 
-/// Where rules are refused, and what was expected there.
+/// What is wrong at a location of rules.
 pub fn rules_message(
     alloc: Global,
     bytes: &[u8],
     location: RulesLocation,
 ) -> Result<String, AllocError> {
     let mut text = Text::new(alloc);
-    text.words("rules: ");
     match location {
-        RulesLocation::Bytes => text.words("there are more than 1,048,576 bytes"),
-        RulesLocation::Document(at) => push_position(&mut text, bytes, at),
-        RulesLocation::Crowded => text.words("there are more than 1,000 rules"),
+        RulesLocation::Bytes => text.words("rules: there are more than 1,048,576 bytes"),
+        RulesLocation::Document(_) => text.words("this is no TOML"),
+        RulesLocation::Crowded => text.words("rules: there are more than 1,000 rules"),
         _ => match toml::table_from_slice(alloc, bytes) {
             Ok(keys) => push_location(&mut text, &keys, location),
             Err(_) => text.give_up(),
@@ -31,44 +30,32 @@ pub fn rules_message(
     text.into_string()
 }
 
-/// The line and the column of a byte, both counted from 1. A column counts characters.
-fn push_position(text: &mut Text, bytes: &[u8], at: usize) {
-    let mut line = 1usize;
-    let mut column = 1usize;
-    for byte in front(bytes, at) {
-        if *byte == b'\n' {
-            line = line.saturating_add(1);
-            column = 1;
-        } else if *byte & 0xC0 != 0x80 {
-            column = column.saturating_add(1);
-        }
-    }
-    text.numbered("line ", line, "");
-    text.numbered(", column ", column, ": this is no TOML");
-}
-
 /// Adds what is at a location in a document.
 fn push_location(text: &mut Text, keys: &Table, location: RulesLocation) {
     match location {
         RulesLocation::Rule { rule, fault } => {
-            text.placed("", rule, " rule: ");
-            push_fault(text, item_at(keys, "rule", rule), fault);
+            let keys = item_at(keys, "rule", rule);
+            push_rule(text, keys, rule);
+            push_fault(text, keys, fault);
         }
         RulesLocation::Pattern { rule, key } => {
-            text.placed("", rule, " rule: ");
+            push_rule(text, item_at(keys, "rule", rule), rule);
             text.phrase(&[key_text(key), " is no pattern"]);
         }
         RulesLocation::Number { rule, key } => {
-            text.placed("", rule, " rule: ");
+            push_rule(text, item_at(keys, "rule", rule), rule);
             text.phrase(&[key_text(key), range_of(key)]);
         }
         RulesLocation::Repeated { rule } => {
-            push_rule(text, item_at(keys, "rule", rule), rule, RuleKey::Name);
+            push_key(text, item_at(keys, "rule", rule), rule, RuleKey::Name);
             text.words("a rule before it has this name");
         }
         _ => match keys.get("rule") {
             Some(_) if keys.len() > 1 => push_further(text, keys, &["rule"]),
-            _ => text.words("there is no rule"),
+            _ => {
+                text.words("there is no rule");
+                push_instead(text, further_key(keys, &["rule"]));
+            }
         },
     }
 }
@@ -78,9 +65,10 @@ fn push_fault(text: &mut Text, keys: Option<&Table>, fault: RuleFault) {
     match fault {
         RuleFault::NoTable => text.words("it is no table"),
         RuleFault::NoForm => text.words("there is none of after, before, never and count"),
-        RuleFault::Missing(RuleKey::Not) => text.words("there is neither see nor not"),
-        RuleFault::Missing(RuleKey::Most) => text.words("there is neither least nor most"),
-        RuleFault::Missing(key) => text.phrase(&["there is no ", key_text(key)]),
+        RuleFault::Missing(key) => {
+            push_missing(text, key);
+            push_instead(text, further_in(keys));
+        }
         RuleFault::Wrong(key) => text.phrase(&[key_text(key), kind_of(key)]),
         RuleFault::Further => {
             if let Some(keys) = keys {
@@ -88,6 +76,29 @@ fn push_fault(text: &mut Text, keys: Option<&Table>, fault: RuleFault) {
             }
         }
     }
+}
+
+/// Adds which key is missing, or which two keys are.
+fn push_missing(text: &mut Text, key: RuleKey) {
+    match key {
+        RuleKey::Not => text.words("there is neither see nor not"),
+        RuleKey::Most => text.words("there is neither least nor most"),
+        key => text.phrase(&["there is no ", key_text(key)]),
+    }
+}
+
+/// Adds a key that there is instead, which may be a misspelt one.
+fn push_instead(text: &mut Text, further: Option<&str>) {
+    if let Some(key) = further {
+        text.words(", but a further key, ");
+        text.quoted(key.as_bytes());
+    }
+}
+
+/// The first key of a rule that it may not have.
+fn further_in(keys: Option<&Table>) -> Option<&str> {
+    let keys = keys?;
+    further_key(keys, known_keys(keys))
 }
 
 /// What the value at a key must be.
@@ -133,14 +144,20 @@ fn name_in(keys: Option<&Table>) -> Option<&str> {
     keys?.get("name")?.as_str()
 }
 
-/// Adds which rule is meant, and which key of it.
-fn push_rule(text: &mut Text, keys: Option<&Table>, rule: usize, key: RuleKey) {
+/// Adds which rule is meant.
+fn push_rule(text: &mut Text, keys: Option<&Table>, rule: usize) {
     text.placed("", rule, " rule");
     if let Some(name) = name_in(keys) {
         text.words(", ");
         text.quoted(name.as_bytes());
     }
-    text.phrase(&[": ", key_text(key), ": "]);
+    text.words(": ");
+}
+
+/// Adds which rule is meant, and which key of it.
+fn push_key(text: &mut Text, keys: Option<&Table>, rule: usize, key: RuleKey) {
+    push_rule(text, keys, rule);
+    text.phrase(&[key_text(key), ": "]);
 }
 
 /// What is wrong with a text that is no pattern.
@@ -182,7 +199,7 @@ pub fn pattern_message(
         return text.into_string();
     };
     let keys = item_at(&document, "rule", rule);
-    push_rule(&mut text, keys, rule, key);
+    push_key(&mut text, keys, rule, key);
     if let RuleKey::Same = key {
         text.words("one of its texts is no name of a variable");
         return text.into_string();
@@ -217,22 +234,6 @@ pub fn unknown_key_message(
     text.into_string()
 }
 
-/// Whether a line begins with a key and an equals sign.
-fn begins_key(line: &[u8], key: &[u8]) -> bool {
-    match line.strip_prefix(key) {
-        Some(rest) => {
-            for byte in rest {
-                match *byte {
-                    b' ' | b'\t' => {}
-                    other => return other == b'=',
-                }
-            }
-            false
-        }
-        None => false,
-    }
-}
-
 /// How many blanks a line begins with.
 fn blanks_of(line: &[u8]) -> usize
     ensures { result ≤ length line.now }
@@ -245,10 +246,54 @@ fn blanks_of(line: &[u8]) -> usize
     line.len()
 }
 
+/// A text without the blanks that it begins with.
+fn after_blanks(text: &[u8]) -> &[u8] {
+    &text[blanks_of(text)..]
+}
+
+/// What comes after a key in quotes, if a line begins with it.
+fn after_quoted<'a>(line: &'a [u8], quote: &[u8], key: &[u8]) -> Option<&'a [u8]> {
+    line.strip_prefix(quote)?
+        .strip_prefix(key)?
+        .strip_prefix(quote)
+}
+
+/// What comes after a key, if a line begins with it. The key may be in quotes.
+fn after_key<'a>(line: &'a [u8], key: &[u8]) -> Option<&'a [u8]> {
+    line.strip_prefix(key)
+        .or(after_quoted(line, DOUBLE, key))
+        .or(after_quoted(line, SINGLE, key))
+}
+
+/// Whether a line begins with a key and an equals sign.
+fn begins_key(line: &[u8], key: &[u8]) -> bool {
+    match after_key(line, key) {
+        Some(rest) => after_blanks(rest).starts_with(EQUALS),
+        None => false,
+    }
+}
+
+/// What a heading of an array of tables has inside, up to the end of the line.
+fn heading_of(line: &[u8]) -> Option<&[u8]> {
+    Some(after_blanks(line.strip_prefix(OPENING)?))
+}
+
+/// Whether a line is the heading of an array of tables with this name.
+fn is_heading(line: &[u8], name: &[u8]) -> bool {
+    match heading_of(line) {
+        Some(inside) => match after_key(inside, name) {
+            Some(rest) => after_blanks(rest).starts_with(CLOSING),
+            None => false,
+        },
+        None => false,
+    }
+}
+
 /// A search for a key of a rule, line by line.
 #[derive(Clone, Copy)]
 struct KeySearch<'a> {
-    rule: usize,
+    /// The rule whose key it is, or nothing for a key beside the rules.
+    rule: Option<usize>,
     name: &'a [u8],
     /// How many headings of rules were there.
     headings: usize,
@@ -261,33 +306,147 @@ struct KeySearch<'a> {
 impl KeySearch<'_> {
     /// Takes the line that begins at this offset.
     fn take(&mut self, line: &[u8], start: usize) {
-        let blanks = blanks_of(line);
-        let text = &line[blanks..];
-        let first = start.saturating_add(blanks);
-        if text.starts_with(HEADING) {
+        let text = after_blanks(after_mark(line, start));
+        let first = start.saturating_add(line.len().saturating_sub(text.len()));
+        match self.rule {
+            Some(rule) => self.take_of_rule(text, first, rule),
+            None => self.take_beside(text, first),
+        }
+    }
+
+    /// Takes a line without its blanks, for a key of a rule.
+    fn take_of_rule(&mut self, text: &[u8], first: usize, rule: usize) {
+        if is_heading(text, RULE) {
             self.headings = self.headings.saturating_add(1);
-            if self.headings == self.rule.saturating_add(1) {
-                self.span = (first, first.saturating_add(HEADING.len()));
+            if self.headings == rule.saturating_add(1) {
+                self.span = (first, first.saturating_add(text.len()));
             }
-            self.is_over = self.headings > self.rule.saturating_add(1);
-        } else if self.headings > self.rule && begins_key(text, self.name) {
+            self.is_over = self.headings > rule.saturating_add(1);
+        } else if self.headings > rule && begins_key(text, self.name) {
             self.span = (first, first.saturating_add(self.name.len()));
+            self.is_over = true;
+        }
+    }
+
+    /// Takes a line without its blanks, for a key beside the rules, or for the heading of another array of tables.
+    fn take_beside(&mut self, text: &[u8], first: usize) {
+        if begins_key(text, self.name) || is_heading(text, self.name) {
+            self.span = (first, first.saturating_add(text.len()));
             self.is_over = true;
         }
     }
 }
 
-/// The heading of a rule.
-const HEADING: &[u8] = b"[[rule]]";
+/// The name of the array of rules.
+const RULE: &[u8] = b"rule";
+
+/// What begins the heading of an array of tables.
+const OPENING: &[u8] = b"[[";
+
+/// What ends it.
+const CLOSING: &[u8] = b"]]";
+
+/// What comes between a key and its value.
+const EQUALS: &[u8] = b"=";
+
+/// The quotes in which a key may be.
+const DOUBLE: &[u8] = b"\"";
+
+const SINGLE: &[u8] = b"'";
+
+/// The first byte.
+const FIRST: (usize, usize) = (0, 1);
+
+/// The byte order mark that a text may begin with.
+const MARK: &[u8] = b"\xEF\xBB\xBF";
+
+/// The line that begins at this offset without the byte order mark of a text.
+fn after_mark(line: &[u8], start: usize) -> &[u8] {
+    if start == 0 {
+        line.strip_prefix(MARK).unwrap_or(line)
+    } else {
+        line
+    }
+}
 
 /// The bytes of a key of a rule, if it begins a line of its table; else of the heading of the table; else the first.
 /// They are the offset of the first byte, and that past the last.
 pub fn rule_span(bytes: &[u8], rule: usize, key: RuleKey) -> (usize, usize) {
+    span_of(bytes, Some(rule), key_text(key).as_bytes())
+}
+
+/// The bytes of the heading of a rule, else the first.
+fn heading_span(bytes: &[u8], rule: usize) -> (usize, usize) {
+    span_of(bytes, Some(rule), b"")
+}
+
+/// The bytes of a further key of a rule, or of its heading if it has none.
+fn further_span(bytes: &[u8], keys: Option<&Table>, rule: usize) -> (usize, usize) {
+    match further_in(keys) {
+        Some(name) => span_of(bytes, Some(rule), name.as_bytes()),
+        None => heading_span(bytes, rule),
+    }
+}
+
+/// The bytes at which the shape of a rule is wrong.
+fn fault_span(bytes: &[u8], keys: Option<&Table>, rule: usize, fault: RuleFault) -> (usize, usize) {
+    match fault {
+        RuleFault::NoTable | RuleFault::NoForm => heading_span(bytes, rule),
+        RuleFault::Missing(_) | RuleFault::Further => further_span(bytes, keys, rule),
+        RuleFault::Wrong(key) => rule_span(bytes, rule, key),
+    }
+}
+
+/// The bytes of the first key beside the rules, else the first.
+fn beside_span(bytes: &[u8], keys: &Table) -> (usize, usize) {
+    match further_key(keys, &["rule"]) {
+        Some(name) => span_of(bytes, None, name.as_bytes()),
+        None => FIRST,
+    }
+}
+
+/// The same of a location in a document.
+fn span_in(bytes: &[u8], keys: &Table, location: RulesLocation) -> (usize, usize) {
+    match location {
+        RulesLocation::Rule { rule, fault } => {
+            fault_span(bytes, item_at(keys, "rule", rule), rule, fault)
+        }
+        RulesLocation::Pattern { rule, key } | RulesLocation::Number { rule, key } => {
+            rule_span(bytes, rule, key)
+        }
+        RulesLocation::Repeated { rule } => rule_span(bytes, rule, RuleKey::Name),
+        _ => beside_span(bytes, keys),
+    }
+}
+
+/// The bytes at a location of rules, or at the nearest one around it. There are none if the rules are too long or too
+/// many.
+pub fn location_span(
+    alloc: Global,
+    bytes: &[u8],
+    location: RulesLocation,
+) -> Option<(usize, usize)> {
+    match location {
+        RulesLocation::Bytes | RulesLocation::Crowded => None,
+        RulesLocation::Document(at) => {
+            let at = at.min(bytes.len().saturating_sub(1));
+            Some((at, at.saturating_add(1)))
+        }
+        _ => match toml::table_from_slice(alloc, bytes) {
+            Ok(keys) => Some(span_in(bytes, &keys, location)),
+            Err(_) => None,
+        },
+    }
+}
+
+/// The bytes of a key of a rule, or of one beside the rules, if it begins a line; else of the heading of the rule; else
+/// the first.
+fn span_of(bytes: &[u8], rule: Option<usize>, name: &[u8]) -> (usize, usize) {
     let mut search = KeySearch {
         rule,
-        name: key_text(key).as_bytes(),
+        name,
         headings: 0,
-        span: (0, 0),
+        span: FIRST,
         is_over: false,
     };
     let mut start = 0;
