@@ -1,7 +1,8 @@
 """Adds to a wheel what is installed beside its modules; all else is in pyproject.toml.
 
 `./simulate package` puts the program and its files into a copy of this folder, as installed/bin/fbsim and
-installed/share. A wheel of that is for Linux on x86-64 alone. Without them, as from the sdist, it is for every system."""
+installed/share. A wheel of that is for Linux on x86-64 alone. Without them, as from the sdist, it is for every
+system."""
 
 from pathlib import Path
 

@@ -229,7 +229,8 @@ def test_a_rule_of_whose_events_all_wait_has_not_applied(tmp_path, more, ticks, 
     # (the deadline is 3 ticks, the end 4: the first START waits unless an answer follows, or it is of tick 0)
     answer = ["2 MAIN < C.EO N=1"] * (applied and "see" in more)
     lines = [f"{ticks[0]} MAIN > C.START N=1", *answer, f"{ticks[1]} MAIN > C.START N=1", "end 4"]
-    (tmp_path / "some.rules").write_text(f'[[rule]]\nname = "x"\nafter = "* > C.START"\nwithin = 3\n{more} = "* < C.EO"\n')
+    rule = '[[rule]]\nname = "x"\nafter = "* > C.START"\nwithin = 3\n'
+    (tmp_path / "some.rules").write_text(f'{rule}{more} = "* < C.EO"\n')
     (verdict,) = trace_in(tmp_path, *lines).expect(tmp_path / "some.rules").verdicts
     assert (verdict.verdict, verdict.decided, verdict.applied) == ("undecided", 2, applied)
 

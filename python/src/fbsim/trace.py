@@ -349,7 +349,8 @@ class Trace(Lines):
     def expect(self, rules: str | os.PathLike[str], strict: bool = False) -> Report:
         """Checks the rules of a file by `fbsim expect`, and raises `RulesBroken` if one does not hold.
 
-        With `strict`, a rule that is undecided or never applied counts as broken, and any of a trace that ends with a stop.
+        With `strict`, a rule that is undecided or never applied counts as broken, and any of a trace that ends with a
+        stop.
         """
         report = check_rules(self, rules, strict)
         if report.broken:
