@@ -434,6 +434,17 @@ def test_what_is_no_row_is_a_fault(tmp_path, row):
         application(tmp_path, CYCLE).run([row], horizon=5)
 
 
+def test_an_iterator_that_was_used_before_is_a_fault(tmp_path):
+    plant, rows = application(tmp_path, CYCLE), ((tick, "C.STOP") for tick in (4, 5))
+    assert plant.run(rows, horizon=9).count() == 5
+    for call in (plant.run, plant.stream):
+        with pytest.raises(fbsim.InputFault, match="^the stimuli are an iterator without rows"):
+            call(rows, horizon=9)
+    with pytest.raises(fbsim.InputFault, match="iterator without rows"):
+        plant.session(rows)
+    assert plant.run([], horizon=9).count() > 0
+
+
 @pytest.mark.parametrize("stimuli", [7, pandas.DataFrame({"tick": [1], "event": ["C.STOP"]})])
 def test_what_are_no_stimuli_is_a_fault(tmp_path, stimuli):
     with pytest.raises(fbsim.InputFault, match="^stimuli are a file or rows, and not of the type "):

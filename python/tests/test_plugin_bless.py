@@ -271,3 +271,14 @@ def test_a_reference_is_compared_with_a_trace_of_its_own(room, body, said):
 def test_the_module_that_was_the_plugin_before_loads_it(room):
     result = room.pytester.runpytest("-p", "fbsim.pytest_plugin", "-p", "no:cacheprovider")
     result.assert_outcomes(passed=8, skipped=2)
+
+
+def test_two_traces_are_not_blessed_as_one_reference(room):
+    """The first one is the reference then, so the second one is not."""
+    kept = (room.path / "trace").read_text()
+    room.change("fbsim.toml", 'name = "no parcel"\n', 'name = "no parcel"\nreference = "one.trace"\n')
+    room.change("fbsim.toml", 'reference = "trace"', 'reference = "one.trace"')
+    result = room.run("--fbsim-bless")
+    result.assert_outcomes(passed=7, failed=1, skipped=2)
+    result.stdout.fnmatch_lines(["*one.trace was blessed before in this run, with another trace"])
+    assert (room.path / "one.trace").read_text() == kept

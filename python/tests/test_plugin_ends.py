@@ -196,6 +196,12 @@ def test_what_is_asked_of_rules_needs_rules(room, key):
     result.stdout.fnmatch_lines(["*unapplied and strict are about rules, and there are no rules"])
 
 
+@pytest.mark.parametrize("name", ["", "  "])
+def test_a_scenario_has_a_name(room, name):
+    room.change("fbsim.toml", 'name = "no parcel"', f'name = "{name}"')
+    room.run().assert_outcomes(errors=1)
+
+
 def test_a_byte_order_mark_is_no_part_of_the_file(room):
     room.write("fbsim.toml", "\ufeff" + (room.path / "fbsim.toml").read_text())
     room.run().assert_outcomes(passed=8, skipped=2)

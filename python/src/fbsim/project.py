@@ -125,6 +125,8 @@ def read_bench(path: Path) -> Bench:
     made = ["applied"] * (rules is not None) + [it for it in ("coverage", "lint") if it in top]
     names = [it.name for it in scenarios] + [it["name"] for it in sequences] + made
     for name in names:
+        if not name.strip():
+            raise InputFault(f"{path}: a scenario or a sequence has a name without a letter")
         if names.count(name) > 1:
             whose = f": tests of the whole file have it ({', '.join(made)})" if name in made else ""
             raise InputFault(f"{path}: there are two with the name {name}{whose}")

@@ -52,6 +52,8 @@ def bless(path: Path, trace: Trace | None, node: pytest.Item, differs: list[str]
     blesses, why_not = may_bless(node.config, broken)
     if not blesses or trace is None:
         raise ReferenceDiffers("\n".join([*differs, *why_not]))
+    if str(path) in changed(node.config):
+        raise ReferenceDiffers("\n".join([f"{path} was blessed before in this run, with another trace", *differs]))
     made_folder(path.parent)
     trace.save(path)
     node.user_properties.append(("fbsim_blessed", str(path)))

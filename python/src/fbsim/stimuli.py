@@ -65,7 +65,11 @@ def rows_of(given: object) -> Iterator[tuple[int, str, Mapping[str, Value]]]:
     """Goes over rows."""
     if not isinstance(given, Iterable) or hasattr(given, "columns"):
         raise InputFault(f"stimuli are a file or rows, and not of the type {type(given).__name__}")
-    yield from map(row_of, given)
+    count = 0
+    for count, it in enumerate(given, 1):
+        yield row_of(it)
+    if not count and isinstance(given, Iterator):
+        raise InputFault("the stimuli are an iterator without rows, as one that was used before: give a list")
 
 
 def words_of(values: Mapping[str, Value]) -> str:
