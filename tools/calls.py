@@ -1082,7 +1082,7 @@ CALLS += [
     of("expect rules trace --decl cycle --deploy cycle_plan", 0, out=REPORT),
     # Rules are refused first, then the declaration and the deployment, then names that these do not have, and then traces.
     of("expect no_plan cut_trace --decl twice", 2, err=b"refused E41\n"),
-    of("expect cut_plan cut_trace --why", 2, err=placed(b"refused E41\n", b"cut_plan:2:5: E41: this is no TOML\n")),
+    of("expect cut_plan cut_trace --why", 2, err=placed(b"refused E41\n", b"cut_plan:2:4: E41: this is no TOML\n")),
     of("expect no_pattern cut_trace --decl twice --why", 2, err=placed(b"refused E43\n", b"no_pattern:3:1: E43: 1st rule, \"the cycle answers\": after: \"> C.START\" is no pattern: a pattern is a resource, a sign, a port and conditions, with blanks between\n")),
     of("expect many_rules cut_trace --why", 2, err=b"refused E40\nrules: there are more than 1,000 rules\n"),
     of("expect rules cut_trace --decl twice --why", 2, err=placed(b"refused E20\n", b"twice:1:32: E20: application A: instance S is given twice\n")),
