@@ -13,6 +13,8 @@ import re
 from kit import TOP
 
 INDEX, INDEXED = "docs/FORMATS.md", "docs/formats"
+# A page that the index names besides: what the program prints.
+HELP = "docs/HELP.md"
 FOLDERS = ("", "docs/", "docs/maintain/", "docs/notes/", f"{INDEXED}/")
 SECTION = r'\\?"([^"\\\n]+)\\?"'
 CITATION = re.compile(rf'(?<![\w/.])((?:[\w-]+/)*[\w-]+\.md),\s+{SECTION}((?:(?:,| and|, and)\s+{SECTION})*)')
@@ -59,7 +61,7 @@ def page_of(name, here):
 
 
 def pages_of_formats():
-    return sorted(os.path.relpath(it, TOP) for it in glob.glob(f"{TOP}/{INDEXED}/*.md"))
+    return sorted(os.path.relpath(it, TOP) for it in glob.glob(f"{TOP}/{INDEXED}/*.md")) + [HELP]
 
 
 def fault_of(here, name, section):
@@ -84,9 +86,12 @@ def named_in(text):
 
 
 def index_faults():
-    """Returns the sections that the index lacks: each row of its table has a page and all its headings, in their order."""
-    rows = [f"| [{os.path.basename(it).removesuffix('.md')}]({os.path.relpath(it, 'docs')}) | "
-            + ", ".join(f'"{of}"' for of in re.findall(r"^#+ (.*)$", without_code(text_of(it)), re.M)) + " |" for it in pages_of_formats()]
+    """Returns the rows that the index lacks: each row of its table has a page and all its headings, in their order."""
+    sections = {it: re.findall(r"^#+ (.*)$", without_code(text_of(it)), re.M) for it in pages_of_formats()}
+    # (the first heading of the help is its name)
+    sections[HELP] = sections[HELP][1:]
+    rows = [f"| [{os.path.basename(it).removesuffix('.md').lower()}]({os.path.relpath(it, 'docs')}) | "
+            + ", ".join(f'"{of}"' for of in names) + " |" for it, names in sections.items()]
     lines = text_of(INDEX).splitlines()
     return [f"{INDEX}: lacks the row {it}" for it in rows if it not in lines]
 

@@ -15,6 +15,7 @@
 - The synopsis of docs/formats/program.md has the commands, options and arguments of docs/HELP.md, and names the commands with --why.
 - Each link of a page leads to a file and a heading that there are, and so does each section that a page, a source or a case names as in:
   README.md, "Install" (tools/citations.py).
+- Counts of pages are right: files that a command lists, lines by layer, crates over the bounds (tools/counts.py).
 - Lines of docs/formats/ have at most 120 columns, except those of tables and of code.
 - README.md has at most 2,000 words, docs/FROM_4DIAC.md 1,200, each entry of docs/DECISIONS.md at most 80, each row of docs/maintain/PROOFS.md at most 100.
 - The version of CHANGELOG.md is that of the program, of the Python package and of the files for VS Code (tools/versions.py).
@@ -34,6 +35,7 @@ import textwrap
 
 import citations
 import clauses
+import counts
 import figures
 import package_pages
 import versions
@@ -272,7 +274,7 @@ def link_faults(page):
 def width_faults():
     """Returns the lines of docs/formats/ that are too long, except those of tables and of code."""
     faults = []
-    for page in citations.pages_of_formats():
+    for page in [it for it in citations.pages_of_formats() if it != citations.HELP]:
         code = False
         for number, line in enumerate(text_of(page).splitlines(), start=1):
             code ^= line.startswith("```")
@@ -305,7 +307,7 @@ def main():
     proved = [it for it in crates() if it != "fbsim" and not it.endswith("_tests")]
     faults = has_all("docs/maintain/ARCHITECTURE.md", crates()) + has_all("docs/maintain/PROOFS.md", proved, may_repeat=True)
     faults += module_faults() + proof_faults() + definition_faults()
-    faults += comment_faults() + block_faults() + example_faults() + length_faults() + tool_faults() + kit_faults() + versions.faults() + licence_faults() + figures.faults() + synopsis_faults() + package_pages.faults() + clauses.faults() + citations.faults(pages) + width_faults()
+    faults += comment_faults() + block_faults() + example_faults() + length_faults() + tool_faults() + kit_faults() + versions.faults() + licence_faults() + figures.faults() + synopsis_faults() + package_pages.faults() + clauses.faults() + citations.faults(pages) + counts.faults() + width_faults()
     places = [it for kind in ("src/**/*.rt", "specs/**/*.antt", "proofs/**/*.antt") for it in glob.glob(f"{TOP}/crates/*/{kind}", recursive=True)]
     known = {word for it in places for word in re.findall(r"[A-Z]\w+", text_of(os.path.relpath(it, TOP)))}
     known |= {os.path.basename(it).removesuffix(".antt") for it in places}

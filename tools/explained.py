@@ -1,8 +1,8 @@
 #!/usr/bin/env python3
-"""tools/explained.py [--write]: checks that docs/formats/ shows the program's explanations of refusals and lines of --why.
+"""tools/explained.py [--write]: checks that pages show the program's explanations of refusals and lines of --why.
 
-The explanations are in the tables of crates/fb_why/src/table.rt. With --write this writes them into refusals.md, between
-the two marks there. Each line of --why that program.md shows must be expected by a stored case or by a call of tools/calls.py. Each number
+The explanations are in the tables of crates/fb_why/src/table.rt. With --write this writes them into docs/HELP.md,
+between the two marks there. Each line of --why that docs/formats/program.md shows must be expected by a stored case or by a call of tools/calls.py. Each number
 of a refusal in the sources must have one explanation, and each explanation of a refusal must have one number. Otherwise this
 reports it and ends with status 1. ./gate runs it."""
 
@@ -18,7 +18,7 @@ from unbuilt import TABLE, entries
 # The stored cases of --why, and what they call the files of a deployment, of stimuli and of rules, which have these names on the page.
 CASES = sorted(glob.glob(f"{TOP}/cases/why*.toml"))
 NAMES = {"DEPLOY:": "plan.toml:", "STIM:": "stim.csv:", "RULES:": "cell.rules:"}
-PAGE = f"{TOP}/docs/formats/refusals.md"
+PAGE = f"{TOP}/docs/HELP.md"
 PAGE_OF_WHY = f"{TOP}/docs/formats/program.md"
 FIRST = "<!-- The explanations of crates/fb_why/src/table.rt, by tools/explained.py --write -->\n"
 LAST = "<!-- The end of the explanations -->\n"

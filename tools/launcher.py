@@ -22,7 +22,13 @@ from program import Room
 
 PROGRAM = f"{TOP}/crates/fbsim/out/fbsim"
 COMMANDS = ("", "run", "check", "session", "wave", "expect", "diff", "draw", "inspect", "coverage", "explain")
-HEAD = "# Help\n\nWhat `--help` prints, for the program and each of its commands. `tools/launcher.py --write` writes this page.\n"
+HEAD = """# Help
+
+What `--help` prints, for the program and each of its commands, and what `explain` prints.
+`tools/launcher.py --write` writes the first part, `tools/explained.py --write` the second.
+"""
+# What begins the part of docs/HELP.md that tools/explained.py keeps.
+SECOND_PART = "\n## What to look at\n"
 COMPLETIONS = ("bash-completion/completions/fbsim", "zsh/site-functions/_fbsim", "fish/vendor_completions.d/fbsim.fish")
 MANUAL = "man/man1/fbsim.1"
 # What ./simulate needs of the repository.
@@ -54,12 +60,12 @@ def printed(room, words):
 
 
 def help_page(room):
-    """Returns docs/HELP.md as the program prints its parts."""
+    """Returns docs/HELP.md as the program prints its parts, with the second part as it is."""
     blocks = []
     for command in COMMANDS:
         call = " ".join(["fbsim", *[command] * bool(command), "--help"])
         blocks.append(f"\n```console\n$ {call}\n{printed(room, call.split()[1:])}```\n")
-    return HEAD + "".join(blocks)
+    return HEAD + "".join(blocks) + SECOND_PART + unbuilt.content(unbuilt.HELP).partition(SECOND_PART)[2]
 
 
 def unnamed(texts):
@@ -270,8 +276,10 @@ def install(it):
 def main(program=PROGRAM, *words):
     """Returns the status: 0 if there are no faults."""
     if program == "--write":
-        with Room(*words or [PROGRAM]) as room, open(unbuilt.HELP, "w") as it:
-            it.write(help_page(room))
+        with Room(*words or [PROGRAM]) as room:
+            page = help_page(room)
+        with open(unbuilt.HELP, "w") as it:
+            it.write(page)
         return 0
     with tempfile.TemporaryDirectory(prefix="launcher-") as folder:
         # A call of another user enters it.
