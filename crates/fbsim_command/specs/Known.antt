@@ -15,7 +15,7 @@ use Rattle.fb_expect.specs.Patterns as patterns
 use Rattle.fb_expect.specs.declared.pattern.Condition.{Condition}
 use Rattle.fb_expect.specs.declared.pattern.Pattern.{Pattern}
 use Rattle.fb_expect.specs.Locations.{pattern_keys}
-use Rattle.fbsim_command.specs.Possible.{is_possible}
+use Rattle.fbsim_command.specs.Possible.{can_suit_all, is_possible}
 use Rattle.fb_expect.specs.declared.location.RuleKey.{RuleKey}
 use Rattle.fb_expect.specs.declared.location.RuleKey.TheVariants.{To}
 use Rattle.fb_expect.specs.declared.rule.Rule.{Rule}
@@ -49,11 +49,15 @@ event_there sys i taken event =
 
 -- ---- Patterns
 
--- whether some values of an event meet each condition, where it has these variables of an interface
-abbrev pub are_possible : List Variable → List Condition → List Name → Bool
-are_possible vs conditions names = list_all (is_possible vs names) conditions
+-- whether some values of an event meet each condition by itself, where it has these variables of an interface
+abbrev pub are_each_possible : List Variable → List Condition → List Name → Bool
+are_each_possible vs conditions names = list_all (is_possible vs names) conditions
 
--- whether a port is of a pattern, and some values of its event meet each of its conditions
+-- The same, and for each variable one value meets all conditions on it.
+abbrev pub are_possible : List Variable → List Condition → List Name → Bool
+are_possible vs conditions names = are_each_possible vs conditions names && can_suit_all vs conditions
+
+-- whether a port is of a pattern, and some values of its event meet its conditions
 unfoldable pub is_fitting : System → Pattern → (instance : ℕ) → (taken : Bool) → (event : ℕ) → Bool
 is_fitting sys p i taken event =
     patterns.is_at p (event_there sys i taken event)

@@ -1,6 +1,6 @@
 -- Whether some values of the types of variables meet a condition (docs/FORMATS.md, "The report (TAP)"; this project's own).
 use Rattle.std.specs.Prelude.{ℕ, ◌^◌, ℤ, pos, neg_ℤ, ◌-◌, int_le, int_lt, Bool, true, false, not, ◌&&◌, ◌||◌, List, Option, Some, None, option_map}
-use Rattle.std.specs.List.{find, list_any}
+use Rattle.std.specs.List.{find, list_all, list_any}
 use Rattle.fb_types.specs.Names.{Name, same_name}
 use Rattle.fb_types.specs.Values.{in_range}
 use Rattle.fb_types.specs.declared.library.Variable.{Variable}
@@ -8,6 +8,7 @@ use Rattle.fb_types.specs.declared.value.Ty.{Ty}
 use Rattle.fb_types.specs.declared.value.Ty.TheVariants.{Sint, Int, Dint, Lint, Usint, Uint, Udint, Ulint, Time, Bool as Boolean}
 use Rattle.fb_types.specs.declared.value.Value.{Value}
 use Rattle.fb_types.specs.declared.value.Value.TheVariants as value
+use Rattle.fb_expect.specs.Contradictions.{some_value, suits}
 use Rattle.fb_expect.specs.Written.{is_equation}
 use Rattle.fb_expect.specs.declared.pattern.Comparison.{Comparison}
 use Rattle.fb_expect.specs.declared.pattern.Comparison.TheVariants.{Equal, Unequal, Less, AtMost, Greater, AtLeast}
@@ -93,3 +94,18 @@ can_meet vs names variable c (operand.Variable other) =
 -- whether an event that has these variables of an interface can meet a condition
 abbrev pub is_possible : List Variable → List Name → Condition → Bool
 is_possible vs names c = is_among c.variable names && can_meet vs names c.variable c.comparison c.operand
+
+-- ---- Conditions on one variable
+
+-- whether a value is one of a type
+abbrev pub is_of_type : Ty → Value → Bool
+is_of_type t (value.Bool b) = is_truth t
+is_of_type t (value.Whole n) = not (is_truth t) && (int_le (least_of t) n && int_le n (most_of t))
+
+-- whether some value of a type suits all conditions on a variable
+abbrev pub can_suit : Ty → Name → List Condition → Bool
+can_suit t variable cs = some_value (λ v. is_of_type t v && list_all (suits variable v) cs)
+
+-- the same of each variable of an interface
+abbrev pub can_suit_all : List Variable → List Condition → Bool
+can_suit_all vs cs = list_all (λ v. can_suit v.ty v.name cs) vs

@@ -10,7 +10,7 @@ ghost use Rattle.fb_types.specs.Text.{path_text};
 ghost use Rattle.fbsim_command.specs.Known as spec;
 ghost use Rattle.fbsim_command.specs.OfSystem.{IsUnknownAt, IsUnknownKey, any_event, has_names, has_port, has_rule, is_fitting, is_of, may_have_port, ports_of};
 
-use crate::possible::is_possible;
+use crate::possible::{can_suit_all, is_possible};
 use fb_check_names::TypeNumber;
 use fb_expect::{Condition, Entry, Pattern, Rule, RuleKey, is_at, pattern_keys};
 use fb_system::System;
@@ -78,10 +78,11 @@ pub(crate) fn instance_at(system: &System, path: &[u8]) -> Option<u32>
     None
 }
 
-/// Whether some values of the variables of an event meet each condition. Its variables are those at some indexes.
-fn are_possible(conditions: &[Condition], variables: &[Variable], indexes: &[u32]) -> bool
+/// Whether some values of the variables of an event meet each condition by itself. Its variables are those at some
+/// indexes.
+fn are_each_possible(conditions: &[Condition], variables: &[Variable], indexes: &[u32]) -> bool
     requires { All (λ k. k < length variables.now) indexes.now }
-    ensures { result ≡ spec.are_possible variables.now conditions.now (map (variable_at variables.now) indexes.now) }
+    ensures { result ≡ spec.are_each_possible variables.now conditions.now (map (variable_at variables.now) indexes.now) }
 {
     for condition in conditions {
         if !is_possible(condition, variables, indexes) {
@@ -89,6 +90,14 @@ fn are_possible(conditions: &[Condition], variables: &[Variable], indexes: &[u32
         }
     }
     true
+}
+
+/// The same, and for each variable one value meets all conditions on it.
+fn are_possible(conditions: &[Condition], variables: &[Variable], indexes: &[u32]) -> bool
+    requires { All (λ k. k < length variables.now) indexes.now }
+    ensures { result ≡ spec.are_possible variables.now conditions.now (map (variable_at variables.now) indexes.now) }
+{
+    are_each_possible(conditions, variables, indexes) && can_suit_all(variables, conditions)
 }
 
 /// The path of an instance, a full stop, and the name of an event.

@@ -1,11 +1,11 @@
-//! Whether some values of the types of variables meet a condition.
+//! Whether some values of the types of variables meet a condition, and one value all conditions on a variable.
 
 ghost use Rattle.std.specs.Prelude.{◌≡◌, ◌<◌, All, length, map};
 ghost use Rattle.fb_system.specs.IndexLists.{variable_at};
 ghost use Rattle.fb_expect.specs.Written as written;
 ghost use Rattle.fbsim_command.specs.Possible as spec;
 
-use fb_expect::{Comparison, Condition, Operand};
+use fb_expect::{Comparison, Condition, Operand, has_number_within, has_truth};
 use fb_types::{Name, Ty, Value, Variable};
 
 /// The least and the greatest number of a number type; 0 twice for BOOL, which has none.
@@ -131,4 +131,27 @@ pub(crate) fn is_possible(condition: &Condition, variables: &[Variable], indexes
             None => false,
         },
     }
+}
+
+/// Whether some value of a type suits all conditions on a variable.
+fn can_suit(ty: Ty, variable: &Name, conditions: &[Condition]) -> bool
+    ensures { result ≡ spec.can_suit ty variable.now conditions.now }
+{
+    if is_truth(ty) {
+        return has_truth(variable, conditions);
+    }
+    let range = range_of(ty);
+    has_number_within(range.0, range.1, variable, conditions)
+}
+
+/// The same of each variable of an interface.
+pub(crate) fn can_suit_all(variables: &[Variable], conditions: &[Condition]) -> bool
+    ensures { result ≡ spec.can_suit_all variables.now conditions.now }
+{
+    for variable in variables {
+        if !can_suit(variable.ty, &variable.name, conditions) {
+            return false;
+        }
+    }
+    true
 }

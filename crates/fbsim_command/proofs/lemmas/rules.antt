@@ -2,3 +2,4 @@ pub mod SomeNumber
 pub mod HeldRules
 pub mod RuleNames
 pub mod Declaring
+pub mod SuitedTypes
