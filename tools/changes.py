@@ -7,7 +7,7 @@
 
 The effects are the cases of cases/changes/effects.toml, which tools/cases.py tries with the copy's program, and CALLS. An example that no
 longer applies is made again in the copy: `git diff HEAD~1 > cases/changes/NAME.patch`. The gate calls this without words, next to
-its proofs."""
+the calls of the program."""
 
 import os
 import shutil

@@ -11,7 +11,6 @@ First it installs the system packages of tools/system_packages.txt that are miss
   cause (tools/memory_answers.py)
 - tools: those that compare figures and sections of pages, install packages, and try stored cases and wrong implementations distinguish right from wrong
   (TESTS_OF_TOOLS and tools/must_fail_test.py)
-- worked examples: the patches of docs/maintain/CHANGING.md apply, build, and do what they say (tools/changes.py), next to the proofs
 - proofs, from scratch: every crate and its tests are proved, and every wrong implementation in crates/*/must-fail is refused
 - tests and programs
 - calls of the program: each status (tools/calls.py), the commands that pages of docs/ show (tools/pages.py), the suite of
@@ -287,19 +286,19 @@ class Beside:
         return status != 0
 
 
-def tell_before_the_last_line(times, looks):
-    """Has the kit's script print the times before its last line, which says how many passed and failed. Returns a call that says whether
-    one of the checks beside it has failed, and a list that gets the last line."""
+def tell_before_the_last_line(times, look):
+    """Has the kit's script print the times before its last line, which says how many passed and failed. Returns a call that counts a
+    check that has failed there, and a list that gets the last line."""
     failed, line = [], []
 
     def tell(*texts, **how):
         counts = texts and re.match(r"(\d+) passed, (\d+) failed", str(texts[0]))
         if not counts:
             return print(*texts, **how)
-        failed.extend([it.has_failed() for it in looks])
+        failed.append(look.has_failed())
         times.tell()
         passed, missed = (int(it) for it in counts.groups())
-        line.append(f"{passed + failed.count(False)} passed, {missed + failed.count(True)} failed{texts[0][counts.end() :]}")
+        line.append(f"{passed + (not failed[0])} passed, {missed + failed[0]} failed{texts[0][counts.end() :]}")
         print(*line, **how)
 
     kit.print_by(tell)
@@ -352,11 +351,11 @@ def main(words):
         print("0 passed, 1 failed")
         return 1
     with tempfile.TemporaryDirectory(prefix="gate-") as room:
-        looks = [Beside("tools/must_fail_test.py")]
+        look = Beside("tools/must_fail_test.py")
         kit.use_crates_of_the_gate(toolchain_with(room, "clang", QUICK_CLANG))
         call_after_each_run()
         share_processors()
-        (has_failed, last_line), tree = tell_before_the_last_line(Times(room), looks), package.tree()
+        (has_failed, last_line), tree = tell_before_the_last_line(Times(room), look), package.tree()
         status = ci(words, room)
         os.chdir(TOP)
         status = status or int(has_failed())
