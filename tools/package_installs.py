@@ -1,12 +1,14 @@
 """Installs the packages in an empty root of Debian's packages (tools/package_root.py), and uses them there as root and as a user.
 
 For each way to install: an example has its trace, the Python package finds the program that was installed with it, folders with a file
-fbsim.toml are tests of pytest, which pass, and of which one fails after a change of the reference, and a project in XML is imported. A
-command whose other packages are missing names them."""
+fbsim.toml are tests of pytest, which pass, and of which one fails after a change of the reference, a project in XML is imported, and the
+page of a run is written. A command whose other packages are missing names them."""
 
+import base64
 import os
 import re
 import shutil
+import zlib
 from pathlib import Path
 from typing import NamedTuple
 
@@ -17,6 +19,8 @@ from kit import TOP
 PACKAGES, FILES = "/srv/packages", "/srv/files"
 PYTHON = ("python3", "python3-venv", "python3-pytest", "python3-setuptools", "python3-wheel")
 EXTRAS = ("python3-lxml", "python3-lark", "python3-jinja2")
+# Each command with the extra that it needs, and with the packages of that as pip calls them.
+COMMANDS = {"fbsim-import": ("import", ("lxml", "lark", "jinja2")), "fbsim-page": ("page", ("lark", "jinja2"))}
 MISSING = "{}: the extra {} is missing ({}): install it by `pip install \"fbsim[{}]\"`, or on Debian by `apt install {}`\n"
 # (the example has one run, and two rules, each of which is a test of its own and one of whether it applied)
 BENCH = """decl = "conveyor.iec"
@@ -77,11 +81,23 @@ def faults_of_import(root, way):
     yield from expect(root, way, ["sh", "-c", f"rm -rf {to} && {way.bin}/fbsim-import Parcels.sys --lib lib --latency 5 --out {to}"], (0, None), way, folder=f"{FILES}/parcels")
 
 
+def faults_of_page(root, way):
+    """Writes the page of a run, and yields what is wrong with it."""
+    to = f"{'/tmp' if way.is_root else HOME}/run.html"
+    words = f"{way.bin}/fbsim-page conveyor.iec trace --deploy deploy.toml --rules conveyor.rules --out {to} && cat {to}"
+    status, said = root.run(["sh", "-c", words], way.is_root, folder=f"{FILES}/conveyor")
+    data = re.search(r'(?s)\A<!doctype html>.* id="data">([\w+/=]+)</script>.*</html>\s*\Z', said)
+    # (the data are packed, and name the instances of the application)
+    if status or not data or not all(it in zlib.decompress(base64.b64decode(data[1])) for it in (b"BEHIND", b"GATE", b"the belt stops")):
+        yield f"{way}: {words}: status {status}: {said[-1000:]}"
+
+
 def faults_of_missing(root, way):
-    """Yields a fault if a command whose other packages are missing does not name them."""
-    debian = " ".join(EXTRAS)
-    wanted = 5, MISSING.format("fbsim-import", "import", debian.replace("python3-", "").replace(" ", ", "), "import", debian)
-    yield from expect(root, way, [f"{way.bin}/fbsim-import", "--help"], wanted, way)
+    """Yields a fault for each command that does not name the packages that it lacks."""
+    for command, (extra, packages) in COMMANDS.items():
+        debian = " ".join(f"python3-{it}" for it in packages)
+        wanted = 5, MISSING.format(command, extra, ", ".join(packages), extra, debian)
+        yield from expect(root, way, [f"{way.bin}/{command}", "--help"], wanted, way)
 
 
 def put_files(root, made):
@@ -145,6 +161,7 @@ def faults(made, version, folder):
     # With the other packages.
     root.add(*EXTRAS)
     for way in [*ways, Way("the wheel", "/opt/env/bin", "/opt/env/bin/python", "/opt/env/bin/fbsim", True)]:
-        yield from faults_of_import(root, way)
+        for look in (faults_of_import, faults_of_page):
+            yield from look(root, way)
     yield from expect(root, "the packages for Debian", ["dpkg", "--purge", "python3-fbsim", "fbsim"], (0, None), ways[0], folder="/")
     yield from expect(root, "after dpkg --purge", ["sh", "-c", "find /usr /var /etc -path /var/log -prune -o -print | grep -i fbsim"], (1, ""), ways[0], folder="/")

@@ -95,7 +95,7 @@ class Root:
         listed = subprocess.run(["dpkg-query", "-L", *new], check=True, capture_output=True, text=True).stdout.splitlines()
         # (what only root reads is a folder for later)
         paths = {without_links(it)[1:] for it in listed if it.startswith("/") and it != "/." and (os.path.islink(it) or os.access(it, os.R_OK))}
-        paths |= {it[1:] for name in new for it in glob.glob(f"{INFO}/{name}.*") + glob.glob(f"{INFO}/{name}:*.*")}
+        paths |= {it[1:] for it in glob.glob(f"{INFO}/*.*") if os.path.basename(it).rpartition(".")[0].partition(":")[0] in new}
         packing = subprocess.Popen(["tar", "-C", "/", "--no-recursion", "--null", "-T", "-", "-cf", "-"], stdin=subprocess.PIPE, stdout=subprocess.PIPE)
         unpacking = subprocess.Popen(["tar", "-C", self.folder, "--no-same-owner", "-p", "-xf", "-"], stdin=packing.stdout)
         packing.stdout.close()
