@@ -252,6 +252,36 @@ def test_rules_over_a_trace_that_ends_with_a_stop(tmp_path):
     ]
 
 
+@pytest.mark.parametrize("line, fault", [
+    ("PLANT < GATE.LIFT TAKEN=1", "there is no resource PLANT"), ("LINE < GATES.LIFT", "there is no instance GATES"),
+    ("STATION < GATE.LEFT", "GATE has no event output LEFT"), ("STATION > GATE.LIFT", "these are event outputs"),
+    ("STATION < GATE.LIFT TAKES=1", "LIFT has no variable TAKES"),
+])
+def test_a_trace_of_another_application_is_a_fault(tmp_path, line, fault):
+    """Where a file is read with an application: no line of it would be what a pattern is of."""
+    trace_in(tmp_path, "1 LINE < POWER.COLD", f"5 {line}", "end 9")
+    other = fbsim.Trace(tmp_path / "some.trace", example_in(EXAMPLES / "conveyor").application)
+    rules = EXAMPLES / "conveyor" / "conveyor.rules"
+    calls = [
+        lambda: other.where("* < BELT.EO"), lambda: other.signal("GATE.TAKEN"), lambda: other.expect(rules),
+        lambda: other.latencies("* < BELT.EO", "* > BELT.S"),
+    ]
+    for call in calls:
+        with pytest.raises(fbsim.InputFault, match=f"some.trace is no trace of the application: .*{fault}"):
+            call()
+    assert other.count() == 2
+
+
+def test_a_trace_of_many_ports_is_asked_in_parts(tmp_path, monkeypatch, conveyor):
+    monkeypatch.setattr("fbsim.patterns.MOST_RULES", 3)
+    application, path = conveyor.application, tmp_path / "some.trace"
+    conveyor.save(path)
+    assert fbsim.Trace(path, application).where("* < GATE.LIFT").count() == 2
+    path.write_text(path.read_text().replace("STATION > WORK.START", "STATION > WORK.STAR"))
+    with pytest.raises(fbsim.InputFault, match="WORK has no event input STAR"):
+        fbsim.Trace(path, application).where("* < GATE.LIFT")
+
+
 def test_rules_over_a_text_that_is_no_trace(tmp_path):
     (tmp_path / "some.rules").write_text('[[rule]]\nname = "x"\nnever = "* < *"\n')
     with pytest.raises(fbsim.Refused) as caught:

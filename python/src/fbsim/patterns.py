@@ -31,6 +31,8 @@ COMPARISONS: dict[str, Callable[[Any, Any], bool]] = {
     "=": operator.eq, "<>": operator.ne, "<": operator.lt, "<=": operator.le, ">": operator.gt, ">=": operator.ge
 }
 MOST = 2**64 - 1
+# How many rules one call of the program has here: it takes 1,000, and 1 MiB of text.
+MOST_RULES = 500
 UPPER = str.maketrans(string.ascii_lowercase, string.ascii_uppercase)
 
 
@@ -146,35 +148,48 @@ class Pattern:
 
 
 @lru_cache(maxsize=4096)
-def unknown(words: tuple[str, ...], _: tuple[object, ...], pattern: str) -> str | None:
-    """Returns which name of a pattern an application does not have, as the program says it, or None."""
+def unknown(words: tuple[str, ...], _: tuple[object, ...], *patterns: str) -> str | None:
+    """Returns the first of these patterns with a name that an application does not have, and which, or None."""
     with temporary_folder() as folder:
+        rules = [f'[[rule]]\nname = "{k}"\nnever = "{it}"\n' for k, it in enumerate(patterns)]
         write(folder / "trace", "end 1\n")
-        write(folder / "rules", f'[[rule]]\nname = "x"\nnever = "{pattern}"\n')
+        write(folder / "rules", "".join(rules))
         try:
             call(["expect", str(folder / "rules"), str(folder / "trace"), "--why", "--decl", *words])
         except Refused as it:
             if it.number != "E45":
                 raise
-            return it.text.partition('": never: ')[2].partition('": ')[2]
+            return it.text.partition('": never: ')[2]
     return None
 
 
-def ask(application: Application | None, pattern: str) -> str | None:
+def ask(application: Application | None, *patterns: str) -> str | None:
     """Returns what `unknown` does for the files as they are now."""
     if application is None:
         return None
     words = tuple(application.words)
     files = [Path(it) for it in words if not it.startswith("--")]
     stamps = tuple((it.stat().st_mtime_ns, it.stat().st_size) for it in files if it.is_file())
-    return unknown(words, stamps, pattern)
+    return unknown(words, stamps, *patterns)
 
 
 def ask_patterns(application: Application | None, patterns: Iterable[str]) -> None:
     """Raises an InputFault if a pattern has a name that nothing of the application has."""
     for it in patterns:
         if (fault := ask(application, it)) is not None:
-            raise InputFault(f'"{it}": {fault}')
+            raise InputFault(fault)
+
+
+def ask_lines(application: Application, lines: Iterable[Line], name: str) -> None:
+    """Raises an InputFault if an application has no such port, or variable of it, as one of the lines has."""
+    found = dict.fromkeys((it[1:5], tuple(word.partition("=")[0] for word in it.words.split())) for it in lines)
+    patterns = [
+        f"{resource} {sign} {instance}.{event}" + "".join(f" {it}={it}" for it in variables)
+        for (resource, sign, instance, event), variables in found
+    ]
+    for at in range(0, len(patterns), MOST_RULES):
+        if (fault := ask(application, *patterns[at:at + MOST_RULES])) is not None:
+            raise InputFault(f"{name} is no trace of the application: {fault}")
 
 
 def ask_pair(application: Application | None, patterns: Iterable[str], pair: str) -> None:

@@ -21,7 +21,7 @@ from fbsim import figures
 from fbsim.extras import needed
 from fbsim.faults import FileFault, InputFault, ProgramFault, RulesBroken, Stop, needs, of_system, texts_of
 from fbsim.latencies import Latencies, paired
-from fbsim.patterns import NAME, PORT, Pattern, ask_pair, ask_patterns, ask_signal
+from fbsim.patterns import NAME, PORT, Pattern, ask_lines, ask_pair, ask_patterns, ask_signal
 from fbsim.program import call
 from fbsim.stimuli import FileName, Stimuli, Value, file_name
 
@@ -193,8 +193,12 @@ class Lines(ABC):
     def pattern_of(self, text: str) -> Pattern:
         """Returns the pattern that a text is."""
         made = Pattern(text)
-        ask_patterns(self.application, [text])
+        ask_patterns(self.its_application(), [text])
         return made
+
+    def its_application(self) -> Application | None:
+        """Returns the application that these are lines of, if that is known."""
+        return self.application
 
     def count(self) -> int:
         """Returns how many lines there are."""
@@ -213,7 +217,7 @@ class Lines(ABC):
             instance, _, variable = name.upper().rpartition(".")
             if not PORT.fullmatch(name.upper()):
                 raise InputFault(f"{name} is no signal: it is INSTANCE.VARIABLE, as GATE.TAKEN")
-            ask_signal(self.application, instance, variable)
+            ask_signal(self.its_application(), instance, variable)
             wanted.setdefault(instance, []).append((variable, signal))
         for line in self:
             for variable, signal in wanted.get(line.instance, ()):
@@ -263,7 +267,7 @@ class Trace(Lines):
     """A trace in a file, which may be read any number of times.
 
     `Application.run` makes one whose file is temporary, and removed with the trace. `Trace("shift.trace")` is one of
-    yours; with `application`, rules over it may name only what the application has.
+    yours; with `application`, its lines, patterns and rules over it may name only what the application has.
     """
 
     def __init__(self, path: str | os.PathLike[str], application: Application | None = None) -> None:
@@ -271,7 +275,7 @@ class Trace(Lines):
             raise InputFault(f"{application!r} is not an application")
         self.path, self.application, self.where_stopped = Path(file_name(path, "a trace")), application, ""
         # Whether the program wrote the file for this trace, and else its state when it was last read to its end.
-        self.is_own, self.known = False, (0, 0, 0)
+        self.is_own, self.known, self.is_asked = False, (0, 0, 0), False
         #: The limit of steps of its run, if it was given one.
         self.steps: int | None = None
         #: What the program warned of in the run: rows of stimuli at or beyond the horizon.
@@ -285,6 +289,13 @@ class Trace(Lines):
             about = os.fstat(texts.fileno())
             yield from lines_of(texts, str(self.path))
         self.known = about.st_ino, about.st_mtime_ns, about.st_size
+
+    def its_application(self) -> Application | None:
+        """Returns its application, which must have what the lines of the file have. That is asked once."""
+        if self.application is not None and not self.is_own and not self.is_asked:
+            ask_lines(self.application, self, str(self.path))
+            self.is_asked = True
+        return self.application
 
     def opened(self) -> TextIOWrapper:
         """Opens the file, or raises the FileFault of one that can't be read."""
@@ -352,6 +363,7 @@ class Trace(Lines):
         With `strict`, a rule that is undecided or never applied counts as broken, and any of a trace that ends with a
         stop.
         """
+        self.its_application()
         report = check_rules(self, rules, strict)
         if report.broken:
             raise RulesBroken(report)
