@@ -29,7 +29,7 @@ MODULES = {
     "setuptools": "python3-setuptools", "ensurepip": "python3-venv", "mypy": "mypy", "flake8": "flake8", "selenium": "python3-selenium",
 }
 # Folders of the package, with the lines of Python that each may have.
-MOST_LINES = {"fbsim": 3_580, "fbsim/importer": 4_960, "fbsim/page": 1_100}
+MOST_LINES = {"fbsim": 3_700, "fbsim/importer": 4_960, "fbsim/page": 1_100}
 SECONDS = 1_200
 
 

@@ -198,6 +198,24 @@ def test_a_plot_marks_broken_variants(tmp_path):
     assert sweep({THERE: [4, 14]}, latencies={"stopping": STOPPING}).plot().axes[0].get_ylabel() == "stopping.most"
 
 
+def test_two_parameters_make_a_map(tmp_path):
+    found = sweep({THERE: [4, 14, 16], BACK: [5, 6]}, rules=RULES, latencies={"stopping": STOPPING})
+    figure = found.plot()
+    (cells,) = figure.axes[0].collections
+    places = [path.get_extents().extents.tolist() for path in cells.get_paths()]
+    # (a cell ends halfway to its neighbours: that of 4 and that of 14 at 9, that of 14 and that of 16 at 15)
+    assert places[::2] == [[-1, 4.5, 9, 5.5], [9, 4.5, 15, 5.5], [15, 4.5, 17, 5.5]]
+    assert len({tuple(it) for it in cells.get_facecolor()}) == 2
+    assert figure._suptitle.get_text().startswith("6 variants: ")
+    figure = found.plot(colour="stopping.most")
+    assert figure.axes[1].get_ylabel() == "stopping.most [ms]"
+    assert list(figure.axes[0].collections[0].get_array()) == found.frame()["stopping.most"].tolist()
+    figure.savefig(tmp_path / "some.png")
+    with pytest.raises(fbsim.InputFault, match="there is no column 'nope'"):
+        found.plot(colour="nope")
+    assert not found.plot(y="stopping.most").axes[0].collections
+
+
 def test_jitter_is_a_table_within_its_bounds():
     one, same, other = (fbsim.jitter(1, 40, changes=8, seed=seed).table(1000) for seed in (3, 3, 4))
     assert one == same != other

@@ -141,6 +141,27 @@ def test_a_plot_draws_each_signal_as_steps(conveyor, tmp_path):
         conveyor.plot([])
 
 
+def test_a_plot_draws_states_as_bands(conveyor):
+    # (docs/formats/trace.md has these transitions)
+    states = conveyor.states("gate")
+    assert (states.ticks[:6], states.ticks[-1]) == ([0, 104, 184, 434, 434, 434], 754)
+    assert states.names[:6] == ["SHUT", "LIFTED", "WORKING", "DONE", "SHUT", "LIFTED"]
+    figure = conveyor.plot(["BELT.Q"], states=["GATE"])
+    assert [it.get_ylabel() for it in figure.axes] == ["BELT.Q", "GATE"]
+    assert figure._suptitle.get_text() == "Signals of conveyor.iec" and figure.axes[-1].get_xlabel() == "tick [ms]"
+    bands = figure.axes[1].collections
+    assert [it.get_label() for it in bands] == ["SHUT", "LIFTED", "WORKING", "DONE"]
+    # SHUT is there up to the first parcel, for no time at tick 434, and from tick 754 to the end of the run.
+    spans = [(path.vertices[:, 0].min(), path.vertices[:, 0].max()) for path in bands[0].get_paths()]
+    assert spans == [(0, 104), (434, 434), (754, 800)]
+    assert conveyor.plot([], states=["GATE"], title="The gate")._suptitle.get_text() == "The gate"
+    for wrong, fault in (("WORK", "WORK has no states"), ("NOBODY", "there is no instance NOBODY")):
+        with pytest.raises(fbsim.InputFault, match=fault):
+            conveyor.states(wrong)
+    with pytest.raises(fbsim.InputFault, match="only a trace that knows its application"):
+        conveyor.where("* * *").states("GATE")
+
+
 def test_traces_are_the_same_if_their_bytes_are(conveyor, tmp_path):
     conveyor.save(tmp_path / "same.trace")
     same = fbsim.Trace(tmp_path / "same.trace")

@@ -243,13 +243,16 @@ class Sweep:
         """Returns a pandas data frame: a row for each variant; parameters, end, each rule, statistics of latencies."""
         return figures.frame_of_sweep(self.rows)
 
-    def plot(self, x: str | None = None, y: str | None = None) -> Figure:
+    def plot(self, x: str | None = None, y: str | None = None, colour: str | None = None) -> Figure:
         """Returns a figure of two columns of the frame, in which broken, stopped and failed variants are marked.
 
-        They are by default the first two parameters, or a single parameter and the greatest of the first latencies.
+        They are by default the first two parameters, or a single parameter and the greatest of the first latencies. Two
+        parameters make a map, whose colours are those of the states, or of the column `colour`, as `stopping.most`.
         """
         names = [*self.plan.names, *(f"{it}.most" for it in self.plan.latencies), "end"]
-        return figures.points(self.frame(), [it.state for it in self.rows], x or names[0], y or names[1])
+        x, y = x or names[0], y or names[1]
+        is_map = {x, y} <= {*self.plan.names}
+        return figures.points(self.frame(), [it.state for it in self.rows], x, y, colour, is_map)
 
 
 def choose(lists: Sequence[Sequence[object]], sample: int | None, seed: int) -> Iterator[Chosen]:

@@ -77,6 +77,13 @@ class Signal(NamedTuple):
         return bool(self.ticks)
 
 
+class States(NamedTuple):
+    """The states that a basic block enters, and their ticks."""
+
+    ticks: list[int]
+    names: list[str]
+
+
 # What a line has after its tick, and its last line (docs/formats/trace.md, "What is no trace").
 HEAD = re.compile(
     rf"({NAME}) ([<>]) ({NAME}(?:\.{NAME})*)\.({NAME})((?: {NAME}=(?:TRUE|FALSE|0|-?[1-9][0-9]*))*)\n", re.ASCII
@@ -241,9 +248,33 @@ class Lines(ABC):
         """Returns a pandas data frame: a row for each line, a column for each part and for each variable."""
         return figures.frame_of_lines(self)
 
-    def plot(self, names: Sequence[str]) -> Figure:
-        """Returns a figure of matplotlib that draws variables as steps over ticks."""
-        return figures.steps(self.signals(names), getattr(self, "end", None))
+    def plot(self, names: Sequence[str], *, states: Sequence[str] = (), title: str | None = None) -> Figure:
+        """Returns a figure of matplotlib that draws variables as steps over ticks, and states of blocks as bands."""
+        them = {it: self.states(it) for it in texts_of(states, "blocks")}
+        signals = self.signals(names) if names or not them else {}
+        what = "" if self.application is None else f" of {Path(self.application.declaration).name}"
+        return figures.steps(signals, them, getattr(self, "end", None), f"Signals{what}" if title is None else title)
+
+    def states(self, instance: str) -> States:
+        """Returns the states that a basic block enters, the initial one at tick 0, as `fbsim inspect` shows them."""
+        if not isinstance(self, Trace) or self.application is None:
+            raise InputFault("only a trace that knows its application has states")
+        needs(instance, str, "the path of a block")
+        with self.application.session() as session:
+            session.ask(f"show {instance}")
+        initial = session.answer.partition(" ")[2].partition(" ")[0]
+        if not re.fullmatch(NAME, initial):
+            raise InputFault(f"{instance} has no states: it is no basic block")
+        found, tick = States([0], [initial]), 0
+        for line in self.application.inspect(self, only=instance.upper()).splitlines()[:-1]:
+            before, arrow, rest = line.partition(" -> ")
+            if not line.startswith("  "):
+                words = line.split(" ")
+                tick = int(words[3] if words[1].isdigit() else words[0])
+            elif arrow:
+                found.ticks.append(tick)
+                found.names.append(rest.partition(" by ")[0])
+        return found
 
 
 class Selection(Lines):
