@@ -117,6 +117,16 @@ def test_strict_wants_each_rule_decided_in_each_scenario(room):
     room.run().assert_outcomes(passed=7, failed=1, skipped=1)
 
 
+@pytest.mark.parametrize("key, failed", [("", 1), ('stop = "434 STATION steps"\n', 0)])
+def test_a_rule_of_a_run_that_stopped_is_not_shown_to_hold(room, key, failed):
+    """Also where its test alone is selected. It was decided before the stop, and could break after it."""
+    room.change("fbsim.toml", 'reference = "trace"\n', f"steps = 5\n{key}")
+    result = room.run("-k", "parcels and belt")
+    result.assert_outcomes(passed=1 - failed, failed=failed, deselected=9)
+    if failed:
+        result.stdout.fnmatch_lines(["the run stopped, so nobody knows whether *", "stop 434 STATION steps"])
+
+
 def test_rows_that_the_run_does_not_take_are_shown(room):
     # Of the seven rows, those of 186, 460, 470 and 500 are late.
     room.write("fbsim.toml", BENCH.replace("horizon = 800", "horizon = 186").replace('reference = "trace"\n', ""))

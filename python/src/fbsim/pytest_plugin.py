@@ -176,9 +176,12 @@ class ScenarioTests(pytest.Collector):
 
     def test_rule(self, at: int, item: pytest.Item) -> None:
         """Tests whether a rule holds. It is skipped if the trace does not decide it, unless the scenario is strict."""
-        verdict = self.as_judged(self.found(item).report().verdicts[at])
+        found = self.found(item)
+        verdict = self.as_judged(found.report().verdicts[at])
         if verdict.verdict == "broken":
             raise RulesBroken(Report((verdict,)))
+        if found.stop and self.scenario.status == 0:
+            raise Fault(f"the run stopped, so nobody knows whether the rule holds up to its horizon:\n{found.stop}")
         if verdict.verdict != "kept":
             raise pytest.skip.Exception(reason_of(verdict), _use_item_location=True)
 
