@@ -6,6 +6,7 @@
   as the page says.
 - The table of lines by layer in docs/maintain/ARCHITECTURE.md, and the crates over the bounds in CONTRIBUTING.md, are off by at most a
   twentieth. --write counts both anew.
+- No more lines of src/ and specs/ are wider than 120 columns than CONTRIBUTING.md says. --write takes fewer in.
 
 tools/documents.py calls this; the tables are renewed when they are off, not with each change."""
 
@@ -31,6 +32,9 @@ KINDS = {"src": "rt", "specs": "antt", "proofs": "antt"}
 TOLERANCE = 0.05
 TABLE = re.compile(r"^Lines on (\d{4}-\d\d-\d\d), by layer:\n\n(?:\|.*\n)+", re.M)
 OVER = re.compile(r"^On (\d{4}-\d\d-\d\d)\s+these\s+are\s+over\s+it:\s+[^.]*\.\n", re.M)
+# What CONTRIBUTING.md says of lines that are too wide.
+WIDE = re.compile(r"^On (\d{4}-\d\d-\d\d),\s+[\d,]+\s+lines\s+of\s+`src/`\s+and\s+[\d,]+\s+of\s+`specs/`\s+are\s+wider.\n", re.M)
+MOST_COLUMNS = 120
 LAYER = re.compile(r"^ (.{14}) ((?:fb\w+)(?:, fb\w+)*)(?: .*)?$", re.M)
 
 
@@ -69,10 +73,20 @@ def listing_faults() -> Iterator[str]:
         yield f"{CHANGING}: no `grep -rl ..` lists files"
 
 
+def texts_of(crate: str, kind: str) -> Iterator[str]:
+    """Yields the texts of a crate's src, specs or proofs."""
+    places = glob.glob(f"{TOP}/crates/{crate}/{kind}/**/*.{KINDS[kind]}", recursive=True)
+    return (text_of(os.path.relpath(it, TOP)) for it in places if os.path.isfile(it))
+
+
 def lines_of(crate: str, kind: str) -> int:
     """Returns the lines of a crate's src, specs or proofs."""
-    places = glob.glob(f"{TOP}/crates/{crate}/{kind}/**/*.{KINDS[kind]}", recursive=True)
-    return sum(text_of(os.path.relpath(it, TOP)).count("\n") for it in places if os.path.isfile(it))
+    return sum(it.count("\n") for it in texts_of(crate, kind))
+
+
+def wide_lines(kind: str) -> int:
+    """Returns how many lines of all crates are wider than MOST_COLUMNS."""
+    return sum(len(line) > MOST_COLUMNS for text in texts_of("*", kind) for line in text.split("\n"))
 
 
 def layers() -> dict[str, list[str]]:
@@ -115,6 +129,32 @@ def over_of(day: str) -> str:
     return "\n".join([*made, line]) + "\n"
 
 
+def wide_said(sentence: str) -> list[int]:
+    """Returns what the sentence about lines that are too wide says: how many of src and of specs."""
+    return [int(it.replace(",", "")) for it in re.findall(r"\b\d[\d,]*(?= lines| of)", sentence)]
+
+
+def wide_of(day: str) -> str:
+    """Returns the sentence about lines that are too wide, with the counts of now or, if they are less, those that it has."""
+    shown = WIDE.search(text_of(CONTRIBUTING))
+    now = [wide_lines("src"), wide_lines("specs")]
+    src, specs = (min(pair) for pair in zip(now, wide_said(shown[0]) if shown else now))
+    return f"On {day}, {src:,} lines of `src/` and {specs:,} of `specs/` are wider.\n"
+
+
+def wide_faults() -> Iterator[str]:
+    """Yields what is wrong with the count of lines that are too wide: it may only fall."""
+    shown = WIDE.search(text_of(CONTRIBUTING))
+    if not shown:
+        yield f"{CONTRIBUTING}: does not say how many lines are wider than {MOST_COLUMNS} columns"
+        return
+    for kind, most in zip(("src", "specs"), wide_said(shown[0])):
+        if (count := wide_lines(kind)) > most:
+            yield f"{count - most} lines more of {kind}/ than before are wider than {MOST_COLUMNS} columns: break them"
+        elif count < (1 - TOLERANCE) * most:
+            yield f"{CONTRIBUTING}: only {count} lines of {kind}/ are wider than {MOST_COLUMNS} columns: tools/counts.py --write"
+
+
 TABLES = ((ARCHITECTURE, TABLE, table_of), (CONTRIBUTING, OVER, over_of))
 
 
@@ -136,13 +176,13 @@ def table_faults() -> Iterator[str]:
 
 
 def faults() -> list[str]:
-    return [*word_faults(), *listing_faults(), *table_faults()]
+    return [*word_faults(), *listing_faults(), *table_faults(), *wide_faults()]
 
 
 def write() -> None:
     """Counts the tables anew."""
     today = datetime.datetime.now(datetime.UTC).date().isoformat()
-    for page, form, counted in TABLES:
+    for page, form, counted in (*TABLES, (CONTRIBUTING, WIDE, wide_of)):
         text, count = form.subn(lambda _, made=counted(today): made, text_of(page))  # type: ignore[misc]
         if count != 1:
             sys.exit(f"{page} has {count} tables of counts, and is to have one")

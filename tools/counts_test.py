@@ -17,6 +17,9 @@ CHANGES = (
     (counts.ARCHITECTURE, r"\n stops          fb_stop\n", "\n", "off by more than a twentieth"),
     (counts.CONTRIBUTING, r"`fbsim_command` \(\d+,", "`fbsim_command` (9,", "off by more than a twentieth"),
     (counts.CONTRIBUTING, r"`fb_expect` \(", "`fb_link` (", "off by more than a twentieth"),
+    (counts.CONTRIBUTING, r"[\d,]+ lines of `src/`", "9 lines of `src/`", "lines more of src/ than before"),
+    (counts.CONTRIBUTING, r"and [\d,]+ of `specs/`", "and 9,999 of `specs/`", "lines of specs/ are wider"),
+    (counts.CONTRIBUTING, r"of `specs/` are wider", "of `specs/` are too wide", "does not say how many lines are wider"),
     ("docs/PROFILE.md", r"\A", "word " * counts.MOST_WORDS_OF_DOCS, "and is to have at most"),
 )
 
