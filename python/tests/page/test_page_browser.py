@@ -87,6 +87,11 @@ def test_search_finds_the_lines_of_a_pattern(browser, shift):
         found = browser.run("page.find(arguments[0]); return page.found", pattern)
         wanted = [str(it) for it in trace.where(pattern)]
         assert [lines[it - 1] for it in found] == wanted and wanted
+    browser.run("page.go(0); page.find('PACKING < *.CHANGED'); page.nextHit(1)")
+    count = trace.where("PACKING < *.CHANGED").count()
+    assert browser.text("#hits") == f"2 of {count}"
+    browser.run("page.go(0)")
+    assert browser.text("#hits") == f"{count} lines"
     browser.run("page.find('* > NOBODY.X')")
     assert browser.text("#hits") == "0 lines"
     browser.run("page.find('PACKING * ')")

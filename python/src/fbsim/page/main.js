@@ -174,7 +174,7 @@ class Page {
     this.lanes.hits = this.found;
     this.lanes.draw();
     for (const id of ["previous-hit", "next-hit"]) byId(id).disabled = !this.found.length;
-    if (this.found.length && !this.lines.hits.has(this.position)) this.nextHit(1); else this.lines.fill();
+    if (this.found.length && !this.lines.hits.has(this.position)) this.nextHit(1); else { this.lines.fill(); this.showHits(); }
   }
 
   // Goes to the next line that was found, or the one before, round the end.
@@ -183,7 +183,14 @@ class Page {
     const after = this.found.findIndex((it) => it > this.position);
     const number = way > 0 ? after : this.found.findLastIndex((it) => it < this.position);
     this.go(this.found[number < 0 ? (way > 0 ? 0 : this.found.length - 1) : number]);
-    byId("hits").textContent = `${this.found.indexOf(this.position) + 1} of ${this.found.length.toLocaleString("en")}`;
+  }
+
+  // Says which of the lines that were found the position is, or how many there are.
+  showHits() {
+    if (!this.found.length) return;
+    const count = this.found.length.toLocaleString("en");
+    const isHit = this.lines.hits.has(this.position);
+    byId("hits").textContent = isHit ? `${this.found.indexOf(this.position) + 1} of ${count}` : `${count} lines`;
   }
 
   go(position) {
@@ -197,6 +204,7 @@ class Page {
     byId("first").disabled = byId("back").disabled = this.position === 0;
     byId("forward").disabled = byId("last").disabled = this.position === run.length;
     this.now();
+    this.showHits();
     this.picture.show(this.position, state);
     this.lines.show(this.position);
     this.lanes.show(this.position, state);
