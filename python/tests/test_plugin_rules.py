@@ -127,6 +127,15 @@ def test_a_rule_of_a_run_that_stopped_is_not_shown_to_hold(room, key, failed):
         result.stdout.fnmatch_lines(["the run stopped, so nobody knows whether *", "stop 434 STATION steps"])
 
 
+def test_the_coverage_of_a_run_that_stopped_is_not_known(room):
+    room.change("fbsim.toml", 'reference = "trace"\n', "steps = 5\n")
+    room.change("fbsim.toml", "horizon = 50\n", "horizon = 50\nsteps = 5\n")
+    room.write("fbsim.toml", "coverage = 1\n" + (room.path / "fbsim.toml").read_text())
+    result = room.run("-k", "coverage")
+    result.assert_outcomes(failed=1, deselected=10)
+    result.stdout.fnmatch_lines(["two parcels: its run failed, so nobody knows what it covers"])
+
+
 def test_rows_that_the_run_does_not_take_are_shown(room):
     # Of the seven rows, those of 186, 460, 470 and 500 are late.
     room.write("fbsim.toml", BENCH.replace("horizon = 800", "horizon = 186").replace('reference = "trace"\n', ""))

@@ -88,6 +88,7 @@ class BenchFile(ByText, pytest.File):  # type: ignore[misc]
         for scenario in self.scenarios:
             try:
                 found.append(scenario.found(item))
+                scenario.must_not_have_stopped(found[-1], "what it covers")
             except Fault as fault:
                 raise Fault(f"{scenario.name}: its run failed, so nobody knows what it covers") from fault
         check_coverage(self.bench, [it.trace for it in found if it.trace is not None])
@@ -163,6 +164,11 @@ class ScenarioTests(pytest.Collector):
             broken = [str(found.report.fault)] if found.report.fault else self.failing(found.report())
             bless(wanted.reference, found.trace, item, found.difference, broken)
 
+    def must_not_have_stopped(self, found: Findings, what: str) -> None:
+        """Raises a fault if the run stopped and was not to stop: nobody knows something of it."""
+        if found.stop and self.scenario.status == 0:
+            raise Fault(f"the run stopped, so nobody knows {what}:\n{found.stop}")
+
     def as_judged(self, verdict: Verdict) -> Verdict:
         """Returns a verdict, as a broken one if the scenario is strict and the rule must be decided."""
         may_wait = verdict.verdict == "never applied" and verdict.rule in self.bench.unapplied
@@ -180,8 +186,7 @@ class ScenarioTests(pytest.Collector):
         verdict = self.as_judged(found.report().verdicts[at])
         if verdict.verdict == "broken":
             raise RulesBroken(Report((verdict,)))
-        if found.stop and self.scenario.status == 0:
-            raise Fault(f"the run stopped, so nobody knows whether the rule holds up to its horizon:\n{found.stop}")
+        self.must_not_have_stopped(found, "whether the rule holds up to its horizon")
         if verdict.verdict != "kept":
             raise pytest.skip.Exception(reason_of(verdict), _use_item_location=True)
 
