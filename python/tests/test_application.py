@@ -11,7 +11,8 @@ import numpy
 import pandas
 import pytest
 from common import (
-    ALL, CYCLE, EXAMPLES, RING, application, example_in, has_ended, interpreter, processor_time, program, second_trace
+    ALL, CYCLE, EXAMPLES, RING, application, example_in, has_ended, interpreter, processor_time, program, second_trace,
+    trace_in
 )
 
 import fbsim
@@ -371,7 +372,8 @@ def test_rows_that_a_run_does_not_take_are_warned_of(tmp_path):
 
 CALLS = [
     lambda app: app.run(horizon=9), lambda app: list(app.stream(horizon=9)), lambda app: app.session(),
-    lambda app: app.sweep({"steps": [9]}, horizon=9), lambda app: fbsim.Trace("x", app).where("* < C.EO"),
+    lambda app: app.sweep({"steps": [9]}, horizon=9),
+    lambda app: fbsim.Trace(trace_in(app.declaration.parent, "end 9").path, app).where("* < C.EO"),
     lambda app: fbsim.check_sequence("E_SR", [["S", "EO Q=TRUE"]]),
 ]
 
