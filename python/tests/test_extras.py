@@ -51,7 +51,8 @@ def test_a_call_names_the_extra_that_is_missing(extra, package, call, tmp_path, 
     assert ran.stderr.splitlines()[-1] == f"fbsim.faults.Fault: {missing(extra, [package])}"
 
 
-def test_the_manual_page_has_each_option(top):
+def test_the_manual_page_has_each_option(top, monkeypatch):
+    monkeypatch.setenv("PYTHONPATH", str(top / "python" / "src"))
     for command, (module, _, _) in COMMANDS.items():
         words = [sys.executable, "-B", "-m", module, "--help"]
         usage = subprocess.run(words, capture_output=True, text=True, check=True).stdout.partition("\n\n")[0]
