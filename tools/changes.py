@@ -6,7 +6,8 @@
     python3 -B tools/changes.py --copy DIR    makes the copy in DIR and leaves it there, as a repository with a commit for each example
 
 The effects are the cases of cases/changes/effects.toml, which tools/cases.py tries with the copy's program, and CALLS. An example that no
-longer applies is made again in the copy: `git diff HEAD~1 > cases/changes/NAME.patch`. The gate does not call this."""
+longer applies is made again in the copy: `git diff HEAD~1 > cases/changes/NAME.patch`. The gate calls this without words, next to
+the calls of the program."""
 
 import os
 import shutil

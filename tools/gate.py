@@ -13,6 +13,7 @@ First it installs the system packages of tools/system_packages.txt that are miss
   (TESTS_OF_TOOLS and tools/must_fail_test.py)
 - proofs, from scratch: every crate and its tests are proved, and every wrong implementation in crates/*/must-fail is refused
 - tests and programs
+- worked examples: the patches of docs/maintain/CHANGING.md apply, build, and do what they say (tools/changes.py)
 - calls of the program: each status (tools/calls.py), the commands that pages of docs/ show (tools/pages.py), the suite of
   examples/bottling, whole and broken (tools/bottling_suite.py), the warnings about mistakes in copies of the examples
   (tools/slips.py), ./simulate (tools/launcher.py), the packages (tools/packages.py),
@@ -245,7 +246,12 @@ def call_after_each_run():
             is_well = run(crate, tests, ending)
             if is_well and not tests and crate.name == calls.PROGRAM:
                 made = f"{crate.folder}/out/{crate.name}{ending}"
-                return calls.make_all(made) and (bool(ending) or all([*tries(made)]))
+                if ending:
+                    return calls.make_all(made)
+                # (not beside the proofs: both need much memory)
+                examples = Beside(f"{TOP}/tools/changes.py")
+                is_well = calls.make_all(made) and all([*tries(made)])
+                return not examples.has_failed() and is_well
             if is_well and tests and not ending:
                 return refuse.try_tests(crate.name, f"{crate.folder}/out/{crate.name}_tests")
             return is_well
