@@ -3,10 +3,12 @@
 
 The libraries are those of the kit that crates.txt names for the program and the crates below it, and all that these need in turn. For
 each, NOTICE has the licence files in its folder of the kit, and which licence each of them is. It also names kits, by what `rt version`
-prints: their logic must be that of the kit here. With --write this writes NOTICE, with the name of the kit here too. ./gate runs it."""
+prints: their logic must be that of the kit here. The Python package has copies of LICENSE and NOTICE, since the kit's `rt ci` takes no
+links. With --write this writes NOTICE, with the name of the kit here too, and the copies. ./gate runs it."""
 
 import os
 import re
+import shutil
 import sys
 
 from kit import TOP, crates_as_built, rtlib
@@ -82,8 +84,19 @@ def notice(names, logic):
     return HEAD.format(kits=" or ".join(sorted({*names})), logic=logic) + "\n".join([heading, *rows()]) + "\n" + TAIL
 
 
+def copies():
+    """Returns the files of the top that the Python package has too, each with its copy."""
+    return [(f"{TOP}/{it}", f"{TOP}/python/{it}") for it in ("LICENSE", "NOTICE")]
+
+
+def is_equal(path, copy):
+    """Returns whether a file is there with the same bytes as another."""
+    with open(path, "rb") as first, open(copy, "rb") as second:
+        return first.read() == second.read()
+
+
 def main(words=()):
-    """Compares NOTICE, or writes it, and returns the status."""
+    """Compares NOTICE and the copies, or writes them, and returns the status."""
     with open(NOTICE, encoding="utf-8") as it:
         known = it.read()
     name, logic = logic_of_kit()
@@ -91,9 +104,11 @@ def main(words=()):
     if [*words] == ["--write"]:
         with open(NOTICE, "w", encoding="utf-8") as it:
             it.write(notice([*names, name], logic))
+        for path, copy in copies():
+            shutil.copyfile(path, copy)
         return 0
     # (a further kit of the same logic is as good)
-    is_same = known == notice(names or [name], logic)
+    is_same = known == notice(names or [name], logic) and all(is_equal(*it) for it in copies())
     print("notice: NOTICE names each library of the program with its licence" if is_same else "notice: NOTICE is not up to date: tools/notice.py --write")
     return int(not is_same)
 
